@@ -1,3 +1,9 @@
+pub mod BaseValue
+pub mod Conversion
+pub mod Decimal
 pub mod Item
 pub mod NameLength
 pub mod NameRule
+pub mod Reference
+pub mod TextBound
+pub mod ValueText

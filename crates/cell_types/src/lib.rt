@@ -9,18 +9,27 @@
 //! Read first: value.rt, then column_type.rt and sequence.rt.
 #![tactic(auto)]
 
+mod bounded_text;
 mod cell;
 mod column_type;
+mod conversion;
+mod decimal;
 mod name;
+mod reference;
 mod same;
 mod sequence;
 mod text;
 mod value;
+mod value_text;
 
+pub use bounded_text::MAX_TEXT_BYTES;
 pub use cell::{CellId, CellIdList, CellOld, CellOldList, KeyItem, KeyList, Read, ReadList};
 pub use column_type::ColType;
+pub use conversion::{convert, copy_of, default_of};
+pub use decimal::decimal_value;
 pub use name::{Name, NameList};
 pub use same::Same;
 pub use sequence::Sequence;
 pub use text::{CellText, TextList};
 pub use value::{CellItem, CellList, CellValue, ErrKind, RowList, RowRef, RowSet, ValueList};
+pub use value_text::text_of;

@@ -10,6 +10,7 @@
 mod action;
 mod column;
 mod entry;
+pub mod laws;
 mod limit;
 mod request;
 mod user;

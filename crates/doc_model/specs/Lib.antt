@@ -1,0 +1,9 @@
+pub mod Rows
+pub mod ByIds
+pub mod Grid
+pub mod Records
+pub mod Same
+pub mod ViewEdits
+pub mod Changes
+pub mod Patch
+pub mod ViewLaws

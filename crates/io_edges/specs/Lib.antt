@@ -1,0 +1,7 @@
+pub mod Causes
+pub mod Memory
+pub mod Sending
+pub mod Lines
+pub mod Laws
+pub mod Reading
+pub mod NextLine

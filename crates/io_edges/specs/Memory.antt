@@ -1,0 +1,25 @@
+-- What the sources and sinks in memory tell.
+use Rattle.std.specs.Prelude.{ℕ, List, drop}
+use Rattle.io_edges.specs.declared.memory_source.MemSource.{MemSource}
+use Rattle.io_edges.specs.declared.memory_source.SureSource.{SureSource}
+use Rattle.io_edges.specs.declared.memory_sink.MemSink.{MemSink}
+
+-- the bytes that reads will give
+abbrev pub left_of : MemSource → List ℕ
+left_of s = drop s.at s.bytes.items
+
+-- how often the source has failed
+abbrev pub read_faults : MemSource → ℕ
+read_faults s = s.faults
+
+-- the bytes that reads of a source that never fails will give
+abbrev pub sure_left_of : SureSource → List ℕ
+sure_left_of s = drop s.at s.bytes.items
+
+-- the bytes that were written
+abbrev pub written_of : MemSink → List ℕ
+written_of s = s.bytes.items
+
+-- how often the sink has failed
+abbrev pub write_faults : MemSink → ℕ
+write_faults s = s.faults

@@ -1,0 +1,38 @@
+//! The outside of the engine: sources, sinks, and the lines between them.
+//!
+//! Stands on std alone. Used by every crate that reads or writes bytes.
+//!
+//! Promises: a source and a sink are seen as the bytes that they have left or hold and as a count of
+//! faults; a call fails only where that count rose in it, and then no told byte has moved. `LineReader`
+//! gives the lines of a source in bounded memory, and says after each answer which bytes came.
+//! `write_all` and `Outbox` write in order, and after a fault what was written is a front of it.
+//! Not promised: what a real stream gives or takes. `StdSource` and `StdSink` tell counts alone.
+//! Read first: source.rt, then line_reader.rt.
+#![tactic(auto)]
+
+mod laws;
+mod line_parts;
+mod line_reader;
+mod memory_sink;
+mod memory_source;
+mod outbox;
+mod sink;
+mod source;
+mod standard;
+#[cfg(test)]
+mod tests;
+mod writing;
+
+pub use laws::{kept_law, stream_law};
+pub use line_reader::{LineReader, NextLine, ReadEnd};
+pub use memory_sink::{MemSink, SureSink};
+pub use memory_source::{MemSource, SureSource};
+pub use outbox::Outbox;
+pub use sink::Sink;
+pub use source::Source;
+pub use standard::{StdSink, StdSource};
+pub use writing::write_all;
+
+/// A call to the outside failed.
+#[derive(Clone, Copy, Debug, PartialEq, Eq)]
+pub struct Failed;

@@ -1,0 +1,97 @@
+//! Sinks in memory: one that fails at listed calls and where its room is spent, and one that never fails.
+ghost use Rattle.std.specs.Prelude.{◌≡◌, [], Some, None};
+
+use crate::{Failed, Sink};
+use std::alloc::{AllocError, Global};
+
+/// A sink in memory that fails at the listed calls, and where it has no room.
+#[derive(Drop)]
+pub struct MemSink {
+    bytes: Vec<u8>,
+    room: usize,
+    failing: Vec<u64>,
+    calls: u64,
+    faults: u64,
+}
+
+impl MemSink {
+    ghost use Rattle.std.specs.Prelude.{◌≡◌, [], IfOk};
+    ghost use Rattle.io_edges.specs.Memory.{written_of, write_faults};
+
+    /// Holds up to `room` bytes, and fails at the calls whose numbers are listed.
+    ///
+    /// Units: calls are numbered from 0, writes and flushes together.
+    /// Memory: takes its room here, and none later.
+    pub fn new(alloc: Global, room: usize, failing: Vec<u64>) -> Result<Self, AllocError>
+        ensures empty { IfOk result (λ s. written_of s ≡ []) }
+        ensures faults { IfOk result (λ s. write_faults s ≡ 0) }
+    {
+        Ok(MemSink {
+            bytes: Vec::with_capacity(alloc, room)?,
+            room,
+            failing,
+            calls: 0,
+            faults: 0,
+        })
+    }
+
+    /// What was written.
+    pub fn bytes(&self) -> &[u8]
+        ensures { result.now ≡ written_of self.now }
+    {
+        &self.bytes
+    }
+
+    // Counts a call, and says whether it is to fail.
+    fn is_failing(&mut self) -> bool
+        ensures bytes { written_of self.new ≡ written_of self.old }
+        ensures faults { write_faults self.new ≡ write_faults self.old }
+    {
+        let call = self.calls;
+        self.calls = self.calls.saturating_add(1);
+        self.failing.contains(&call)
+    }
+}
+
+impl Sink for MemSink {
+    ghost written = { λ s. Some s.bytes.items };
+
+    ghost faults = { λ s. s.faults };
+
+    fn write(&mut self, piece: &[u8]) -> Result<usize, Failed> {
+        let left = self.room.saturating_sub(self.bytes.len());
+        let count = left.min(piece.len());
+        let full = count == 0 && !piece.is_empty();
+        if self.is_failing() || full || self.bytes.extend_from_slice(&piece[..count]).is_err() {
+            self.faults = self.faults.saturating_add(1);
+            return Err(Failed);
+        }
+        Ok(count)
+    }
+
+    fn flush(&mut self) -> Result<(), Failed> {
+        if self.is_failing() {
+            self.faults = self.faults.saturating_add(1);
+            return Err(Failed);
+        }
+        Ok(())
+    }
+}
+
+/// A sink that never fails, keeps nothing of what it is given and tells none of it.
+#[derive(Drop)]
+pub struct SureSink;
+
+impl Sink for SureSink {
+    ghost written = { λ _. None };
+
+    ghost faults = { λ _. 0 };
+
+    fn write(&mut self, piece: &[u8]) -> Result<usize, Failed> {
+        Ok(piece.len())
+    }
+
+    fn flush(&mut self) -> Result<(), Failed> {
+        Ok(())
+    }
+}

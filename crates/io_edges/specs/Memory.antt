@@ -12,6 +12,14 @@ left_of s = drop s.at s.bytes.items
 abbrev pub read_faults : MemSource → ℕ
 read_faults s = s.faults
 
+-- how often the source was called
+abbrev pub read_calls : MemSource → ℕ
+read_calls s = s.calls
+
+-- the calls that are to fail
+abbrev pub failing_reads : MemSource → List ℕ
+failing_reads s = s.failing.items
+
 -- the bytes that reads of a source that never fails will give
 abbrev pub sure_left_of : SureSource → List ℕ
 sure_left_of s = drop s.at s.bytes.items
@@ -23,3 +31,15 @@ written_of s = s.bytes.items
 -- how often the sink has failed
 abbrev pub write_faults : MemSink → ℕ
 write_faults s = s.faults
+
+-- how often the sink was called
+abbrev pub write_calls : MemSink → ℕ
+write_calls s = s.calls
+
+-- the calls that are to fail
+abbrev pub failing_writes : MemSink → List ℕ
+failing_writes s = s.failing.items
+
+-- how many bytes the sink holds at most
+abbrev pub room_of : MemSink → ℕ
+room_of s = s.room

@@ -30,7 +30,7 @@ pub struct MemSource {
 }
 
 impl MemSource {
-    ghost use Rattle.io_edges.specs.Memory.{left_of, read_faults};
+    ghost use Rattle.io_edges.specs.Memory.{left_of, read_faults, read_calls, failing_reads};
 
     /// Gives these bytes, and fails at the calls whose numbers are listed.
     ///
@@ -38,6 +38,8 @@ impl MemSource {
     pub fn new(bytes: Vec<u8>, failing: Vec<u64>) -> Self
         ensures left { left_of result ≡ bytes.items }
         ensures faults { read_faults result ≡ 0 }
+        ensures calls { read_calls result ≡ 0 }
+        ensures failing { failing_reads result ≡ failing.items }
     {
         MemSource {
             bytes,
@@ -50,11 +52,24 @@ impl MemSource {
 }
 
 impl Source for MemSource {
+    ghost use Rattle.std.specs.Prelude.{◌≡◌, ◌↔◌, ◌+◌, ◌-◌, ◌^◌, min, drop, Some, IsErr, Contains};
+    ghost use Rattle.std.specs.Io.{ReadsAtMost};
+    ghost use Rattle.std.specs.Io.KnownBytes.{ReadConsumes};
+    ghost use Rattle.io_edges.specs.Causes.{HasCause};
+    ghost use Rattle.io_edges.specs.Memory.{left_of, read_faults, read_calls, failing_reads};
+
     ghost left = { λ s. Some (drop s.at s.bytes.items) };
 
     ghost faults = { λ s. s.faults };
 
-    fn read(&mut self, buf: &mut [u8]) -> Result<usize, Failed> {
+    fn read(&mut self, buf: &mut [u8]) -> Result<usize, Failed>
+        ensures bound { ReadsAtMost result buf.new }
+        ensures bytes { ReadConsumes (Some (left_of self.old)) (Some (left_of self.new)) result buf.new }
+        ensures cause { HasCause (read_faults self.old) (read_faults self.new) result }
+        ensures listed { IsErr result ↔ Contains (failing_reads self.old) (read_calls self.old) }
+        ensures failing { failing_reads self.new ≡ failing_reads self.old }
+        ensures calls { read_calls self.new ≡ min (read_calls self.old + 1) (2 ^ 64 - 1) }
+    {
         let call = self.calls;
         self.calls = self.calls.saturating_add(1);
         if self.failing.contains(&call) {

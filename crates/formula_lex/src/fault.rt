@@ -1,0 +1,69 @@
+//! Why there are no tokens.
+
+use std::alloc::{AllocError, AllocFailed};
+use std::fmt;
+
+/// Why a text has no tokens.
+#[derive(Clone, Copy, Debug, PartialEq, Eq)]
+pub enum LexFault {
+    /// No list of tokens spells the text. The place is that of the character that ends the reading.
+    ///
+    /// Units: `at` counts bytes.
+    Bad { at: usize },
+    /// Memory is wanting.
+    NoMemory,
+}
+
+impl fmt::Display for LexFault {
+    fn fmt<W: fmt::Write>(&self, f: &mut fmt::Formatter<W>) -> fmt::Result {
+        match self {
+            LexFault::Bad { at } => write!(f, "no token at byte {at}"),
+            LexFault::NoMemory => write!(f, "out of memory"),
+        }
+    }
+}
+
+impl std::error::Error for LexFault {}
+
+impl From<AllocError> for LexFault {
+    ghost use Rattle.std.specs.Prelude.{◌≡◌};
+    ghost use Rattle.formula_lex.specs.declared.fault.LexFault.TheVariants.{NoMemory};
+
+    ghost from_gives = { λ _ made. made ≡ NoMemory };
+
+    fn from(error: AllocError) -> Self {
+        let _ = error;
+        LexFault::NoMemory
+    }
+}
+
+// What ends the reading at a character, whose place the loop knows.
+#[derive(Clone, Copy, Debug, PartialEq, Eq)]
+pub(crate) enum Stop {
+    Bad,
+    NoMemory,
+}
+
+impl From<AllocError> for Stop {
+    ghost use Rattle.std.specs.Prelude.{◌≡◌};
+    ghost use Rattle.formula_lex.specs.declared.fault.Stop.TheVariants.{NoMemory};
+
+    ghost from_gives = { λ _ made. made ≡ NoMemory };
+
+    fn from(error: AllocError) -> Self {
+        let _ = error;
+        Stop::NoMemory
+    }
+}
+
+impl<T: Drop> From<AllocFailed<T>> for Stop {
+    ghost use Rattle.std.specs.Prelude.{◌≡◌};
+    ghost use Rattle.formula_lex.specs.declared.fault.Stop.TheVariants.{NoMemory};
+
+    ghost from_gives = { λ _ made. made ≡ NoMemory };
+
+    fn from(error: AllocFailed<T>) -> Self {
+        let _ = error;
+        Stop::NoMemory
+    }
+}

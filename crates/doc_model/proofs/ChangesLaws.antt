@@ -15,7 +15,7 @@ use Rattle.doc_model.specs.Rows.{has, insert_rows, IsAscending}
 use Rattle.doc_model.specs.Grid.{Grid, grid_of, cell}
 use Rattle.doc_model.specs.Records.{or_else, given}
 use Rattle.doc_model.specs.ViewEdits.{shown_id, shown_start, IsShown, Edit, remove_column, add_column, modify_column, remove, add, update, all_edited, if_any, whole, edits}
-use Rattle.doc_model.specs.Changes.{table_id, grid, table, IsView, on_table, introduced, revised, for_each, changes}
+use Rattle.doc_model.specs.Changes.{shown_table_id, grid, table, IsView, on_table, introduced, revised, for_each, changes}
 use Rattle.doc_model.specs.Patch.{bare, edit_table, patched, patch}
 use Rattle.doc_model.proofs.Choices.{cond_true, cond_false, keep, each_filter, filter_none, or_false}
 use Rattle.doc_model.proofs.ByIdsLaws.{bytes_apart, found_id, found_all, find_low, find-place, find-without_id, IsByIds-place, IsByIds-filter, same_by_ids, has_id-find, find-filter, by_id_again, AreDistinct-IsByIds, each_found, has_found}
@@ -28,7 +28,7 @@ abbrev after : List ViewAction → List ViewTable → List ViewTable
 after cs v = patch v cs
 
 abbrev named : List ℕ → List ViewTable → Option ViewTable
-named c v = find_id table_id c v
+named c v = find_id shown_table_id c v
 
 abbrev with_edits : List Edit → ViewTable → ViewTable
 with_edits es s = table s.id (all_edited es (grid s))
@@ -118,14 +118,14 @@ named-introduced : (t : ViewTable) (v : List ViewTable) (c : List ℕ) → IsSho
 named-introduced t v c g =
     let es : List Edit = filling (grid t) t.rows in
     let t0 : ViewTable = table t.id (bare t.columns) in
-    named-edits t.id es (place table_id t0 v) c
-    ∙ ap (λ o. cond (bytes_eq t.id c) (option_map (with_edits es) o) o) (find-place table_id t0 v c)
+    named-edits t.id es (place shown_table_id t0 v) c
+    ∙ ap (λ o. cond (bytes_eq t.id c) (option_map (with_edits es) o) o) (find-place shown_table_id t0 v c)
     ∙ elim (bytes_eq t.id c) as (λ b. cond b (option_map (with_edits es) (cond b (Some t0) (named c v))) (cond b (Some t0) (named c v)) ≡ cond b (Some t) (named c v)) [
       | true ↦ ap (λ (g : Grid ViewCol). let x : Option ViewTable = Some (table t.id g) in x) (ap (all_edited es) (bare_empty (grid t) g) ∙ filled_new (grid t) t.rows refl g)
       | false ↦ refl
     ]
 
-named-all_introduced : (ts : List ViewTable) (v : List ViewTable) (c : List ℕ) → IsByIds table_id ts → AllByRecursion (λ t. IsShown (grid t)) ts
+named-all_introduced : (ts : List ViewTable) (v : List ViewTable) (c : List ℕ) → IsByIds shown_table_id ts → AllByRecursion (λ t. IsShown (grid t)) ts
     → named c (after (for_each introduced ts) v) ≡ or_else (named c ts) (named c v)
 named-all_introduced [] v c s g = refl
 named-all_introduced (t ∷ ts) v c s g =
@@ -133,17 +133,17 @@ named-all_introduced (t ∷ ts) v c s g =
     ∙ named-all_introduced ts (after (introduced t) v) c s.1 g.1
     ∙ ap (or_else (named c ts)) (named-introduced t v c g.0)
     ∙ elim (bytes_eq t.id c) as (λ b. bytes_eq t.id c ≡ b → or_else (named c ts) (cond b (Some t) (named c v)) ≡ or_else (cond b (Some t) (named c ts)) (named c v)) [
-      | true ↦ λ is. ap (λ o. or_else o (Some t)) (find_low table_id c ts (subst (λ e. AllByRecursion (λ y. precedes e (table_id y) ≡ true) ts) ((bytes_eq-Decides t.id c).0 is) s.0))
+      | true ↦ λ is. ap (λ o. or_else o (Some t)) (find_low shown_table_id c ts (subst (λ e. AllByRecursion (λ y. precedes e (shown_table_id y) ≡ true) ts) ((bytes_eq-Decides t.id c).0 is) s.0))
       | false ↦ λ _. refl
     ] refl
 
-named-removed : (ts : List ViewTable) (v : List ViewTable) (c : List ℕ) → named c (after (map (λ (s : ViewTable). RemoveTable s.id) ts) v) ≡ cond (has_id table_id ts c) None (named c v)
+named-removed : (ts : List ViewTable) (v : List ViewTable) (c : List ℕ) → named c (after (map (λ (s : ViewTable). RemoveTable s.id) ts) v) ≡ cond (has_id shown_table_id ts c) None (named c v)
 named-removed [] v c = refl
 named-removed (t ∷ ts) v c =
     named-removed ts (patched (RemoveTable t.id) v) c
-    ∙ ap (λ o. cond (has_id table_id ts c) None o) (find-without_id table_id t.id v c)
-    ∙ elim (bytes_eq t.id c) as (λ b. cond (has_id table_id ts c) None (cond b None (named c v)) ≡ cond (b || has_id table_id ts c) None (named c v)) [
-      | true ↦ elim (has_id table_id ts c) as (λ b. ◌≡◌ {A = Option ViewTable} (cond b None None) None) [ true ↦ refl | false ↦ refl ]
+    ∙ ap (λ o. cond (has_id shown_table_id ts c) None o) (find-without_id shown_table_id t.id v c)
+    ∙ elim (bytes_eq t.id c) as (λ b. cond (has_id shown_table_id ts c) None (cond b None (named c v)) ≡ cond (b || has_id shown_table_id ts c) None (named c v)) [
+      | true ↦ elim (has_id shown_table_id ts c) as (λ b. ◌≡◌ {A = Option ViewTable} (cond b None None) None) [ true ↦ refl | false ↦ refl ]
       | false ↦ refl
     ]
 
@@ -151,18 +151,18 @@ named-removed (t ∷ ts) v c =
 same_id : (t : List ℕ) (e : Edit) (s : ViewTable) → (cond (bytes_eq s.id t) (with_edits (e ∷ []) s) s).id ≡ s.id
 same_id t e s = elim (bytes_eq s.id t) as (λ b. (cond b (with_edits (e ∷ []) s) s).id ≡ s.id) [ true ↦ refl | false ↦ refl ]
 
-below_edited : (t : List ℕ) (e : Edit) (n : List ℕ) (v : List ViewTable) → AllByRecursion (λ y. precedes n (table_id y) ≡ true) v → AllByRecursion (λ y. precedes n (table_id y) ≡ true) (edit_table t e v)
+below_edited : (t : List ℕ) (e : Edit) (n : List ℕ) (v : List ViewTable) → AllByRecursion (λ y. precedes n (shown_table_id y) ≡ true) v → AllByRecursion (λ y. precedes n (shown_table_id y) ≡ true) (edit_table t e v)
 below_edited t e n [] h = tt
 below_edited t e n (s ∷ v) h = (ap (precedes n) (same_id t e s) ∙ h.0, below_edited t e n v h.1)
 
-IsByIds-edited : (t : List ℕ) (e : Edit) (v : List ViewTable) → IsByIds table_id v → IsByIds table_id (edit_table t e v)
+IsByIds-edited : (t : List ℕ) (e : Edit) (v : List ViewTable) → IsByIds shown_table_id v → IsByIds shown_table_id (edit_table t e v)
 IsByIds-edited t e [] h = tt
 IsByIds-edited t e (s ∷ v) h =
-    (subst (λ n. AllByRecursion (λ y. precedes n (table_id y) ≡ true) (edit_table t e v)) (sym (same_id t e s)) (below_edited t e s.id v h.0), IsByIds-edited t e v h.1)
+    (subst (λ n. AllByRecursion (λ y. precedes n (shown_table_id y) ≡ true) (edit_table t e v)) (sym (same_id t e s)) (below_edited t e s.id v h.0), IsByIds-edited t e v h.1)
 
-IsByIds-patched : (c : ViewAction) (v : List ViewTable) → IsByIds table_id v → IsByIds table_id (patched c v)
-IsByIds-patched (AddTable t cs) v h = IsByIds-place table_id (table t (bare cs)) v h
-IsByIds-patched (RemoveTable t) v h = IsByIds-filter table_id (λ s. not (bytes_eq (table_id s) t)) v h
+IsByIds-patched : (c : ViewAction) (v : List ViewTable) → IsByIds shown_table_id v → IsByIds shown_table_id (patched c v)
+IsByIds-patched (AddTable t cs) v h = IsByIds-place shown_table_id (table t (bare cs)) v h
+IsByIds-patched (RemoveTable t) v h = IsByIds-filter shown_table_id (λ s. not (bytes_eq (shown_table_id s) t)) v h
 IsByIds-patched (AddColumn t d) v h = IsByIds-edited t (add_column d) v h
 IsByIds-patched (RemoveColumn t c) v h = IsByIds-edited t (remove_column c) v h
 IsByIds-patched (ModifyColumn t d) v h = IsByIds-edited t (modify_column d) v h
@@ -170,7 +170,7 @@ IsByIds-patched (BulkAdd t rows ks) v h = IsByIds-edited t (add rows ks) v h
 IsByIds-patched (BulkUpdate t rows ks) v h = IsByIds-edited t (update rows ks) v h
 IsByIds-patched (BulkRemove t rows) v h = IsByIds-edited t (remove rows) v h
 
-pub IsByIds-after : (cs : List ViewAction) (v : List ViewTable) → IsByIds table_id v → IsByIds table_id (after cs v)
+pub IsByIds-after : (cs : List ViewAction) (v : List ViewTable) → IsByIds shown_table_id v → IsByIds shown_table_id (after cs v)
 IsByIds-after [] v h = h
 IsByIds-after (c ∷ cs) v h = IsByIds-after cs (patched c v) (IsByIds-patched c v h)
 
@@ -193,7 +193,7 @@ abbrev renewal : List ViewTable → Option ViewTable → Option ViewTable → Op
 renewal v None o = o
 renewal v (Some t) o = option_map (with_edits (renewed v t)) o
 
-named-renewed : (v0 ts v : List ViewTable) (c : List ℕ) → IsByIds table_id ts → named c (after (renew v0 ts) v) ≡ renewal v0 (named c ts) (named c v)
+named-renewed : (v0 ts v : List ViewTable) (c : List ℕ) → IsByIds shown_table_id ts → named c (after (renew v0 ts) v) ≡ renewal v0 (named c ts) (named c v)
 named-renewed v0 [] v c s = refl
 named-renewed v0 (t ∷ ts) v c s =
     let v1 : List ViewTable = after (map (on_table t.id) (renewed v0 t)) v in
@@ -201,37 +201,37 @@ named-renewed v0 (t ∷ ts) v c s =
     ∙ named-renewed v0 ts v1 c s.1
     ∙ ap (renewal v0 (named c ts)) (named-edits t.id (renewed v0 t) v c)
     ∙ elim (bytes_eq t.id c) as (λ b. bytes_eq t.id c ≡ b → renewal v0 (named c ts) (cond b (option_map (with_edits (renewed v0 t)) (named c v)) (named c v)) ≡ renewal v0 (cond b (Some t) (named c ts)) (named c v)) [
-      | true ↦ λ is. ap (λ o. renewal v0 o (option_map (with_edits (renewed v0 t)) (named c v))) (find_low table_id c ts (subst (λ e. AllByRecursion (λ y. precedes e (table_id y) ≡ true) ts) ((bytes_eq-Decides t.id c).0 is) s.0))
+      | true ↦ λ is. ap (λ o. renewal v0 o (option_map (with_edits (renewed v0 t)) (named c v))) (find_low shown_table_id c ts (subst (λ e. AllByRecursion (λ y. precedes e (shown_table_id y) ≡ true) ts) ((bytes_eq-Decides t.id c).0 is) s.0))
       | false ↦ λ _. refl
     ] refl
 
 abbrev is_new : List ViewTable → ViewTable → Bool
-is_new v t = not (has_id table_id v (table_id t))
+is_new v t = not (has_id shown_table_id v (shown_table_id t))
 
 -- by what a name finds in the two views
 settled : (v w : List ViewTable) (c : List ℕ) (G W : Option ViewTable) → named c v ≡ G → named c w ≡ W → AllByRecursion (λ t. IsShown (grid t)) v → AllByRecursion (λ t. IsShown (grid t)) w
     → renewal v W (or_else (keep (is_new v) W) (cond (is_some (keep (is_new w) G)) None G)) ≡ W
 settled v w c None None eg ew gv gw = refl
 settled v w c (Some s) None eg ew gv gw =
-    let lost : has_id table_id w s.id ≡ false = ap (has_id table_id w) (found_id table_id c v s eg) ∙ has_id-find table_id c w ∙ ap is_some ew in
+    let lost : has_id shown_table_id w s.id ≡ false = ap (has_id shown_table_id w) (found_id shown_table_id c v s eg) ∙ has_id-find shown_table_id c w ∙ ap is_some ew in
     ap (λ b. cond (is_some (cond (not b) (Some s) None)) None (Some s)) lost
 settled v w c None (Some t) eg ew gv gw =
-    let name : t.id ≡ c = found_id table_id c w t ew in
-    let fresh : has_id table_id v t.id ≡ false = ap (has_id table_id v) name ∙ has_id-find table_id c v ∙ ap is_some eg in
+    let name : t.id ≡ c = found_id shown_table_id c w t ew in
+    let fresh : has_id shown_table_id v t.id ≡ false = ap (has_id shown_table_id v) name ∙ has_id-find shown_table_id c v ∙ ap is_some eg in
     let nothing : named t.id v ≡ None = ap (λ n. named n v) name ∙ eg in
-    ap (λ o. option_map (with_edits (edits_of o t)) (or_else (cond (not (has_id table_id v t.id)) (Some t) None) None)) nothing
+    ap (λ o. option_map (with_edits (edits_of o t)) (or_else (cond (not (has_id shown_table_id v t.id)) (Some t) None) None)) nothing
     ∙ ap (λ b. option_map (with_edits []) (or_else (cond (not b) (Some t) None) None)) fresh
 settled v w c (Some s) (Some t) eg ew gv gw =
-    let name : t.id ≡ c = found_id table_id c w t ew in
-    let old_name : s.id ≡ c = found_id table_id c v s eg in
-    let there : has_id table_id v t.id ≡ true = ap (has_id table_id v) name ∙ has_id-find table_id c v ∙ ap is_some eg in
-    let stays : has_id table_id w s.id ≡ true = ap (has_id table_id w) old_name ∙ has_id-find table_id c w ∙ ap is_some ew in
+    let name : t.id ≡ c = found_id shown_table_id c w t ew in
+    let old_name : s.id ≡ c = found_id shown_table_id c v s eg in
+    let there : has_id shown_table_id v t.id ≡ true = ap (has_id shown_table_id v) name ∙ has_id-find shown_table_id c v ∙ ap is_some eg in
+    let stays : has_id shown_table_id w s.id ≡ true = ap (has_id shown_table_id w) old_name ∙ has_id-find shown_table_id c w ∙ ap is_some ew in
     let old : named t.id v ≡ Some s = ap (λ n. named n v) name ∙ eg in
-    ap (λ o. option_map (with_edits (edits_of o t)) (or_else (cond (not (has_id table_id v t.id)) (Some t) None) (cond (is_some (cond (not (has_id table_id w s.id)) (Some s) None)) None (Some s)))) old
-    ∙ ap (λ b. option_map (with_edits (edits (grid s) (grid t))) (or_else (cond (not b) (Some t) None) (cond (is_some (cond (not (has_id table_id w s.id)) (Some s) None)) None (Some s)))) there
+    ap (λ o. option_map (with_edits (edits_of o t)) (or_else (cond (not (has_id shown_table_id v t.id)) (Some t) None) (cond (is_some (cond (not (has_id shown_table_id w s.id)) (Some s) None)) None (Some s)))) old
+    ∙ ap (λ b. option_map (with_edits (edits (grid s) (grid t))) (or_else (cond (not b) (Some t) None) (cond (is_some (cond (not (has_id shown_table_id w s.id)) (Some s) None)) None (Some s)))) there
     ∙ ap (λ b. option_map (with_edits (edits (grid s) (grid t))) (cond (is_some (cond (not b) (Some s) None)) None (Some s))) stays
     ∙ ap (λ (g : Grid ViewCol). let x : Option ViewTable = Some (table s.id g) in x)
-    (after-edits (grid s) (grid t) (found_all table_id (λ t. IsShown (grid t)) c v s gv eg) (found_all table_id (λ t. IsShown (grid t)) c w t gw ew))
+    (after-edits (grid s) (grid t) (found_all shown_table_id (λ t. IsShown (grid t)) c v s gv eg) (found_all shown_table_id (λ t. IsShown (grid t)) c w t gw ew))
     ∙ ap (λ n. let x : Option ViewTable = Some (table n (grid t)) in x) (old_name ∙ sym name)
 
 -- the changes lead from v to w
@@ -241,19 +241,19 @@ patch-changes v w iv iw =
     let new : List ViewTable = filter (is_new v) w in
     let cuts : List ViewAction = map (λ (s : ViewTable). RemoveTable s.id) gone in
     let news : List ViewAction = for_each introduced new in
-    same_by_ids table_id (after (cuts ++ news ++ renew v w) v) w (IsByIds-after (cuts ++ news ++ renew v w) v iv.by_ids) iw.by_ids (λ c.
+    same_by_ids shown_table_id (after (cuts ++ news ++ renew v w) v) w (IsByIds-after (cuts ++ news ++ renew v w) v iv.by_ids) iw.by_ids (λ c.
     ap (named c) (after-append (cuts ++ news) (renew v w) v ∙ ap (after (renew v w)) (after-append cuts news v))
     ∙ named-renewed v w (after news (after cuts v)) c iw.by_ids
     ∙ ap (renewal v (named c w))
-    (named-all_introduced new (after cuts v) c (IsByIds-filter table_id (is_new v) w iw.by_ids) (each_filter (λ t. IsShown (grid t)) (is_new v) w iw.tables)
+    (named-all_introduced new (after cuts v) c (IsByIds-filter shown_table_id (is_new v) w iw.by_ids) (each_filter (λ t. IsShown (grid t)) (is_new v) w iw.tables)
     ∙ ap (or_else (named c new)) (named-removed gone v c)
-    ∙ ap (λ o. or_else o (cond (has_id table_id gone c) None (named c v))) (find-filter table_id (is_new v) c w iw.by_ids)
-    ∙ ap (λ b. or_else (keep (is_new v) (named c w)) (cond b None (named c v))) (has_id-find table_id c gone ∙ ap is_some (find-filter table_id (is_new w) c v iv.by_ids)))
+    ∙ ap (λ o. or_else o (cond (has_id shown_table_id gone c) None (named c v))) (find-filter shown_table_id (is_new v) c w iw.by_ids)
+    ∙ ap (λ b. or_else (keep (is_new v) (named c w)) (cond b None (named c v))) (has_id-find shown_table_id c gone ∙ ap is_some (find-filter shown_table_id (is_new w) c v iv.by_ids)))
     ∙ settled v w c (named c v) (named c w) refl refl iv.tables iw.tables)
 
 -- each table of a view is there
 none_new : (v : List ViewTable) → IsView v → AllByRecursion (λ t. is_new v t ≡ false) v
-none_new v iv = each_found table_id (λ t. is_new v t ≡ false) v (AreDistinct-IsByIds table_id v iv.by_ids) (λ t found. ap not (has_found table_id t.id v t found))
+none_new v iv = each_found shown_table_id (λ t. is_new v t ≡ false) v (AreDistinct-IsByIds shown_table_id v iv.by_ids) (λ t found. ap not (has_found shown_table_id t.id v t found))
 
 no_revision : (v ts : List ViewTable) → AllByRecursion (λ t. revised v t ≡ []) ts → for_each (revised v) ts ≡ []
 no_revision v [] h = refl
@@ -263,10 +263,10 @@ no_revision v (t ∷ ts) h = ap (λ cs. cs ++ for_each (revised v) ts) h.0 ∙ n
 pub changes_none : (v : List ViewTable) → IsView v → changes v v ≡ []
 changes_none v iv =
     ap (λ ts. map (λ (s : ViewTable). RemoveTable s.id) ts ++ for_each introduced ts ++ for_each (revised v) v) (filter_none (is_new v) v (none_new v iv))
-    ∙ no_revision v v (each_found table_id (λ t. revised v t ≡ []) v (AreDistinct-IsByIds table_id v iv.by_ids) (λ t found.
+    ∙ no_revision v v (each_found shown_table_id (λ t. revised v t ≡ []) v (AreDistinct-IsByIds shown_table_id v iv.by_ids) (λ t found.
     revised-renewed v t
     ∙ ap (λ o. map (on_table t.id) (edits_of o t)) found
-    ∙ ap (map (on_table t.id)) (edits_again (grid t) (found_all table_id (λ t. IsShown (grid t)) t.id v t iv.tables found))))
+    ∙ ap (map (on_table t.id)) (edits_again (grid t) (found_all shown_table_id (λ t. IsShown (grid t)) t.id v t iv.tables found))))
 
 -- the list of changes is empty exactly where the views are equal
 pub changes_empty : (v w : List ViewTable) → IsView v → IsView w → changes v w ≡ [] → v ≡ w

@@ -6,3 +6,4 @@ pub mod RecordsLaws
 pub mod SameLaws
 pub mod ViewEditsLaws
 pub mod ChangesLaws
+pub mod ByRowLaws

@@ -1,5 +1,5 @@
 -- Lists of things with ids: look-ups, and the order by the bytes of the ids.
-use Rattle.std.specs.Prelude.{ℕ, Bool, true, false, cond, not, ◌&&◌, List, [], ◌∷◌, filter, find, ◌≡◌, ⊤, Option}
+use Rattle.std.specs.Prelude.{ℕ, Bool, true, false, cond, not, ◌&&◌, List, [], ◌∷◌, map, filter, find, ◌≡◌, ⊤, Option}
 use Rattle.std.specs.List.{list_any, AllByRecursion}
 use Rattle.std.specs.Str.{bytes_eq}
 use Rattle.std.specs.Ordering.{nat_cmp, is_lt}
@@ -37,12 +37,17 @@ module _ {X : Type 0} (id : X → List ℕ) where
   abbrev pub place : X → List X → List X
   place x [] = x ∷ []
   place x (y ∷ ys) =
-      cond (precedes (id x) (id y)) (x ∷ y ∷ ys) (cond (bytes_eq (id x) (id y)) (x ∷ ys) (y ∷ place x ys))
+      cond (precedes (id x) (id y)) (x ∷ y ∷ ys)
+        (cond (bytes_eq (id x) (id y)) (x ∷ ys) (y ∷ place x ys))
 
   -- the things in the order of their ids
   abbrev pub by_id : List X → List X
   by_id [] = []
   by_id (x ∷ xs) = place x (by_id xs)
+
+  -- the things with this id changed
+  abbrev pub with_id : List ℕ → (X → X) → List X → List X
+  with_id c f xs = map (λ x. cond (bytes_eq (id x) c) (f x) x) xs
 
   -- those with another id
   abbrev pub without_id : List ℕ → List X → List X

@@ -9,8 +9,8 @@ use Rattle.doc_model.specs.ByIds.{find_id, has_id, IsByIds}
 use Rattle.doc_model.specs.Grid.{Grid}
 use Rattle.doc_model.specs.ViewEdits.{IsShown, Edit, remove_column, add_column, modify_column, remove, add, update, if_any, whole, edits}
 
-abbrev pub table_id : ViewTable → List ℕ
-table_id t = t.id
+abbrev pub shown_table_id : ViewTable → List ℕ
+shown_table_id t = t.id
 
 -- the columns, rows and cells of a table
 abbrev pub grid : ViewTable → Grid ViewCol
@@ -22,7 +22,7 @@ table id g = record { id = id; columns = g.columns; rows = g.rows; cells = g.cel
 
 -- a view: its tables stand by id
 pub record IsView (v : List ViewTable) : Type 0 where
-  pub by_ids : IsByIds table_id v
+  pub by_ids : IsByIds shown_table_id v
   pub tables : AllByRecursion (λ t. IsShown (grid t)) v
 
 -- the edit as an action on the table of this id
@@ -43,7 +43,7 @@ introduced t =
 -- the changes of a table that is there in both views
 abbrev pub revised : List ViewTable → ViewTable → List ViewAction
 revised v t =
-    elim (find_id table_id t.id v) [
+    elim (find_id shown_table_id t.id v) [
       | None ↦ []
       | Some s ↦ map (on_table t.id) (edits (grid s) (grid t))
     ]
@@ -56,6 +56,6 @@ for_each f (x ∷ xs) = f x ++ for_each f xs
 -- the changes that lead from v to w: tables that are gone, new tables, and then the others
 abbrev pub changes : List ViewTable → List ViewTable → List ViewAction
 changes v w =
-    map (λ (s : ViewTable). RemoveTable s.id) (filter (λ s. not (has_id table_id w s.id)) v)
-    ++ for_each introduced (filter (λ t. not (has_id table_id v t.id)) w)
+    map (λ (s : ViewTable). RemoveTable s.id) (filter (λ s. not (has_id shown_table_id w s.id)) v)
+    ++ for_each introduced (filter (λ t. not (has_id shown_table_id v t.id)) w)
     ++ for_each (revised v) w

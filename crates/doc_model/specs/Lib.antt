@@ -2,6 +2,16 @@ pub mod Rows
 pub mod ByIds
 pub mod Grid
 pub mod Records
+pub mod MetadataIds
+pub mod Column
+pub mod Document
+pub mod Schema
+pub mod Sound
+pub mod NewDocument
+pub mod Valid
+pub mod Apply
+pub mod Inverse
+pub mod DocumentLaws
 pub mod Same
 pub mod ViewEdits
 pub mod Changes

@@ -8,12 +8,12 @@ use Rattle.doc_model.specs.declared.view.ViewCol.{ViewCol}
 use Rattle.doc_model.specs.declared.view.ViewTable.{ViewTable}
 use Rattle.doc_model.specs.declared.view.ViewAction.{ViewAction}
 use Rattle.doc_model.specs.declared.view.ViewAction.TheVariants.{AddTable, RemoveTable, AddColumn, RemoveColumn, ModifyColumn, BulkAdd, BulkUpdate, BulkRemove}
-use Rattle.doc_model.specs.ByIds.{find_id, has_id, are_distinct, place, by_id, without_id}
+use Rattle.doc_model.specs.ByIds.{find_id, has_id, are_distinct, place, by_id, with_id, without_id}
 use Rattle.doc_model.specs.Rows.{is_once, all_in, none_in}
 use Rattle.doc_model.specs.Grid.{Grid}
 use Rattle.doc_model.specs.Records.{given_id}
 use Rattle.doc_model.specs.ViewEdits.{shown_id, Edit, remove_column, add_column, modify_column, remove, add, update, edited}
-use Rattle.doc_model.specs.Changes.{table_id, grid, table}
+use Rattle.doc_model.specs.Changes.{shown_table_id, grid, table}
 
 -- the table without rows
 abbrev pub bare : List ViewCol → Grid ViewCol
@@ -21,12 +21,12 @@ bare columns = record { columns = by_id shown_id columns; rows = []; cells = [] 
 
 -- the view with its table of this id edited
 abbrev pub edit_table : List ℕ → Edit → List ViewTable → List ViewTable
-edit_table t e v = map (λ (s : ViewTable). cond (bytes_eq s.id t) (table s.id (edited e (grid s))) s) v
+edit_table t e v = with_id shown_table_id t (λ s. table s.id (edited e (grid s))) v
 
 -- the view after an action
 abbrev pub patched : ViewAction → List ViewTable → List ViewTable
-patched (AddTable t columns) v = place table_id (table t (bare columns)) v
-patched (RemoveTable t) v = without_id table_id t v
+patched (AddTable t columns) v = place shown_table_id (table t (bare columns)) v
+patched (RemoveTable t) v = without_id shown_table_id t v
 patched (AddColumn t d) v = edit_table t (add_column d) v
 patched (RemoveColumn t c) v = edit_table t (remove_column c) v
 patched (ModifyColumn t d) v = edit_table t (modify_column d) v
@@ -53,12 +53,12 @@ edit_fits (update rows ks) g =
 
 -- whether the table of this id is there and the edit fits it
 abbrev pub fits_table : List ℕ → Edit → List ViewTable → Bool
-fits_table t e v = elim (find_id table_id t v) [ None ↦ false | Some s ↦ edit_fits e (grid s) ]
+fits_table t e v = elim (find_id shown_table_id t v) [ None ↦ false | Some s ↦ edit_fits e (grid s) ]
 
 -- whether an action names what is there and adds what is not
 abbrev pub fits : ViewAction → List ViewTable → Bool
-fits (AddTable t columns) v = not (has_id table_id v t) && are_distinct shown_id columns
-fits (RemoveTable t) v = has_id table_id v t
+fits (AddTable t columns) v = not (has_id shown_table_id v t) && are_distinct shown_id columns
+fits (RemoveTable t) v = has_id shown_table_id v t
 fits (AddColumn t d) v = fits_table t (add_column d) v
 fits (RemoveColumn t c) v = fits_table t (remove_column c) v
 fits (ModifyColumn t d) v = fits_table t (modify_column d) v
@@ -69,4 +69,5 @@ fits (BulkRemove t rows) v = fits_table t (remove rows) v
 -- the place, from 0, of the first action that does not fit where it stands
 abbrev pub unfit_at : List ViewTable → List ViewAction → Option ℕ
 unfit_at v [] = None
-unfit_at v (a ∷ as') = cond (fits a v) (option_map (λ place. place + 1) (unfit_at (patched a v) as')) (Some 0)
+unfit_at v (a ∷ as') =
+    cond (fits a v) (option_map (λ place. place + 1) (unfit_at (patched a v) as')) (Some 0)

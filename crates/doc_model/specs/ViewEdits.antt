@@ -1,12 +1,10 @@
 -- The edits of one table of a view, and those that lead from one state of it to another.
 use Rattle.std.specs.Prelude.{ℕ, pos, Bool, false, cond, not, List, [], ◌∷◌, ◌++◌, map, filter, Some, None}
 use Rattle.std.specs.Str.{bytes_eq}
-use Rattle.cell_types.specs.declared.column_type.ColType.{ColType}
-use Rattle.cell_types.specs.declared.column_type.ColType.TheVariants as type
 use Rattle.cell_types.specs.declared.value.CellValue.{CellValue}
-use Rattle.cell_types.specs.declared.value.CellValue.TheVariants as value
 use Rattle.doc_model.specs.declared.column.CellColumn.{CellColumn}
 use Rattle.doc_model.specs.declared.view.ViewCol.{ViewCol}
+use Rattle.doc_model.specs.Column.{default_of}
 use Rattle.doc_model.specs.ByIds.{IsByIds, find_id, has_id, place, without_id}
 use Rattle.doc_model.specs.Rows.{without}
 use Rattle.doc_model.specs.Grid.{Grid, grid_of, cell, IsGrid}
@@ -15,16 +13,6 @@ use Rattle.doc_model.specs.Same.{same_value, same_column}
 
 abbrev pub shown_id : ViewCol → List ℕ
 shown_id d = d.id
-
--- the default of a type
-abbrev pub default_of : ColType → CellValue
-default_of type.Any = value.Null
-default_of type.Text = value.Text []
-default_of type.Int = value.Int (pos 0)
-default_of type.Bool = value.Bool false
-default_of type.Date = value.Null
-default_of (type.Ref t) = value.Int (pos 0)
-default_of (type.RefList t) = value.Null
 
 -- what a new cell of a shown column holds, a formula column's too
 abbrev pub shown_start : ViewCol → CellValue
@@ -78,11 +66,13 @@ differs columns d = elim (find_id shown_id d.id columns) [ None ↦ false | Some
 -- columns removed, added and modified, and then rows removed and added
 abbrev pub shape_edits : Grid ViewCol → Grid ViewCol → List Edit
 shape_edits g w =
-    map (λ (d : ViewCol). remove_column d.id) (filter (λ d. not (has_id shown_id w.columns d.id)) g.columns)
+    map (λ (d : ViewCol). remove_column d.id)
+      (filter (λ d. not (has_id shown_id w.columns d.id)) g.columns)
     ++ map add_column (filter (λ d. not (has_id shown_id g.columns d.id)) w.columns)
     ++ map modify_column (filter (differs g.columns) w.columns)
     ++ if_any (without w.rows g.rows) (remove (without w.rows g.rows))
-    ++ if_any (without g.rows w.rows) (add (without g.rows w.rows) (whole w (without g.rows w.rows)))
+    ++ if_any (without g.rows w.rows)
+      (add (without g.rows w.rows) (whole w (without g.rows w.rows)))
 
 -- the rows in which a column's cells differ
 abbrev pub differing : Grid ViewCol → Grid ViewCol → ViewCol → List ℕ

@@ -1,5 +1,5 @@
 -- Choices by a truth value, and facts of each element of a list.
-use Rattle.std.proofs.Common.{Bool, true, false, cond, not, ◌||◌, List, [], ◌∷◌, map, filter, ◌≡◌, refl, ap, ◌∙◌, Option, Some, None, length, suc}
+use Rattle.std.proofs.Common.{Bool, true, false, cond, not, ◌||◌, ◌&&◌, List, [], ◌∷◌, map, filter, ◌≡◌, refl, ap, ◌∙◌, Option, Some, None, length, suc}
 use Rattle.std.proofs.lemmas.Bool.{false≢true, true≢false, and_parts}
 use Rattle.std.specs.List.{AllByRecursion, list_all}
 
@@ -19,6 +19,35 @@ false_from false h = refl
 pub not_true : (b : Bool) → not b ≡ true → b ≡ false
 not_true true e = absurd (false≢true e)
 not_true false e = refl
+
+-- the parts of tests that are all true, and the tests of them
+pub both_true : (a b : Bool) → a ≡ true → b ≡ true → (a && b) ≡ true
+both_true true b p q = q
+both_true false b p q = absurd (false≢true p)
+
+pub parts_3 : (a b c : Bool) → ((a && b) && c) ≡ true → (a ≡ true) × (b ≡ true) × (c ≡ true)
+parts_3 a b c e =
+    let two : ((a && b) ≡ true) × (c ≡ true) = and_parts (a && b) c e in
+    let one : (a ≡ true) × (b ≡ true) = and_parts a b two.0 in
+    (one.0, one.1, two.1)
+
+pub parts_4 : (a b c d : Bool) → (((a && b) && c) && d) ≡ true → (a ≡ true) × (b ≡ true) × (c ≡ true) × (d ≡ true)
+parts_4 a b c d e =
+    let two : (((a && b) && c) ≡ true) × (d ≡ true) = and_parts ((a && b) && c) d e in
+    let three : (a ≡ true) × (b ≡ true) × (c ≡ true) = parts_3 a b c two.0 in
+    (three.0, three.1, three.2, two.1)
+
+pub parts_6 : (a b c d e f : Bool) → (((((a && b) && c) && d) && e) && f) ≡ true → (a ≡ true) × (b ≡ true) × (c ≡ true) × (d ≡ true) × (e ≡ true) × (f ≡ true)
+parts_6 a b c d e f h =
+    let two : (((((a && b) && c) && d) && e) ≡ true) × (f ≡ true) = and_parts ((((a && b) && c) && d) && e) f h in
+    let four : ((((a && b) && c) && d) ≡ true) × (e ≡ true) = and_parts (((a && b) && c) && d) e two.0 in
+    let rest : (a ≡ true) × (b ≡ true) × (c ≡ true) × (d ≡ true) = parts_4 a b c d four.0 in
+    (rest.0, rest.1, rest.2, rest.3, four.1, two.1)
+
+-- a test of each element, from a fact of each
+pub true_each : {X : Type 0} (p : X → Bool) (xs : List X) → AllByRecursion (λ x. p x ≡ true) xs → list_all p xs ≡ true
+true_each p [] h = refl
+true_each p (x ∷ xs) h = both_true (p x) (list_all p xs) h.0 (true_each p xs h.1)
 
 -- what a thing is kept by, where there is one
 abbrev pub keep : {X : Type 0} → (X → Bool) → Option X → Option X

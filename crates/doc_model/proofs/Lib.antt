@@ -7,3 +7,6 @@ pub mod SameLaws
 pub mod ViewEditsLaws
 pub mod ChangesLaws
 pub mod ByRowLaws
+pub mod SoundLaws
+pub mod TimesLaws
+pub mod SchemaLaws

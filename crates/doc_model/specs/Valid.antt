@@ -40,12 +40,14 @@ from_one rows = list_all (λ r. nat_lt 0 r) rows
 abbrev pub is_data : Grid ColDef → List ℕ → Bool
 is_data g c = passes (find_id column_id c g.columns) (λ d. not d.info.is_formula)
 
--- whether each given column is a data column with a base value for each row, and none is given twice
+-- whether a given column is a data column with a base value for each row
+abbrev pub gives_column : Grid ColDef → List ℕ → CellColumn → Bool
+gives_column g rows k =
+    is_data g k.id && nat_eq (length k.values) (length rows) && list_all is_base k.values
+
+-- whether each given column is such a one, and none is given twice
 abbrev pub gives_data : Grid ColDef → List ℕ → List CellColumn → Bool
-gives_data g rows ks =
-    are_distinct given_id ks
-    && list_all (λ (k : CellColumn).
-      is_data g k.id && nat_eq (length k.values) (length rows) && list_all is_base k.values) ks
+gives_data g rows ks = are_distinct given_id ks && list_all (gives_column g rows) ks
 
 -- whether the metadata rows are from 1, once, and not among those of a schema table
 abbrev pub are_free : Document → List ℕ → List ℕ → Bool

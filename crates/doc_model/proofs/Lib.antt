@@ -10,3 +10,4 @@ pub mod ByRowLaws
 pub mod SoundLaws
 pub mod TimesLaws
 pub mod SchemaLaws
+pub mod WholeLaws

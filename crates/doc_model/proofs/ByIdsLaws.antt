@@ -252,6 +252,23 @@ module _ {X : Type 0} (id : X → List ℕ) where
         (found_all (λ y. bytes_eq (id x) (id y) ≡ false) (id y) xs y s.0 e) ∙ e)),
   )
 
+  -- what an id finds among those that pass a test
+  pub find-filtered : (p : X → Bool) (c : List ℕ) (xs : List X) → AreDistinct id xs → find_id id c (filter p xs) ≡ keep p (find_id id c xs)
+  find-filtered p c [] s = refl
+  find-filtered p c (x ∷ xs) s =
+      elim (p x) as (λ k. p x ≡ k → find_id id c (cond k (x ∷ filter p xs) (filter p xs)) ≡ keep p (find_id id c (x ∷ xs))) [
+        | true ↦ λ is. elim (bytes_eq (id x) c) as (λ b. cond b (Some x) (find_id id c (filter p xs)) ≡ keep p (cond b (Some x) (find_id id c xs))) [
+            | true ↦ sym (cond_true (p x) (Some x) None is)
+            | false ↦ find-filtered p c xs s.1
+          ]
+        | false ↦ λ no. elim (bytes_eq (id x) c) as (λ b. bytes_eq (id x) c ≡ b → find_id id c (filter p xs) ≡ keep p (cond b (Some x) (find_id id c xs))) [
+            | true ↦ λ is. find-filtered p c xs s.1
+                ∙ ap (keep p) (find_apart c xs (subst (λ d. AllByRecursion (λ y. bytes_eq d (id y) ≡ false) xs) ((bytes_eq-Decides (id x) c).0 is) s.0))
+                ∙ sym (cond_false (p x) (Some x) None no)
+            | false ↦ λ _. find-filtered p c xs s.1
+          ] refl
+      ] refl
+
   -- a thing before all others stands first
   pub place_low : (x : X) (xs : List X) → AllByRecursion (λ y. precedes (id x) (id y) ≡ true) xs → place id x xs ≡ x ∷ xs
   place_low x [] h = refl
@@ -261,6 +278,18 @@ module _ {X : Type 0} (id : X → List ℕ) where
   pub by_id_again : (xs : List X) → IsByIds id xs → by_id id xs ≡ xs
   by_id_again [] s = refl
   by_id_again (x ∷ xs) s = ap (place id x) (by_id_again xs s.1) ∙ place_low x xs s.0
+
+  each_place : (P : X → Type 0) (x : X) (xs : List X) → P x → AllByRecursion P xs → AllByRecursion P (place id x xs)
+  each_place P x [] p h = (p, tt)
+  each_place P x (y ∷ ys) p h =
+      elim (precedes (id x) (id y)) as (λ b. AllByRecursion P (cond b (x ∷ y ∷ ys) (cond (bytes_eq (id x) (id y)) (x ∷ ys) (y ∷ place id x ys)))) [
+        | true ↦ (p, h)
+        | false ↦ elim (bytes_eq (id x) (id y)) as (λ b. AllByRecursion P (cond b (x ∷ ys) (y ∷ place id x ys))) [ true ↦ (p, h.1) | false ↦ (h.0, each_place P x ys p h.1) ]
+      ]
+
+  pub each_by_id : (P : X → Type 0) (xs : List X) → AllByRecursion P xs → AllByRecursion P (by_id id xs)
+  each_by_id P [] h = tt
+  each_by_id P (x ∷ xs) h = each_place P x (by_id id xs) h.0 (each_by_id P xs h.1)
 
   pub IsByIds-by_id : (xs : List X) → IsByIds id (by_id id xs)
   IsByIds-by_id [] = tt

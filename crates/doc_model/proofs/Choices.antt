@@ -74,6 +74,12 @@ pub each_unmapped : {X Y : Type 0} (P : Y → Type 0) (f : X → Y) (xs : List X
 each_unmapped P f [] h = tt
 each_unmapped P f (x ∷ xs) h = (h.0, each_unmapped P f xs h.1)
 
+-- what passes passes
+pub each_passed : {X : Type 0} (P : X → Type 0) (p : X → Bool) (xs : List X) → AllByRecursion P xs → AllByRecursion (λ x. P x × (p x ≡ true)) (filter p xs)
+each_passed P p [] h = tt
+each_passed P p (x ∷ xs) h =
+    elim (p x) as (λ b. p x ≡ b → AllByRecursion (λ x. P x × (p x ≡ true)) (cond b (x ∷ filter p xs) (filter p xs))) [ true ↦ λ is. ((h.0, is), each_passed P p xs h.1) | false ↦ λ _. each_passed P p xs h.1 ] refl
+
 pub each_filter : {X : Type 0} (P : X → Type 0) (p : X → Bool) (xs : List X) → AllByRecursion P xs → AllByRecursion P (filter p xs)
 each_filter P p [] h = tt
 each_filter P p (x ∷ xs) h =

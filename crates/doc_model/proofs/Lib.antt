@@ -11,3 +11,4 @@ pub mod SoundLaws
 pub mod TimesLaws
 pub mod SchemaLaws
 pub mod WholeLaws
+pub mod BackLaws

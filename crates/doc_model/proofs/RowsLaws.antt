@@ -2,8 +2,8 @@
 use Rattle.std.proofs.Common.{ℕ, Bool, true, false, cond, not, ◌||◌, ◌&&◌, List, [], ◌∷◌, filter, ◌≡◌, ◌<◌, ◌≤◌, refl, sym, ap, subst, ◌∙◌, ⊎_elim, arith, eqb, ltb}
 use Rattle.std.proofs.lemmas.Bool.{false≢true, true≢false, eqb-true, eqb-false, ne_eqb, eq-eqb, or_right, both_ways, ltb-true, ltb-false, cases_order}
 use Rattle.std.specs.List.{AllByRecursion}
-use Rattle.doc_model.specs.Rows.{has, insert_row, insert_rows, without, IsAscending}
-use Rattle.doc_model.proofs.Choices.{each_weaker, or_swap, or_assoc}
+use Rattle.doc_model.specs.Rows.{has, insert_row, insert_rows, without, all_in, none_in, IsAscending}
+use Rattle.doc_model.proofs.Choices.{each_weaker, or_swap, or_assoc, or_false, not_true, each_true, true_each}
 
 pub number_itself : (n : ℕ) → eqb n n ≡ true
 number_itself n = eq-eqb n n refl
@@ -149,3 +149,42 @@ insert_rows-without gs ws a b =
     ∙ ap (λ c. c || has (without (without ws gs) gs) q) (has-filter (λ r. not (has gs r)) ws q)
     ∙ ap (λ c. (not (has gs q) && has ws q) || c) (has-filter (λ r. not (has (without ws gs) r)) gs q ∙ ap (λ c. not c && has gs q) (has-filter (λ r. not (has ws r)) gs q))
     ∙ merged (has gs q) (has ws q))
+
+out_of_both : (b c : Bool) → (b ≡ true → c ≡ false) → (not b && (b || c)) ≡ c
+out_of_both true c f = sym (f refl)
+out_of_both false c f = refl
+
+-- rows that stand in both
+pub none_in_at : (qs rs : List ℕ) (q : ℕ) → none_in qs rs ≡ true → has qs q ≡ true → has rs q ≡ false
+none_in_at qs rs q h here = not_true (has rs q) (each_at (λ q. not (has rs q) ≡ true) qs q (each_true (λ q. not (has rs q)) qs h) here)
+
+pub all_in_at : (qs rs : List ℕ) (q : ℕ) → all_in qs rs ≡ true → has qs q ≡ true → has rs q ≡ true
+all_in_at qs rs q h here = each_at (λ q. has rs q ≡ true) qs q (each_true (λ q. has rs q) qs h) here
+
+-- new rows put in and taken out
+pub without-insert_rows : (qs rs : List ℕ) → IsAscending rs → none_in qs rs ≡ true → without qs (insert_rows qs rs) ≡ rs
+without-insert_rows qs rs a h =
+    same_ascending (without qs (insert_rows qs rs)) rs (IsAscending-filter (λ r. not (has qs r)) (insert_rows qs rs) (IsAscending-insert_rows qs rs a)) a
+      (λ q. has-filter (λ r. not (has qs r)) (insert_rows qs rs) q ∙ ap (λ b. not (has qs q) && b) (has-insert_rows qs rs q)
+        ∙ out_of_both (has qs q) (has rs q) (none_in_at qs rs q h))
+
+-- rows taken out and put back
+pub insert_rows-again : (qs rs : List ℕ) → IsAscending rs → all_in qs rs ≡ true → insert_rows qs (without qs rs) ≡ rs
+insert_rows-again qs rs a h =
+    same_ascending (insert_rows qs (without qs rs)) rs (IsAscending-insert_rows qs (without qs rs) (IsAscending-filter (λ r. not (has qs r)) rs a)) a
+      (λ q. has-insert_rows qs (without qs rs) q ∙ ap (λ b. has qs q || b) (has-filter (λ r. not (has qs r)) rs q)
+        ∙ in_either (has qs q) (has rs q) (all_in_at qs rs q h))
+
+-- rows put in where there is none
+pub insert_rows-all : (rs : List ℕ) → IsAscending rs → insert_rows rs [] ≡ rs
+insert_rows-all rs a = same_ascending (insert_rows rs []) rs (IsAscending-insert_rows rs [] tt) a (λ q. has-insert_rows rs [] q ∙ or_false (has rs q))
+
+pub all_in_itself : (rs : List ℕ) → all_in rs rs ≡ true
+all_in_itself rs = true_each (λ q. has rs q) rs (each_has (λ q. has rs q ≡ true) rs (λ q here. here))
+
+-- none of the rows that were taken out is left
+pub none_in-without : (qs rs : List ℕ) → none_in qs (without qs rs) ≡ true
+none_in-without qs rs = true_each (λ q. not (has (without qs rs) q)) qs (each_has (λ q. not (has (without qs rs) q) ≡ true) qs (λ q here. ap not (has-filter (λ r. not (has qs r)) rs q ∙ ap (λ b. not b && has rs q) here)))
+
+pub all_in-insert_rows : (qs rs : List ℕ) → all_in qs (insert_rows qs rs) ≡ true
+all_in-insert_rows qs rs = true_each (λ q. has (insert_rows qs rs) q) qs (each_has (λ q. has (insert_rows qs rs) q ≡ true) qs (λ q here. has-insert_rows qs rs q ∙ ap (λ b. b || has rs q) here))

@@ -212,3 +212,29 @@ gives_data_columns g after rows s same there =
         (λ d h. ap (λ cs. passes (find_id column_id d.id cs) (λ (d : ColDef). not d.info.is_formula)) same ∙ ap (λ o. passes o (λ (d : ColDef). not d.info.is_formula)) h.0 ∙ h.1) (by_id column_id kept) each)
       (each_weaker (λ d. (find_id column_id d.id g.columns ≡ Some d) × (test d ≡ true)) (λ d. AllByRecursion (λ r. is_base (at g d.id r) ≡ true) rows)
         (λ d h. each_has (λ r. is_base (at g d.id r) ≡ true) rows (λ r here. base_held d (at g d.id r) (s.holds d r h.0 (all_in_at rows g.rows r there here)))) (by_id column_id kept) each)
+
+data_found : (g : Grid ColDef) (c : List ℕ) → is_data g c ≡ true → (d : ColDef) × (find_id column_id c g.columns ≡ Some d)
+data_found g c e =
+    elim (find_id column_id c g.columns) as (λ o. passes o (λ (d : ColDef). not d.info.is_formula) ≡ true → (d : ColDef) × (o ≡ Some d)) [
+      | None ↦ λ e. absurd (false≢true e)
+      | Some d ↦ λ e. (d, refl)
+    ] e
+
+-- the old cells of columns that are given
+pub gives_old_columns : (g after : Grid ColDef) (rows : List ℕ) (ks : List CellColumn) → IsSoundGrid g → after.columns ≡ g.columns → AllByRecursion (λ k. is_data g k.id ≡ true) ks → all_in rows g.rows ≡ true → gives_data after rows (old_columns g rows ks) ≡ true
+gives_old_columns g after rows ks s same data' there =
+    let each : AllByRecursion (λ k. is_data g k.id ≡ true) (by_id given_id ks) = each_by_id given_id (λ k. is_data g k.id ≡ true) ks data' in
+    gives_own g after rows given_id (by_id given_id ks) (AreDistinct-IsByIds given_id (by_id given_id ks) (IsByIds-by_id given_id ks))
+      (each_weaker (λ k. is_data g k.id ≡ true) (λ k. is_data after k.id ≡ true) (λ k e. ap (λ cs. passes (find_id column_id k.id cs) (λ (d : ColDef). not d.info.is_formula)) same ∙ e) (by_id given_id ks) each)
+      (each_weaker (λ k. is_data g k.id ≡ true) (λ k. AllByRecursion (λ r. is_base (at g k.id r) ≡ true) rows)
+        (λ k e. each_has (λ r. is_base (at g k.id r) ≡ true) rows (λ r here.
+          let found : (d : ColDef) × (find_id column_id k.id g.columns ≡ Some d) = data_found g k.id e in
+          let named : found.0.id ≡ k.id = found_id column_id k.id g.columns found.0 found.1 in
+          subst (λ n. is_base (at g n r) ≡ true) named
+            (base_held found.0 (at g found.0.id r) (s.holds found.0 r (ap (λ n. find_id column_id n g.columns) named ∙ found.1) (all_in_at rows g.rows r there here))))) (by_id given_id ks) each)
+
+-- the cells of one data column
+pub gives_column_of : (g after : Grid ColDef) (rows : List ℕ) (d : ColDef) → IsSoundGrid g → find_id column_id d.id g.columns ≡ Some d → is_data after d.id ≡ true → all_in rows g.rows ≡ true → gives_data after rows (column_of column_id g rows d.id ∷ []) ≡ true
+gives_column_of g after rows d s found data' there =
+    gives_own g after rows column_id (d ∷ []) (tt, tt) (data', tt)
+      (each_has (λ r. is_base (at g d.id r) ≡ true) rows (λ r here. base_held d (at g d.id r) (s.holds d r found (all_in_at rows g.rows r there here))), tt)

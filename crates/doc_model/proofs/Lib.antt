@@ -12,3 +12,4 @@ pub mod TimesLaws
 pub mod SchemaLaws
 pub mod WholeLaws
 pub mod BackLaws
+pub mod ColumnsKept

@@ -13,3 +13,4 @@ pub mod SchemaLaws
 pub mod WholeLaws
 pub mod BackLaws
 pub mod ColumnsKept
+pub mod DocumentParts

@@ -21,11 +21,44 @@ use Rattle.doc_model.specs.Document.{Table, Document, table_id, table_row}
 use Rattle.doc_model.specs.Schema.{tables_columns, columns_columns, resources_columns, rules_columns, type_text, Described, described_row, describe, all_columns, in_order, tables_grid, columns_grid, with_schema, resources, rules, plain_tables, SchemaAgrees}
 use Rattle.doc_model.specs.Sound.{IsSoundGrid, has_names, IsSound}
 use Rattle.doc_model.specs.DocumentLaws.{IsWhole}
-use Rattle.doc_model.proofs.Choices.{cond_true, cond_false, each_weaker, each_map, each_mapped, each_unmapped, each_both, each_true, length_map}
+use Rattle.doc_model.proofs.Choices.{cond_true, cond_false, each_weaker, each_map, each_mapped, each_unmapped, each_both, each_true, length_map, map-map}
 use Rattle.doc_model.proofs.ByIdsLaws.{found_all, bytes_apart}
 use Rattle.doc_model.proofs.RowsLaws.{each_has, each_at}
 use Rattle.doc_model.proofs.SoundLaws.{held_base}
 use Rattle.doc_model.proofs.SchemaLaws.{short_from, short_name, name_bytes, has-in_order, IsAscending-in_order, each_in_order, base_cell}
+
+-- the rows of the columns of all tables, table by table
+abbrev pub column_rows : List Table → List ℕ
+column_rows [] = []
+column_rows (t ∷ p) = map column_row t.grid.columns ++ column_rows p
+
+map-append : {X Y : Type 0} (f : X → Y) (xs ys : List X) → map f (xs ++ ys) ≡ map f xs ++ map f ys
+map-append f [] ys = refl
+map-append f (x ∷ xs) ys = ap (λ zs. f x ∷ zs) (map-append f xs ys)
+
+pub described_rows : (p : List Table) → map described_row (all_columns p) ≡ column_rows p
+described_rows [] = refl
+described_rows (t ∷ p) =
+    map-append described_row (map (λ (d : ColDef). let e : Described = record { parent = t.row; column = d } in e) t.grid.columns) (all_columns p)
+    ∙ ap (λ rows. rows ++ map described_row (all_columns p)) (sym (map-map described_row (λ (d : ColDef). let e : Described = record { parent = t.row; column = d } in e) t.grid.columns))
+    ∙ ap (λ rows. map column_row t.grid.columns ++ rows) (described_rows p)
+
+each_append : {X : Type 0} (P : X → Type 0) (xs ys : List X) → AllByRecursion P xs → AllByRecursion P ys → AllByRecursion P (xs ++ ys)
+each_append P [] ys h k = k
+each_append P (x ∷ xs) ys h k = (h.0, each_append P xs ys h.1 k)
+
+each_parts : {X : Type 0} (P : X → Type 0) (xs ys : List X) → AllByRecursion P (xs ++ ys) → AllByRecursion P xs × AllByRecursion P ys
+each_parts P [] ys h = (tt, h)
+each_parts P (x ∷ xs) ys h = let rest : AllByRecursion P xs × AllByRecursion P ys = each_parts P xs ys h.1 in ((h.0, rest.0), rest.1)
+
+-- what holds of each row holds of each table's
+each_table_rows : (P : ℕ → Type 0) (p : List Table) → AllByRecursion P (column_rows p) → AllByRecursion (λ t. AllByRecursion P (map column_row t.grid.columns)) p
+each_table_rows P [] h = tt
+each_table_rows P (t ∷ p) h = let two : AllByRecursion P (map column_row t.grid.columns) × AllByRecursion P (column_rows p) = each_parts P (map column_row t.grid.columns) (column_rows p) h in (two.0, each_table_rows P p two.1)
+
+each_column_row : (P : ℕ → Type 0) (p : List Table) → AllByRecursion (λ t. AllByRecursion P (map column_row t.grid.columns)) p → AllByRecursion P (column_rows p)
+each_column_row P [] h = tt
+each_column_row P (t ∷ p) h = each_append P (map column_row t.grid.columns) (column_rows p) h.0 (each_column_row P p h.1)
 
 -- the parts of such a document: what it holds of access tables, and its other tables
 pub record IsGood (r u : Grid ColDef) (p : List Table) : Type 0 where
@@ -37,11 +70,11 @@ pub record IsGood (r u : Grid ColDef) (p : List Table) : Type 0 where
   pub plain : AllByRecursion (λ t. is_metadata_id t.id ≡ false) p
   pub grids : AllByRecursion (λ t. IsSoundGrid t.grid) p
   pub names : AllByRecursion (λ t. has_names t ≡ true) p
-  pub once : is_once (map described_row (all_columns p)) ≡ true
+  pub once : is_once (column_rows p) ≡ true
   pub tables_ascend : IsAscending (map table_row p)
   pub columns_ascend : AllByRecursion (λ t. IsAscending (map column_row t.grid.columns)) p
   pub table_rows : AllByRecursion (λ q. 0 < q) (map table_row p)
-  pub column_rows : AllByRecursion (λ q. 0 < q) (map described_row (all_columns p))
+  pub columns_from_one : AllByRecursion (λ t. AllByRecursion (λ q. 0 < q) (map column_row t.grid.columns)) p
 
 -- ---- the ids of the metadata tables
 
@@ -189,10 +222,6 @@ IsShortly e = (is_short e.column.id ≡ true) × (is_short (type_text e.column.i
 info_parts : (info : ColInfo) → is_sound_info info ≡ true → (is_sound_type info.ty ≡ true) × (is_short info.formula ≡ true)
 info_parts info e = let one : ((is_sound_type info.ty && is_short info.formula) ≡ true) × _ = and_parts (is_sound_type info.ty && is_short info.formula) (info.is_formula || Rattle.doc_model.specs.Column.is_empty info.formula) e in and_parts (is_sound_type info.ty) (is_short info.formula) one.0
 
-each_append : {X : Type 0} (P : X → Type 0) (xs ys : List X) → AllByRecursion P xs → AllByRecursion P ys → AllByRecursion P (xs ++ ys)
-each_append P [] ys h k = k
-each_append P (x ∷ xs) ys h k = (h.0, each_append P xs ys h.1 k)
-
 shortly_described : (row : ℕ) (ds : List ColDef) → AllByRecursion (λ d. is_name d.id ≡ true) ds → AllByRecursion (λ d. is_sound_info d.info ≡ true) ds
     → AllByRecursion IsShortly (map (λ (d : ColDef). let e : Described = record { parent = row; column = d } in e) ds)
 shortly_described row [] n s = tt
@@ -219,7 +248,7 @@ columns_sound r u p good =
         height = length_map describe es ∙ sym (length_map described_row es);
         width = each_map (λ row. length row ≡ length columns_columns) describe es (λ e. refl);
       };
-      from_one = each_has (λ q. 0 < q) (map described_row es) (λ q here. each_at (λ q. 0 < q) (map described_row (all_columns p)) q good.column_rows (sym (has-in_order (all_columns p) q) ∙ here));
+      from_one = each_has (λ q. 0 < q) (map described_row es) (λ q here. each_at (λ q. 0 < q) (column_rows p) q (each_column_row (λ q. 0 < q) p good.columns_from_one) (ap (λ rows. has rows q) (sym (described_rows p)) ∙ sym (has-in_order (all_columns p) q) ∙ here));
       infos = (ap (λ b. (b && is_short []) && true) (or_right (is_name tables_id) (is_metadata_id tables_id) tables_metadata), (refl, (refl, (refl, (refl, tt)))));
       holds = λ d r found here. held_base d (cell column_id (columns_grid p) d.id r)
         (found_all column_id (λ d. d.info.is_formula ≡ false) d.id columns_columns d (refl, (refl, (refl, (refl, (refl, tt))))) found)
@@ -233,7 +262,7 @@ pub whole_from : (r u : Grid ColDef) (p : List Table) → IsGood r u p → IsWho
 whole_from r u p good = record {
   agrees = record {
     schema = refl;
-    once = good.once;
+    once = ap is_once (described_rows p) ∙ good.once;
     tables_ascend = good.tables_ascend;
     columns_ascend = good.columns_ascend;
     resources_have = good.resources_have;
@@ -275,12 +304,12 @@ good_from s whole =
       plain = plains;
       grids = whole'.grids.1.1.1.1;
       names = name_each p plains whole'.names.1.1.1.1;
-      once = whole.agrees.once;
+      once = ap is_once (sym (described_rows p)) ∙ whole.agrees.once;
       tables_ascend = whole.agrees.tables_ascend;
       columns_ascend = whole.agrees.columns_ascend;
       table_rows = whole'.grids.0.from_one;
-      column_rows = each_has (λ q. 0 < q) (map described_row (all_columns p)) (λ q here.
-        each_at (λ q. 0 < q) (map described_row (in_order (all_columns p))) q whole'.grids.1.0.from_one (has-in_order (all_columns p) q ∙ here));
+      columns_from_one = each_table_rows (λ q. 0 < q) p (each_has (λ q. 0 < q) (column_rows p) (λ q here.
+        each_at (λ q. 0 < q) (map described_row (in_order (all_columns p))) q whole'.grids.1.0.from_one (has-in_order (all_columns p) q ∙ ap (λ rows. has rows q) (described_rows p) ∙ here)));
     }
   where
     plain_each : (p : List Table) → AllByRecursion (λ t. bytes_eq tables_id (table_id t) ≡ false) p → AllByRecursion (λ t. bytes_eq columns_id (table_id t) ≡ false) p

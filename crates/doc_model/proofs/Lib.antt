@@ -14,3 +14,4 @@ pub mod WholeLaws
 pub mod BackLaws
 pub mod ColumnsKept
 pub mod DocumentParts
+pub mod GoodLaws

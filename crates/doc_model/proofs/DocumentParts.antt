@@ -128,6 +128,10 @@ with_table-plain r u p id f h k =
 pub applied : (s : Document) (a : DocAction) → valid s a ≡ true → apply s a ≡ effect s a
 applied s a v = cond_true (valid s a) (effect s a) s v
 
+-- each of the actions is valid at its place, and they lead to the document
+abbrev pub LeadsBack : Document → Document → List DocAction → Type 0
+LeadsBack after s back = (all_valid after back ≡ true) × (apply_all after back ≡ s)
+
 -- one action that undoes
 pub one_back : (s after : Document) (b : DocAction) → valid after b ≡ true → effect after b ≡ s → (all_valid after (b ∷ []) ≡ true) × (apply_all after (b ∷ []) ≡ s)
 one_back s after b v e = (ap (λ c. c && true) v, applied after b v ∙ e)
@@ -148,4 +152,4 @@ pub record Outcome (s : Document) (a : DocAction) (back : List DocAction) : Type
   pub plain : List Table
   pub becomes : effect s a ≡ with_schema resources rules plain
   pub good : IsGood resources rules plain
-  pub leads : (all_valid (with_schema resources rules plain) back ≡ true) × (apply_all (with_schema resources rules plain) back ≡ s)
+  pub leads : LeadsBack (with_schema resources rules plain) s back

@@ -15,3 +15,4 @@ pub mod BackLaws
 pub mod ColumnsKept
 pub mod DocumentParts
 pub mod GoodLaws
+pub mod RecordSteps

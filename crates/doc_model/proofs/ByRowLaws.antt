@@ -1,5 +1,5 @@
 -- Lists of things with ids in the order of their rows, and things changed under their ids.
-use Rattle.std.proofs.Common.{ℕ, Bool, true, false, cond, not, ◌||◌, ◌&&◌, List, [], ◌∷◌, map, filter, ◌≡◌, ◌<◌, ◌≤◌, refl, sym, ap, subst, ◌∙◌, Option, Some, None, eqb, ltb, arith, option_map}
+use Rattle.std.proofs.Common.{ℕ, Bool, true, false, cond, not, ◌||◌, ◌&&◌, List, [], ◌∷◌, map, filter, ◌≡◌, ◌<◌, ◌≤◌, refl, sym, ap, subst, ◌∙◌, Option, Some, None, eqb, ltb, arith, option_map, is_some}
 use Rattle.std.proofs.lemmas.Bool.{false≢true, true≢false, eqb-true, both_ways, ltb-true, ltb-false, lt-ltb, le-ltb, ne_eqb, and_parts}
 use Rattle.std.proofs.lemmas.Slice.Eq.{bytes_eq-Decides}
 use Rattle.std.specs.List.{AllByRecursion}
@@ -8,7 +8,7 @@ use Rattle.doc_model.specs.ByIds.{find_id, has_id, AreDistinct, with_id, without
 use Rattle.doc_model.specs.Rows.{has, is_once, IsAscending}
 use Rattle.doc_model.specs.Document.{put_by_row, by_row}
 use Rattle.doc_model.proofs.Choices.{cond_true, cond_false, each_weaker, filter_all, not_true, or_swap}
-use Rattle.doc_model.proofs.ByIdsLaws.{bytes_itself, bytes_apart, found_id, found_all, has_apart, apart_has, find_apart}
+use Rattle.doc_model.proofs.ByIdsLaws.{has_id-find, find-without_id, bytes_itself, bytes_apart, found_id, found_all, has_apart, apart_has, find_apart}
 use Rattle.doc_model.proofs.RowsLaws.{number_itself, has_below}
 
 -- a row that is not there is apart from each
@@ -301,3 +301,46 @@ module _ {X : Type 0} (id : X → List ℕ) where
             | false ↦ λ apart. cond_false (bytes_eq (id x) c) (g x) x apart
           ] refl)
         ∙ ap (λ ys. cond (bytes_eq (id x) c) (g (f x)) x ∷ ys) (with_id-with_id g xs)
+
+  -- a thing that got a new id is found under it, and nothing under the old one
+  pub find-new_id : (c new : List ℕ) (f : X → X) (xs : List X) (x : X) → ((x : X) → id (f x) ≡ new) → find_id id c xs ≡ Some x → has_id id xs new ≡ false → find_id id new (with_id id c f xs) ≡ Some (f x)
+  find-new_id c new f [] x named found fresh = absurd (cc)
+  find-new_id c new f (y ∷ ys) x named found fresh =
+      let apart : AllByRecursion (λ z. bytes_eq new (id z) ≡ false) (y ∷ ys) = apart_has id new (y ∷ ys) fresh in
+      elim (bytes_eq (id y) c) as (λ b. cond b (Some y) (find_id id c ys) ≡ Some x → cond (bytes_eq (id (cond b (f y) y)) new) (Some (cond b (f y) y)) (find_id id new (with_id id c f ys)) ≡ Some (f x)) [
+        | true ↦ λ found. let same : y ≡ x = cc in
+            cond_true (bytes_eq (id (f y)) new) (Some (f y)) (find_id id new (with_id id c f ys)) (ap (λ n. bytes_eq n new) (named y) ∙ bytes_itself new) ∙ ap (λ z. let o : Option X = Some (f z) in o) same
+        | false ↦ λ found. cond_false (bytes_eq (id y) new) (Some y) (find_id id new (with_id id c f ys)) (bytes_apart new (id y) apart.0) ∙ find-new_id c new f ys x named found (has_apart id new ys apart.1)
+      ] found
+
+  pub has-old_id : (c new : List ℕ) (f : X → X) (xs : List X) → ((x : X) → id (f x) ≡ new) → bytes_eq new c ≡ false → has_id id (with_id id c f xs) c ≡ false
+  has-old_id c new f [] named apart = refl
+  has-old_id c new f (y ∷ ys) named apart =
+      ap (λ b. b || has_id id (with_id id c f ys) c)
+        (elim (bytes_eq (id y) c) as (λ b. bytes_eq (id y) c ≡ b → bytes_eq (id (cond b (f y) y)) c ≡ false) [ true ↦ λ _. ap (λ n. bytes_eq n c) (named y) ∙ apart | false ↦ λ no. no ] refl)
+      ∙ has-old_id c new f ys named apart
+
+  -- an id that is there is apart from one that is not
+  pub apart_ids : (c new : List ℕ) (xs : List X) → has_id id xs c ≡ true → has_id id xs new ≡ false → bytes_eq new c ≡ false
+  apart_ids c new xs there fresh =
+      elim (bytes_eq new c) as (λ b. bytes_eq new c ≡ b → b ≡ false) [
+        | true ↦ λ is. absurd (both_ways (has_id id xs c) (ap (has_id id xs) (sym ((bytes_eq-Decides new c).0 is)) ∙ fresh) there)
+        | false ↦ λ _. refl
+      ] refl
+
+  pub has_id-without_id : (c : List ℕ) (xs : List X) → has_id id (without_id id c xs) c ≡ false
+  has_id-without_id c xs =
+      has_id-find id c (without_id id c xs)
+      ∙ ap is_some (find-without_id id c xs c ∙ cond_true (bytes_eq c c) None (find_id id c xs) (bytes_itself c))
+
+-- a thing put in and then changed
+pub with_id-put_by_row : {X : Type 0} (id : X → List ℕ) (row : X → ℕ) (f : X → X) (x : X) (xs : List X) → row (f x) ≡ row x → has_id id xs (id x) ≡ false → with_id id (id x) f (put_by_row row x xs) ≡ put_by_row row (f x) xs
+with_id-put_by_row id row f x [] same fresh = ap (λ y. y ∷ []) (cond_true (bytes_eq (id x) (id x)) (f x) x (bytes_itself (id x)))
+with_id-put_by_row id row f x (y ∷ ys) same fresh =
+    let apart : AllByRecursion (λ z. bytes_eq (id x) (id z) ≡ false) (y ∷ ys) = apart_has id (id x) (y ∷ ys) fresh in
+    elim (ltb (row x) (row y)) as (λ b. with_id id (id x) f (cond b (x ∷ y ∷ ys) (y ∷ put_by_row row x ys)) ≡ cond b (f x ∷ y ∷ ys) (y ∷ put_by_row row (f x) ys)) [
+      | true ↦ ap (λ z. z ∷ with_id id (id x) f (y ∷ ys)) (cond_true (bytes_eq (id x) (id x)) (f x) x (bytes_itself (id x))) ∙ ap (λ zs. f x ∷ zs) (with_id_absent id (id x) f (y ∷ ys) fresh)
+      | false ↦ ap (λ z. z ∷ with_id id (id x) f (put_by_row row x ys)) (cond_false (bytes_eq (id y) (id x)) (f y) y (bytes_apart (id x) (id y) apart.0))
+          ∙ ap (λ zs. y ∷ zs) (with_id-put_by_row id row f x ys same (has_apart id (id x) ys apart.1))
+    ]
+    ∙ ap (λ n. cond (ltb n (row y)) (f x ∷ y ∷ ys) (y ∷ put_by_row row (f x) ys)) (sym same)

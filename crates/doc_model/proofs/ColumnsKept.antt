@@ -160,3 +160,16 @@ IsSoundGrid-with_info c info g s sound null =
           | true ↦ λ all. ap (λ n. is_null (cell column_id g n r)) named ∙ each_at (λ r. is_null (cell column_id g c r) ≡ true) g.rows r (each_true (λ r. is_null (cell column_id g c r)) g.rows all) here
           | false ↦ λ _. base_held e (cell column_id g e.id r) held
         ] null
+
+-- a new info leaves all cells
+pub cell-with_info : (c : List ℕ) (info : ColInfo) (g : Grid ColDef) (n : List ℕ) (r : ℕ) → cell column_id (with_column c (with_info info) g) n r ≡ cell column_id g n r
+cell-with_info c info g n r =
+    beside-map (λ d. bytes_eq (column_id d) n) h g.columns (beside (λ q. eqb q r) g.rows g.cells []) Null
+    ∙ beside_agree (λ k. bytes_eq (h k).id n) (λ k. bytes_eq k.id n) g.columns (beside (λ q. eqb q r) g.rows g.cells []) Null (each g.columns)
+  where
+    h : ColDef → ColDef
+    h d = cond (bytes_eq d.id c) (with_info info d) d
+
+    each : (ks : List ColDef) → AllByRecursion (λ k. bytes_eq (h k).id n ≡ bytes_eq k.id n) ks
+    each [] = tt
+    each (k ∷ ks) = (elim (bytes_eq k.id c) as (λ b. bytes_eq (cond b (with_info info k) k).id n ≡ bytes_eq k.id n) [ true ↦ refl | false ↦ refl ], each ks)

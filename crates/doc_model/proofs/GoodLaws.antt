@@ -19,7 +19,7 @@ use Rattle.doc_model.proofs.ColumnsKept.{AreDistinct-Agrees, Agrees-new_id}
 use Rattle.doc_model.proofs.TimesLaws.{times, times-append, times-once, once-times}
 use Rattle.doc_model.proofs.WholeLaws.{IsGood, IsPlain, metadata_from, column_rows}
 
-abbrev own : Table → List ℕ
+abbrev pub own : Table → List ℕ
 own t = map column_row t.grid.columns
 
 -- how often a row describes a column, once a table is put in, taken out or changed

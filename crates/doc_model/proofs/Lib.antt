@@ -16,3 +16,5 @@ pub mod ColumnsKept
 pub mod DocumentParts
 pub mod GoodLaws
 pub mod RecordSteps
+pub mod TableSteps
+pub mod ColumnSteps

@@ -115,7 +115,7 @@ formula_unnamed g ks d gives found formula =
       let no : is_data g k.0.id ≡ false = ap (is_data g) (found_id given_id d.id ks k.0 k.1) ∙ ap (λ o. passes o (λ (d : ColDef). not d.info.is_formula)) found ∙ ap not formula in
       both_ways (is_data g k.0.id) no is)
 
-from_one_each : (rows : List ℕ) → from_one rows ≡ true → AllByRecursion (λ r. 0 < r) rows
+pub from_one_each : (rows : List ℕ) → from_one rows ≡ true → AllByRecursion (λ r. 0 < r) rows
 from_one_each rows h = each_weaker (λ r. ltb 0 r ≡ true) (λ r. 0 < r) (λ r e. ltb-true 0 r e) rows (each_true (λ r. ltb 0 r) rows h)
 
 pub IsSoundGrid-grid_of : (cs : List ColDef) (rs : List ℕ) (f : ColDef → ℕ → CellValue) → AreDistinct column_id cs → IsAscending rs → AllByRecursion (λ r. 0 < r) rs → AllByRecursion (λ d. is_sound_info d.info ≡ true) cs

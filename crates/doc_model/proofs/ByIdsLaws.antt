@@ -258,15 +258,15 @@ module _ {X : Type 0} (id : X → List ℕ) where
   find-filtered p c (x ∷ xs) s =
       elim (p x) as (λ k. p x ≡ k → find_id id c (cond k (x ∷ filter p xs) (filter p xs)) ≡ keep p (find_id id c (x ∷ xs))) [
         | true ↦ λ is. elim (bytes_eq (id x) c) as (λ b. cond b (Some x) (find_id id c (filter p xs)) ≡ keep p (cond b (Some x) (find_id id c xs))) [
-            | true ↦ sym (cond_true (p x) (Some x) None is)
-            | false ↦ find-filtered p c xs s.1
-          ]
+          | true ↦ sym (cond_true (p x) (Some x) None is)
+          | false ↦ find-filtered p c xs s.1
+        ]
         | false ↦ λ no. elim (bytes_eq (id x) c) as (λ b. bytes_eq (id x) c ≡ b → find_id id c (filter p xs) ≡ keep p (cond b (Some x) (find_id id c xs))) [
-            | true ↦ λ is. find-filtered p c xs s.1
-                ∙ ap (keep p) (find_apart c xs (subst (λ d. AllByRecursion (λ y. bytes_eq d (id y) ≡ false) xs) ((bytes_eq-Decides (id x) c).0 is) s.0))
-                ∙ sym (cond_false (p x) (Some x) None no)
-            | false ↦ λ _. find-filtered p c xs s.1
-          ] refl
+          | true ↦ λ is. find-filtered p c xs s.1
+              ∙ ap (keep p) (find_apart c xs (subst (λ d. AllByRecursion (λ y. bytes_eq d (id y) ≡ false) xs) ((bytes_eq-Decides (id x) c).0 is) s.0))
+              ∙ sym (cond_false (p x) (Some x) None no)
+          | false ↦ λ _. find-filtered p c xs s.1
+        ] refl
       ] refl
 
   -- a thing before all others stands first

@@ -1,6 +1,6 @@
 -- Lists of things with ids in the order of their rows, and things changed under their ids.
-use Rattle.std.proofs.Common.{ℕ, Bool, true, false, cond, not, ◌||◌, ◌&&◌, List, [], ◌∷◌, map, filter, ◌≡◌, ◌<◌, ◌≤◌, refl, sym, ap, subst, ◌∙◌, Option, Some, None, eqb, ltb, arith, option_map, is_some}
-use Rattle.std.proofs.lemmas.Bool.{false≢true, true≢false, eqb-true, both_ways, ltb-true, ltb-false, lt-ltb, le-ltb, ne_eqb, and_parts}
+use Rattle.std.proofs.Common.{ℕ, Bool, true, false, cond, not, ◌||◌, List, [], ◌∷◌, map, filter, ◌≡◌, ◌<◌, ◌≤◌, refl, sym, ap, subst, ◌∙◌, Option, Some, None, eqb, ltb, arith, option_map, is_some}
+use Rattle.std.proofs.lemmas.Bool.{false≢true, true≢false, both_ways, ltb-true, ltb-false, lt-ltb, le-ltb, and_parts}
 use Rattle.std.proofs.lemmas.Slice.Eq.{bytes_eq-Decides}
 use Rattle.std.specs.List.{AllByRecursion}
 use Rattle.std.specs.Str.{bytes_eq}
@@ -8,8 +8,8 @@ use Rattle.doc_model.specs.ByIds.{find_id, has_id, AreDistinct, with_id, without
 use Rattle.doc_model.specs.Rows.{has, is_once, IsAscending}
 use Rattle.doc_model.specs.Document.{put_by_row, by_row}
 use Rattle.doc_model.proofs.Choices.{cond_true, cond_false, each_weaker, filter_all, not_true, or_swap}
-use Rattle.doc_model.proofs.ByIdsLaws.{has_id-find, find-without_id, bytes_itself, bytes_apart, found_id, found_all, has_apart, apart_has, find_apart}
-use Rattle.doc_model.proofs.RowsLaws.{number_itself, has_below}
+use Rattle.doc_model.proofs.ByIdsLaws.{has_id-find, find-without_id, bytes_itself, bytes_apart, has_apart, apart_has}
+use Rattle.doc_model.proofs.RowsLaws.{number_itself}
 
 -- a row that is not there is apart from each
 pub apart_rows : (r : ℕ) (rows : List ℕ) → has rows r ≡ false → AllByRecursion (λ q. eqb q r ≡ false) rows
@@ -133,9 +133,9 @@ module _ {X : Type 0} (row : X → ℕ) where
           | false ↦
               ap (λ o. cond (bytes_eq (id y) c) (Some y) o) (find-put_by_row x ys c (has_apart id (id x) ys apart.1))
               ∙ elim (bytes_eq (id x) c) as (λ b. bytes_eq (id x) c ≡ b → cond (bytes_eq (id y) c) (Some y) (cond b (Some x) (find_id id c ys)) ≡ cond b (Some x) (cond (bytes_eq (id y) c) (Some y) (find_id id c ys))) [
-                  | true ↦ λ is. cond_false (bytes_eq (id y) c) (Some y) (Some x) (ap (bytes_eq (id y)) (sym ((bytes_eq-Decides (id x) c).0 is)) ∙ bytes_apart (id x) (id y) apart.0)
-                  | false ↦ λ _. refl
-                ] refl
+                | true ↦ λ is. cond_false (bytes_eq (id y) c) (Some y) (Some x) (ap (bytes_eq (id y)) (sym ((bytes_eq-Decides (id x) c).0 is)) ∙ bytes_apart (id x) (id y) apart.0)
+                | false ↦ λ _. refl
+              ] refl
         ]
 
     -- a new thing put in and taken out
@@ -219,10 +219,10 @@ module _ {X : Type 0} (id : X → List ℕ) where
   with_id_back c n f g (x ∷ xs) named back h =
       let apart : AllByRecursion (λ y. bytes_eq n (id y) ≡ false) (x ∷ xs) = apart_has id n (x ∷ xs) h in
       ap (λ y. y ∷ with_id id n g (with_id id c f xs))
-        (elim (bytes_eq (id x) c) as (λ b. bytes_eq (id x) c ≡ b → cond (bytes_eq (id (cond b (f x) x)) n) (g (cond b (f x) x)) (cond b (f x) x) ≡ x) [
-          | true ↦ λ is. cond_true (bytes_eq (id (f x)) n) (g (f x)) (f x) (ap (λ m. bytes_eq m n) (named x) ∙ bytes_itself n) ∙ back x ((bytes_eq-Decides (id x) c).0 is)
-          | false ↦ λ _. cond_false (bytes_eq (id x) n) (g x) x (bytes_apart n (id x) apart.0)
-        ] refl)
+      (elim (bytes_eq (id x) c) as (λ b. bytes_eq (id x) c ≡ b → cond (bytes_eq (id (cond b (f x) x)) n) (g (cond b (f x) x)) (cond b (f x) x) ≡ x) [
+        | true ↦ λ is. cond_true (bytes_eq (id (f x)) n) (g (f x)) (f x) (ap (λ m. bytes_eq m n) (named x) ∙ bytes_itself n) ∙ back x ((bytes_eq-Decides (id x) c).0 is)
+        | false ↦ λ _. cond_false (bytes_eq (id x) n) (g x) x (bytes_apart n (id x) apart.0)
+      ] refl)
       ∙ ap (λ ys. x ∷ ys) (with_id_back c n f g xs named back (has_apart id n xs apart.1))
 
   -- two functions that agree on the things of the id
@@ -242,9 +242,10 @@ module _ {X : Type 0} (id : X → List ℕ) where
   -- what holds of each holds after a change that keeps it
   pub each_with_id : (P : X → Type 0) (c : List ℕ) (f : X → X) (xs : List X) → ((x : X) → id x ≡ c → P x → P (f x)) → AllByRecursion P xs → AllByRecursion P (with_id id c f xs)
   each_with_id P c f [] k h = tt
-  each_with_id P c f (x ∷ xs) k h =
-      (elim (bytes_eq (id x) c) as (λ b. bytes_eq (id x) c ≡ b → P (cond b (f x) x)) [ true ↦ λ is. k x ((bytes_eq-Decides (id x) c).0 is) h.0 | false ↦ λ _. h.0 ] refl,
-       each_with_id P c f xs k h.1)
+  each_with_id P c f (x ∷ xs) k h = (
+    elim (bytes_eq (id x) c) as (λ b. bytes_eq (id x) c ≡ b → P (cond b (f x) x)) [ true ↦ λ is. k x ((bytes_eq-Decides (id x) c).0 is) h.0 | false ↦ λ _. h.0 ] refl,
+    each_with_id P c f xs k h.1,
+  )
 
   -- the same, where the change keeps it of the one thing that is found
   pub each_with_id_found : (P : X → Type 0) (c : List ℕ) (f : X → X) (xs : List X) (x : X) → AreDistinct id xs → find_id id c xs ≡ Some x → P (f x) → AllByRecursion P xs → AllByRecursion P (with_id id c f xs)
@@ -252,9 +253,10 @@ module _ {X : Type 0} (id : X → List ℕ) where
   each_with_id_found P c f (y ∷ ys) x d found p h =
       elim (bytes_eq (id y) c) as (λ b. bytes_eq (id y) c ≡ b → cond b (Some y) (find_id id c ys) ≡ Some x → AllByRecursion P (cond b (f y) y ∷ with_id id c f ys)) [
         | true ↦ λ is found.
-            let here : y ≡ x = cc in
-            (subst (λ z. P (f z)) (sym here) p,
-             subst (AllByRecursion P) (sym (with_id_absent c f ys (has_apart id c ys (subst (λ n. AllByRecursion (λ z. bytes_eq n (id z) ≡ false) ys) ((bytes_eq-Decides (id y) c).0 is) d.0)))) h.1)
+            let here : y ≡ x = cc in (
+              subst (λ z. P (f z)) (sym here) p,
+              subst (AllByRecursion P) (sym (with_id_absent c f ys (has_apart id c ys (subst (λ n. AllByRecursion (λ z. bytes_eq n (id z) ≡ false) ys) ((bytes_eq-Decides (id y) c).0 is) d.0)))) h.1,
+            )
         | false ↦ λ _ found. (h.0, each_with_id_found P c f ys x d.1 found p h.1)
       ] refl found
 
@@ -268,22 +270,23 @@ module _ {X : Type 0} (id : X → List ℕ) where
     pub AreDistinct-with_id : (xs : List X) → AreDistinct id xs → AreDistinct id (with_id id c f xs)
     AreDistinct-with_id [] d = tt
     AreDistinct-with_id (x ∷ xs) d =
-        let same : id (cond (bytes_eq (id x) c) (f x) x) ≡ id x = elim (bytes_eq (id x) c) as (λ b. id (cond b (f x) x) ≡ id x) [ true ↦ keeps x | false ↦ refl ] in
-        (apart_has id (id (cond (bytes_eq (id x) c) (f x) x)) (with_id id c f xs) (has_id-with_id xs (id (cond (bytes_eq (id x) c) (f x) x)) ∙ ap (has_id id xs) same ∙ has_apart id (id x) xs d.0),
-         AreDistinct-with_id xs d.1)
+        let same : id (cond (bytes_eq (id x) c) (f x) x) ≡ id x = elim (bytes_eq (id x) c) as (λ b. id (cond b (f x) x) ≡ id x) [ true ↦ keeps x | false ↦ refl ] in (
+          apart_has id (id (cond (bytes_eq (id x) c) (f x) x)) (with_id id c f xs) (has_id-with_id xs (id (cond (bytes_eq (id x) c) (f x) x)) ∙ ap (has_id id xs) same ∙ has_apart id (id x) xs d.0),
+          AreDistinct-with_id xs d.1,
+        )
 
     -- what an id finds after a change that keeps ids
     pub find-with_id : (xs : List X) (e : List ℕ) → find_id id e (with_id id c f xs) ≡ cond (bytes_eq c e) (option_map f (find_id id e xs)) (find_id id e xs)
     find-with_id [] e = elim (bytes_eq c e) as (λ b. ◌≡◌ {A = Option X} None (cond b None None)) [ true ↦ refl | false ↦ refl ]
     find-with_id (x ∷ xs) e =
         elim (bytes_eq (id x) c) as (λ a. bytes_eq (id x) c ≡ a → cond (bytes_eq (id (cond a (f x) x)) e) (Some (cond a (f x) x)) (find_id id e (with_id id c f xs))
-            ≡ cond (bytes_eq c e) (option_map f (cond (bytes_eq (id x) e) (Some x) (find_id id e xs))) (cond (bytes_eq (id x) e) (Some x) (find_id id e xs))) [
+        ≡ cond (bytes_eq c e) (option_map f (cond (bytes_eq (id x) e) (Some x) (find_id id e xs))) (cond (bytes_eq (id x) e) (Some x) (find_id id e xs))) [
           | true ↦ λ is. let same : id x ≡ c = (bytes_eq-Decides (id x) c).0 is in
               ap (λ n. cond (bytes_eq n e) (Some (f x)) (find_id id e (with_id id c f xs))) (keeps x)
               ∙ elim (bytes_eq (id x) e) as (λ b. bytes_eq (id x) e ≡ b → cond b (Some (f x)) (find_id id e (with_id id c f xs)) ≡ cond (bytes_eq c e) (option_map f (cond b (Some x) (find_id id e xs))) (cond b (Some x) (find_id id e xs))) [
-                  | true ↦ λ here. sym (cond_true (bytes_eq c e) (Some (f x)) (Some x) (ap (λ n. bytes_eq n e) (sym same) ∙ here))
-                  | false ↦ λ _. find-with_id xs e
-                ] refl
+                | true ↦ λ here. sym (cond_true (bytes_eq c e) (Some (f x)) (Some x) (ap (λ n. bytes_eq n e) (sym same) ∙ here))
+                | false ↦ λ _. find-with_id xs e
+              ] refl
           | false ↦ λ apart.
               elim (bytes_eq (id x) e) as (λ b. bytes_eq (id x) e ≡ b → cond b (Some x) (find_id id e (with_id id c f xs)) ≡ cond (bytes_eq c e) (option_map f (cond b (Some x) (find_id id e xs))) (cond b (Some x) (find_id id e xs))) [
                 | true ↦ λ here. sym (cond_false (bytes_eq c e) (Some (f x)) (Some x) (ap (bytes_eq c) (sym ((bytes_eq-Decides (id x) e).0 here)) ∙ bytes_apart (id x) c apart))
@@ -296,10 +299,10 @@ module _ {X : Type 0} (id : X → List ℕ) where
     with_id-with_id g [] = refl
     with_id-with_id g (x ∷ xs) =
         ap (λ y. y ∷ with_id id c g (with_id id c f xs))
-          (elim (bytes_eq (id x) c) as (λ b. bytes_eq (id x) c ≡ b → cond (bytes_eq (id (cond b (f x) x)) c) (g (cond b (f x) x)) (cond b (f x) x) ≡ cond b (g (f x)) x) [
-            | true ↦ λ is. cond_true (bytes_eq (id (f x)) c) (g (f x)) (f x) (ap (λ n. bytes_eq n c) (keeps x) ∙ is)
-            | false ↦ λ apart. cond_false (bytes_eq (id x) c) (g x) x apart
-          ] refl)
+        (elim (bytes_eq (id x) c) as (λ b. bytes_eq (id x) c ≡ b → cond (bytes_eq (id (cond b (f x) x)) c) (g (cond b (f x) x)) (cond b (f x) x) ≡ cond b (g (f x)) x) [
+          | true ↦ λ is. cond_true (bytes_eq (id (f x)) c) (g (f x)) (f x) (ap (λ n. bytes_eq n c) (keeps x) ∙ is)
+          | false ↦ λ apart. cond_false (bytes_eq (id x) c) (g x) x apart
+        ] refl)
         ∙ ap (λ ys. cond (bytes_eq (id x) c) (g (f x)) x ∷ ys) (with_id-with_id g xs)
 
   -- a thing that got a new id is found under it, and nothing under the old one
@@ -317,7 +320,7 @@ module _ {X : Type 0} (id : X → List ℕ) where
   has-old_id c new f [] named apart = refl
   has-old_id c new f (y ∷ ys) named apart =
       ap (λ b. b || has_id id (with_id id c f ys) c)
-        (elim (bytes_eq (id y) c) as (λ b. bytes_eq (id y) c ≡ b → bytes_eq (id (cond b (f y) y)) c ≡ false) [ true ↦ λ _. ap (λ n. bytes_eq n c) (named y) ∙ apart | false ↦ λ no. no ] refl)
+      (elim (bytes_eq (id y) c) as (λ b. bytes_eq (id y) c ≡ b → bytes_eq (id (cond b (f y) y)) c ≡ false) [ true ↦ λ _. ap (λ n. bytes_eq n c) (named y) ∙ apart | false ↦ λ no. no ] refl)
       ∙ has-old_id c new f ys named apart
 
   -- an id that is there is apart from one that is not

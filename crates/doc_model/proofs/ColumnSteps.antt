@@ -1,18 +1,16 @@
 -- Actions on columns: what they leave whole, and that what undoes them does so.
-use Rattle.std.proofs.Common.{ℕ, Bool, true, false, cond, not, ◌||◌, ◌&&◌, ◌+◌, List, [], ◌∷◌, map, ◌≡◌, ◌<◌, ◌≤◌, length, refl, sym, ap, subst, ◌∙◌, Option, Some, None, option_map, eqb, ltb, arith}
+use Rattle.std.proofs.Common.{ℕ, true, false, cond, not, ◌||◌, ◌&&◌, ◌+◌, List, [], ◌∷◌, map, ◌≡◌, ◌<◌, ◌≤◌, refl, sym, ap, subst, ◌∙◌, Some, option_map, eqb, arith}
 use Rattle.std.proofs.lemmas.Bool.{false≢true, true≢false, and_parts, both_ways}
 use Rattle.std.specs.List.{list_all, AllByRecursion}
 use Rattle.std.specs.Str.{bytes_eq}
 use Rattle.cell_types.specs.NameRule.{is_name}
-use Rattle.cell_types.specs.declared.value.CellValue.{CellValue}
 use Rattle.cell_types.specs.declared.value.CellValue.TheVariants.{Null}
-use Rattle.doc_model.specs.declared.action.DocAction.{DocAction}
 use Rattle.doc_model.specs.declared.action.DocAction.TheVariants.{BulkUpdate, AddColumn, RemoveColumn, RenameColumn, ModifyColumn}
 use Rattle.doc_model.specs.declared.column.CellColumn.{CellColumn}
 use Rattle.doc_model.specs.declared.column.ColDef.{ColDef}
 use Rattle.doc_model.specs.declared.column.ColInfo.{ColInfo}
 use Rattle.doc_model.specs.MetadataIds.{columns_id}
-use Rattle.doc_model.specs.ByIds.{find_id, has_id, AreDistinct, with_id, without_id}
+use Rattle.doc_model.specs.ByIds.{find_id, has_id, with_id, without_id}
 use Rattle.doc_model.specs.Rows.{has, is_once, all_in, IsAscending}
 use Rattle.doc_model.specs.Grid.{Grid, cell}
 use Rattle.doc_model.specs.Records.{update_rows, column_of}
@@ -20,15 +18,15 @@ use Rattle.doc_model.specs.Column.{column_id, column_row, default_of, start_of, 
 use Rattle.doc_model.specs.Document.{Table, Document, table_id, on_grid, with_table, put_by_row}
 use Rattle.doc_model.specs.Schema.{with_schema}
 use Rattle.doc_model.specs.Sound.{IsSoundGrid, has_names}
-use Rattle.doc_model.specs.Valid.{passes, schema_table, record_table, rows_of, from_one, are_free, is_new_column, is_data, gives_data, all_null, valid}
+use Rattle.doc_model.specs.Valid.{passes, schema_table, rows_of, from_one, are_free, is_new_column, gives_data, all_null, valid}
 use Rattle.doc_model.specs.Apply.{add_column, remove_column, with_column, with_name, with_info, effect}
 use Rattle.doc_model.specs.Inverse.{made_of, column_again, inverse}
 use Rattle.doc_model.specs.ViewEdits.{if_any}
-use Rattle.doc_model.proofs.Choices.{cond_true, cond_false, not_true, parts_3, both_true, true_each, each_weaker, each_filter, each_mapped, each_unmapped}
+use Rattle.doc_model.proofs.Choices.{cond_true, not_true, parts_3, both_true, true_each, each_filter, each_mapped, each_unmapped}
 use Rattle.doc_model.proofs.ByIdsLaws.{bytes_itself, found_id, found_all, found_has, has_found}
 use Rattle.doc_model.proofs.RowsLaws.{number_itself, each_has, all_in_itself}
 use Rattle.doc_model.proofs.ByRowLaws.{each_put, IsAscending-put_by_row, IsAscending-filtered, has_id-put_by_row, find-put_by_row, with_id_same, with_id-with_id, find-with_id, has_id-with_id, map-with_id, each_with_id, find-new_id, has-old_id, apart_ids, has_id-without_id}
-use Rattle.doc_model.proofs.TimesLaws.{one_if, times, times-absent, absent-times, times-once, once_ascending, times-put_by_row, times-without_id}
+use Rattle.doc_model.proofs.TimesLaws.{one_if, times, absent-times, times-once, once_ascending, times-put_by_row, times-without_id}
 use Rattle.doc_model.proofs.SoundLaws.{null_held, IsSoundGrid-add_column, IsSoundGrid-remove_column}
 use Rattle.doc_model.proofs.BackLaws.{remove_column-add_column, add_column-remove_column, update_rows-add_column, with_name-with_name, with_info-with_info, gives_column_of}
 use Rattle.doc_model.proofs.ColumnsKept.{IsSoundGrid-with_name, IsSoundGrid-with_info, cell-with_info}
@@ -98,15 +96,15 @@ module _ (r u : Grid ColDef) (p : List Table) (good : IsGood r u p) (table : Lis
           plain = changed f;
           becomes = refl;
           good = good_with r u p good table (on_grid f) t (λ x. refl) (λ x. refl) found
-            (IsSoundGrid-add_column d t.grid sound_t fresh info)
-            (named_of (put_by_row column_row d t.grid.columns) (each_put column_row (λ d. is_name d.id ≡ true) d t.grid.columns name names_t.1))
-            (IsAscending-put_by_row column_row d t.grid.columns ascend_t not_mine)
-            (each_mapped (λ q. 0 < q) column_row (put_by_row column_row d t.grid.columns) (each_put column_row (λ d. 0 < column_row d) d t.grid.columns positive (each_unmapped (λ q. 0 < q) column_row t.grid.columns positive_t)))
-            (λ q. once q none);
+              (IsSoundGrid-add_column d t.grid sound_t fresh info)
+              (named_of (put_by_row column_row d t.grid.columns) (each_put column_row (λ d. is_name d.id ≡ true) d t.grid.columns name names_t.1))
+              (IsAscending-put_by_row column_row d t.grid.columns ascend_t not_mine)
+              (each_mapped (λ q. 0 < q) column_row (put_by_row column_row d t.grid.columns) (each_put column_row (λ d. 0 < column_row d) d t.grid.columns positive (each_unmapped (λ q. 0 < q) column_row t.grid.columns positive_t)))
+              (λ q. once q none);
           leads = one_back whole (with_schema r u (changed f)) (RemoveColumn table d.id)
-            (ap (λ o. passes o (λ x. has_id column_id x.grid.columns d.id)) (schema_after f)
+              (ap (λ o. passes o (λ x. has_id column_id x.grid.columns d.id)) (schema_after f)
               ∙ has_id-put_by_row column_row column_id d t.grid.columns d.id ∙ ap (λ b. b || has_id column_id t.grid.columns d.id) (bytes_itself d.id))
-            (ap (with_schema r u) (back_after f (remove_column d.id) (remove_column-add_column d t.grid sound_t.is_grid fresh)));
+              (ap (with_schema r u) (back_after f (remove_column d.id) (remove_column-add_column d t.grid sound_t.is_grid fresh)));
         }
       where
         once : (q : ℕ) → times d.row (column_rows p) ≡ 0 → times q (column_rows (changed (add_column d))) ≤ 1
@@ -140,26 +138,26 @@ module _ (r u : Grid ColDef) (p : List Table) (good : IsGood r u p) (table : Lis
       good_out : IsGood r u (changed out)
       good_out =
           good_with r u p good table (on_grid out) t (λ x. refl) (λ x. refl) found
-            (IsSoundGrid-remove_column d.id t.grid sound_t)
-            (named_of (without_id column_id d.id t.grid.columns) (each_filter (λ d. is_name d.id ≡ true) (λ x. not (bytes_eq (column_id x) d.id)) t.grid.columns names_t.1))
-            (IsAscending-filtered column_row (λ x. not (bytes_eq (column_id x) d.id)) t.grid.columns ascend_t)
-            (each_mapped (λ q. 0 < q) column_row (without_id column_id d.id t.grid.columns) (each_filter (λ d. 0 < column_row d) (λ x. not (bytes_eq (column_id x) d.id)) t.grid.columns (each_unmapped (λ q. 0 < q) column_row t.grid.columns positive_t)))
-            (λ q. let sum : times q (column_rows (changed out)) + one_if (eqb d.row q) ≡ times q (column_rows p) = times_out q in
-              let few : times q (column_rows p) ≤ 1 = times-once q (column_rows p) good.once in
-              omega arith)
+          (IsSoundGrid-remove_column d.id t.grid sound_t)
+          (named_of (without_id column_id d.id t.grid.columns) (each_filter (λ d. is_name d.id ≡ true) (λ x. not (bytes_eq (column_id x) d.id)) t.grid.columns names_t.1))
+          (IsAscending-filtered column_row (λ x. not (bytes_eq (column_id x) d.id)) t.grid.columns ascend_t)
+          (each_mapped (λ q. 0 < q) column_row (without_id column_id d.id t.grid.columns) (each_filter (λ d. 0 < column_row d) (λ x. not (bytes_eq (column_id x) d.id)) t.grid.columns (each_unmapped (λ q. 0 < q) column_row t.grid.columns positive_t)))
+          (λ q. let sum : times q (column_rows (changed out)) + one_if (eqb d.row q) ≡ times q (column_rows p) = times_out q in
+          let few : times q (column_rows p) ≤ 1 = times-once q (column_rows p) good.once in
+          omega arith)
 
       valid_again : valid after (AddColumn table d) ≡ true
       valid_again =
           ap (λ o. passes o (λ x. is_new_column x.grid d.id && are_free after columns_id (d.row ∷ []) && is_sound_info d.info)) (schema_after out)
           ∙ both_true (is_new_column (out t.grid) d.id && are_free after columns_id (d.row ∷ [])) (is_sound_info d.info)
-              (both_true (is_new_column (out t.grid) d.id) (are_free after columns_id (d.row ∷ []))
-                (both_true (not (has_id column_id (without_id column_id d.id t.grid.columns) d.id)) (is_name d.id) (ap not (has_id-without_id column_id d.id t.grid.columns)) (found_all column_id (λ d. is_name d.id ≡ true) d.id t.grid.columns d names_t.1 is_there))
-                (one_free after columns_id d.row (found_all column_id (λ d. 0 < column_row d) d.id t.grid.columns d (each_unmapped (λ q. 0 < q) column_row t.grid.columns positive_t) is_there)
-                  (let sum : times d.row (column_rows (changed out)) + one_if (eqb d.row d.row) ≡ times d.row (column_rows p) = times_out d.row in
-                   let one : one_if (eqb d.row d.row) ≡ 1 = ap one_if (number_itself d.row) in
-                   let few : times d.row (column_rows p) ≤ 1 = times-once d.row (column_rows p) good.once in
-                   not_described r u (changed out) d.row (omega arith))))
-              (found_all column_id (λ d. is_sound_info d.info ≡ true) d.id t.grid.columns d sound_t.infos is_there)
+          (both_true (is_new_column (out t.grid) d.id) (are_free after columns_id (d.row ∷ []))
+          (both_true (not (has_id column_id (without_id column_id d.id t.grid.columns) d.id)) (is_name d.id) (ap not (has_id-without_id column_id d.id t.grid.columns)) (found_all column_id (λ d. is_name d.id ≡ true) d.id t.grid.columns d names_t.1 is_there))
+          (one_free after columns_id d.row (found_all column_id (λ d. 0 < column_row d) d.id t.grid.columns d (each_unmapped (λ q. 0 < q) column_row t.grid.columns positive_t) is_there)
+          (let sum : times d.row (column_rows (changed out)) + one_if (eqb d.row d.row) ≡ times d.row (column_rows p) = times_out d.row in
+          let one : one_if (eqb d.row d.row) ≡ 1 = ap one_if (number_itself d.row) in
+          let few : times d.row (column_rows p) ≤ 1 = times-once d.row (column_rows p) good.once in
+          not_described r u (changed out) d.row (omega arith))))
+          (found_all column_id (λ d. is_sound_info d.info ≡ true) d.id t.grid.columns d sound_t.infos is_there)
 
       abbrev again : Grid ColDef → Grid ColDef
       again g = add_column d (out g)
@@ -181,19 +179,19 @@ module _ (r u : Grid ColDef) (p : List Table) (good : IsGood r u p) (table : Lis
       back_filled : d.info.is_formula ≡ false → LeadsBack after whole (AddColumn table d ∷ BulkUpdate table t.grid.rows mine ∷ [])
       back_filled data' =
           two_back whole between after (AddColumn table d) (BulkUpdate table t.grid.rows mine) valid_again comes
-            (ap (λ o. passes o (λ x. is_once t.grid.rows && from_one t.grid.rows && all_in t.grid.rows x.grid.rows && gives_data x.grid t.grid.rows mine)) (record_table_plain r u (changed again) table plain ∙ found_after again)
-              ∙ both_true ((is_once t.grid.rows && from_one t.grid.rows) && all_in t.grid.rows t.grid.rows) (gives_data (again t.grid) t.grid.rows mine)
-                  (both_true (is_once t.grid.rows && from_one t.grid.rows) (all_in t.grid.rows t.grid.rows)
-                    (both_true (is_once t.grid.rows) (from_one t.grid.rows) (once_ascending t.grid.rows sound_t.is_grid.ascending) (from_one_in t.grid.rows t.grid sound_t (all_in_itself t.grid.rows)))
-                    (all_in_itself t.grid.rows))
-                  (gives_column_of t.grid (again t.grid) t.grid.rows d sound_t is_there
-                    (ap (λ o. passes o (λ (d : ColDef). not d.info.is_formula))
-                      (find-put_by_row column_row column_id d (without_id column_id d.id t.grid.columns) d.id (has_id-without_id column_id d.id t.grid.columns)
-                      ∙ cond_true (bytes_eq d.id d.id) (Some d) (find_id column_id d.id (without_id column_id d.id t.grid.columns)) (bytes_itself d.id))
-                    ∙ ap not data')
-                    (all_in_itself t.grid.rows)))
-            (with_table-plain r u (changed again) table (update_rows column_id t.grid.rows mine) plain (λ g. refl)
-              ∙ ap (with_schema r u) (back_after again (update_rows column_id t.grid.rows mine) (update_rows-add_column d t.grid sound_t ascend_t is_there)))
+          (ap (λ o. passes o (λ x. is_once t.grid.rows && from_one t.grid.rows && all_in t.grid.rows x.grid.rows && gives_data x.grid t.grid.rows mine)) (record_table_plain r u (changed again) table plain ∙ found_after again)
+          ∙ both_true ((is_once t.grid.rows && from_one t.grid.rows) && all_in t.grid.rows t.grid.rows) (gives_data (again t.grid) t.grid.rows mine)
+          (both_true (is_once t.grid.rows && from_one t.grid.rows) (all_in t.grid.rows t.grid.rows)
+          (both_true (is_once t.grid.rows) (from_one t.grid.rows) (once_ascending t.grid.rows sound_t.is_grid.ascending) (from_one_in t.grid.rows t.grid sound_t (all_in_itself t.grid.rows)))
+          (all_in_itself t.grid.rows))
+          (gives_column_of t.grid (again t.grid) t.grid.rows d sound_t is_there
+          (ap (λ o. passes o (λ (d : ColDef). not d.info.is_formula))
+          (find-put_by_row column_row column_id d (without_id column_id d.id t.grid.columns) d.id (has_id-without_id column_id d.id t.grid.columns)
+          ∙ cond_true (bytes_eq d.id d.id) (Some d) (find_id column_id d.id (without_id column_id d.id t.grid.columns)) (bytes_itself d.id))
+          ∙ ap not data')
+          (all_in_itself t.grid.rows)))
+          (with_table-plain r u (changed again) table (update_rows column_id t.grid.rows mine) plain (λ g. refl)
+          ∙ ap (with_schema r u) (back_after again (update_rows column_id t.grid.rows mine) (update_rows-add_column d t.grid sound_t ascend_t is_there)))
 
       column_back : LeadsBack after whole (column_again table t.grid d)
       column_back =
@@ -201,7 +199,115 @@ module _ (r u : Grid ColDef) (p : List Table) (good : IsGood r u p) (table : Lis
             | true ↦ λ formula. back_alone (λ q here.
                 cond_true d.info.is_formula Null (default_of d.info.ty) formula ∙ sym (null_held d (cell column_id t.grid d.id q) formula (sound_t.holds d q is_there here)))
             | false ↦ λ data'. elim t.grid.rows as (λ rows. t.grid.rows ≡ rows → LeadsBack after whole (AddColumn table d ∷ if_any rows (BulkUpdate table t.grid.rows mine))) [
-                | [] ↦ λ none. back_alone (λ q here. absurd (false≢true (ap (λ rows. has rows q) (sym none) ∙ here)))
-                | q ∷ rows ↦ λ _. back_filled data'
-              ] refl
+              | [] ↦ λ none. back_alone (λ q here. absurd (false≢true (ap (λ rows. has rows q) (sym none) ∙ here)))
+              | q ∷ rows ↦ λ _. back_filled data'
+            ] refl
           ] refl
+
+  pub add_column_outcome : (d : ColDef) → valid whole (AddColumn table d) ≡ true → Outcome whole (AddColumn table d) (inverse whole (AddColumn table d))
+  add_column_outcome d v =
+      let parts : (t : Table) × ((schema_table whole table ≡ Some t) × (((is_new_column t.grid d.id && are_free whole columns_id (d.row ∷ [])) && is_sound_info d.info) ≡ true))
+      = passes_parts (schema_table whole table) (λ t. is_new_column t.grid d.id && are_free whole columns_id (d.row ∷ []) && is_sound_info d.info) v in
+      let t : Table = parts.0 in
+      let at : IsPlain table × (find_id table_id table p ≡ Some t) = schema_table_parts r u p table t parts.1.0 in
+      let tests : (is_new_column t.grid d.id ≡ true) × (are_free whole columns_id (d.row ∷ []) ≡ true) × (is_sound_info d.info ≡ true) = parts_3 (is_new_column t.grid d.id) (are_free whole columns_id (d.row ∷ [])) (is_sound_info d.info) parts.1.1 in
+      let new : (not (has_id column_id t.grid.columns d.id) ≡ true) × (is_name d.id ≡ true) = and_parts (not (has_id column_id t.grid.columns d.id)) (is_name d.id) tests.0 in
+      let free : (0 < d.row) × (has (rows_of whole columns_id) d.row ≡ false) = one_free_parts whole columns_id d.row tests.1 in
+      add_back t at.0 at.1 d (not_true (has_id column_id t.grid.columns d.id) new.0) new.1 free.0 free.1 tests.2
+
+  pub remove_column_outcome : (column : List ℕ) → valid whole (RemoveColumn table column) ≡ true → Outcome whole (RemoveColumn table column) (inverse whole (RemoveColumn table column))
+  remove_column_outcome column v =
+      let parts : (t : Table) × ((schema_table whole table ≡ Some t) × (has_id column_id t.grid.columns column ≡ true)) = passes_parts (schema_table whole table) (λ t. has_id column_id t.grid.columns column) v in
+      let t : Table = parts.0 in
+      let at : IsPlain table × (find_id table_id table p ≡ Some t) = schema_table_parts r u p table t parts.1.0 in
+      let one : (d : ColDef) × (find_id column_id column t.grid.columns ≡ Some d) = found_has column_id column t.grid.columns parts.1.1 in
+      let d : ColDef = one.0 in
+      let named : d.id ≡ column = found_id column_id column t.grid.columns d one.1 in
+      let is_there : find_id column_id d.id t.grid.columns ≡ Some d = ap (λ c. find_id column_id c t.grid.columns) named ∙ one.1 in
+      record {
+        resources = r;
+        rules = u;
+        plain = changed (remove_column column);
+        becomes = refl;
+        good = subst (λ c. IsGood r u (changed (remove_column c))) named (good_out t at.0 at.1 d is_there);
+        leads = subst (λ o. LeadsBack (with_schema r u (changed (remove_column column))) whole (made_of o (λ t. made_of (find_id column_id column t.grid.columns) (column_again table t.grid)))) (sym (find_plain r u p table at.0 ∙ at.1))
+            (subst (λ o. LeadsBack (with_schema r u (changed (remove_column column))) whole (made_of o (column_again table t.grid))) (sym one.1)
+            (subst (λ c. LeadsBack (with_schema r u (changed (remove_column c))) whole (column_again table t.grid d)) named (column_back t at.0 at.1 d is_there)));
+      }
+
+  -- ---- a column under a new name
+
+  pub rename_column_outcome : (column new : List ℕ) → valid whole (RenameColumn table column new) ≡ true → Outcome whole (RenameColumn table column new) (inverse whole (RenameColumn table column new))
+  rename_column_outcome column new v =
+      let parts : (t : Table) × ((schema_table whole table ≡ Some t) × ((has_id column_id t.grid.columns column && is_new_column t.grid new) ≡ true)) = passes_parts (schema_table whole table) (λ t. has_id column_id t.grid.columns column && is_new_column t.grid new) v in
+      let t : Table = parts.0 in
+      let at : IsPlain table × (find_id table_id table p ≡ Some t) = schema_table_parts r u p table t parts.1.0 in
+      let tests : (has_id column_id t.grid.columns column ≡ true) × (is_new_column t.grid new ≡ true) = and_parts (has_id column_id t.grid.columns column) (is_new_column t.grid new) parts.1.1 in
+      let fresh : (not (has_id column_id t.grid.columns new) ≡ true) × (is_name new ≡ true) = and_parts (not (has_id column_id t.grid.columns new)) (is_name new) tests.1 in
+      let absent : has_id column_id t.grid.columns new ≡ false = not_true (has_id column_id t.grid.columns new) fresh.0 in
+      let one : (d : ColDef) × (find_id column_id column t.grid.columns ≡ Some d) = found_has column_id column t.grid.columns tests.0 in
+      let d : ColDef = one.0 in
+      let f : Grid ColDef → Grid ColDef = with_column column (with_name new) in
+      let names : (is_name t.id ≡ true) × AllByRecursion (λ d. is_name d.id ≡ true) t.grid.columns = names_t t at.0 at.1 in
+      record {
+        resources = r;
+        rules = u;
+        plain = changed f;
+        becomes = refl;
+        good = good_same_rows r u p good table (on_grid f) t (λ x. refl) (λ x. refl) at.1
+            (IsSoundGrid-with_name column new t.grid (sound_t t at.0 at.1) absent)
+            (named_of t at.0 at.1 (with_id column_id column (with_name new) t.grid.columns) (each_with_id column_id (λ d. is_name d.id ≡ true) column (with_name new) t.grid.columns (λ x _ _. fresh.1) names.1))
+            (map-with_id column_id column_row column (with_name new) t.grid.columns (λ x. refl));
+        leads = one_back whole (with_schema r u (changed f)) (RenameColumn table new column)
+            (ap (λ o. passes o (λ x. has_id column_id x.grid.columns new && is_new_column x.grid column)) (schema_after t at.0 at.1 f)
+            ∙ both_true (has_id column_id (f t.grid).columns new) (is_new_column (f t.grid) column)
+            (has_found column_id new (f t.grid).columns (with_name new d) (find-new_id column_id column new (with_name new) t.grid.columns d (λ x. refl) one.1 absent))
+            (both_true (not (has_id column_id (f t.grid).columns column)) (is_name column)
+            (ap not (has-old_id column_id column new (with_name new) t.grid.columns (λ x. refl) (apart_ids column_id column new t.grid.columns tests.0 absent)))
+            (ap is_name (sym (found_id column_id column t.grid.columns d one.1)) ∙ found_all column_id (λ d. is_name d.id ≡ true) column t.grid.columns d names.1 one.1)))
+            (ap (with_schema r u) (back_after t at.0 at.1 f (with_column new (with_name column)) (with_name-with_name column new t.grid absent)));
+      }
+
+  -- ---- a column of another info
+
+  pub modify_column_outcome : (column : List ℕ) (info : ColInfo) → valid whole (ModifyColumn table column info) ≡ true → Outcome whole (ModifyColumn table column info) (inverse whole (ModifyColumn table column info))
+  modify_column_outcome column info v =
+      let parts : (t : Table) × ((schema_table whole table ≡ Some t) × (((has_id column_id t.grid.columns column && is_sound_info info) && (not info.is_formula || all_null t.grid column)) ≡ true))
+      = passes_parts (schema_table whole table) (λ t. has_id column_id t.grid.columns column && is_sound_info info && (not info.is_formula || all_null t.grid column)) v in
+      let t : Table = parts.0 in
+      let at : IsPlain table × (find_id table_id table p ≡ Some t) = schema_table_parts r u p table t parts.1.0 in
+      let tests : (has_id column_id t.grid.columns column ≡ true) × (is_sound_info info ≡ true) × ((not info.is_formula || all_null t.grid column) ≡ true)
+      = parts_3 (has_id column_id t.grid.columns column) (is_sound_info info) (not info.is_formula || all_null t.grid column) parts.1.1 in
+      let one : (d : ColDef) × (find_id column_id column t.grid.columns ≡ Some d) = found_has column_id column t.grid.columns tests.0 in
+      let d : ColDef = one.0 in
+      let named : d.id ≡ column = found_id column_id column t.grid.columns d one.1 in
+      let f : Grid ColDef → Grid ColDef = with_column column (with_info info) in
+      let s : IsSoundGrid t.grid = sound_t t at.0 at.1 in
+      let names : (is_name t.id ≡ true) × AllByRecursion (λ d. is_name d.id ≡ true) t.grid.columns = names_t t at.0 at.1 in
+      let null : (not d.info.is_formula || all_null (f t.grid) column) ≡ true
+      = elim d.info.is_formula as (λ b. d.info.is_formula ≡ b → (not b || all_null (f t.grid) column) ≡ true) [
+        | true ↦ λ formula. true_each (λ q. is_null (cell column_id (f t.grid) column q)) t.grid.rows (each_has (λ q. is_null (cell column_id (f t.grid) column q) ≡ true) t.grid.rows (λ q here.
+            ap is_null (cell-with_info column info t.grid column q ∙ ap (λ n. cell column_id t.grid n q) (sym named)
+            ∙ null_held d (cell column_id t.grid d.id q) formula (s.holds d q (ap (λ c. find_id column_id c t.grid.columns) named ∙ one.1) here))))
+        | false ↦ λ _. refl
+      ] refl in
+      record {
+        resources = r;
+        rules = u;
+        plain = changed f;
+        becomes = refl;
+        good = good_same_rows r u p good table (on_grid f) t (λ x. refl) (λ x. refl) at.1
+            (IsSoundGrid-with_info column info t.grid s tests.1 tests.2)
+            (named_of t at.0 at.1 (with_id column_id column (with_info info) t.grid.columns) (each_with_id column_id (λ d. is_name d.id ≡ true) column (with_info info) t.grid.columns (λ x _ n. n) names.1))
+            (map-with_id column_id column_row column (with_info info) t.grid.columns (λ x. refl));
+        leads = subst (λ o. LeadsBack (with_schema r u (changed f)) whole (made_of o (λ t. made_of (find_id column_id column t.grid.columns) (λ d. ModifyColumn table column d.info ∷ [])))) (sym (find_plain r u p table at.0 ∙ at.1))
+            (subst (λ o. LeadsBack (with_schema r u (changed f)) whole (made_of o (λ d. ModifyColumn table column d.info ∷ []))) (sym one.1)
+            (one_back whole (with_schema r u (changed f)) (ModifyColumn table column d.info)
+            (ap (λ o. passes o (λ x. has_id column_id x.grid.columns column && is_sound_info d.info && (not d.info.is_formula || all_null x.grid column))) (schema_after t at.0 at.1 f)
+            ∙ both_true (has_id column_id (f t.grid).columns column && is_sound_info d.info) (not d.info.is_formula || all_null (f t.grid) column)
+            (both_true (has_id column_id (f t.grid).columns column) (is_sound_info d.info)
+            (has_id-with_id column_id column (with_info info) (λ x. refl) t.grid.columns column ∙ tests.0)
+            (found_all column_id (λ d. is_sound_info d.info ≡ true) column t.grid.columns d s.infos one.1))
+            null)
+            (ap (with_schema r u) (back_after t at.0 at.1 f (with_column column (with_info d.info)) (with_info-with_info column info d t.grid s.is_grid.distinct one.1)))));
+      }

@@ -1,25 +1,24 @@
 -- A table stays sound where one column's name or info changes.
-use Rattle.std.proofs.Common.{ℕ, Bool, true, false, cond, not, ◌||◌, ◌&&◌, List, [], ◌∷◌, map, ◌≡◌, length, refl, sym, ap, subst, ◌∙◌, Option, Some, None, eqb}
-use Rattle.std.proofs.lemmas.Bool.{false≢true, true≢false}
+use Rattle.std.proofs.Common.{ℕ, Bool, true, false, cond, not, ◌||◌, List, [], ◌∷◌, map, ◌≡◌, length, refl, sym, ap, ◌∙◌, eqb}
 use Rattle.std.proofs.lemmas.Slice.Eq.{bytes_eq-Decides}
-use Rattle.std.specs.List.{list_all, AllByRecursion}
+use Rattle.std.specs.List.{AllByRecursion}
 use Rattle.std.specs.Str.{bytes_eq}
 use Rattle.cell_types.specs.declared.value.CellValue.{CellValue}
 use Rattle.cell_types.specs.declared.value.CellValue.TheVariants.{Null}
 use Rattle.doc_model.specs.declared.column.ColDef.{ColDef}
 use Rattle.doc_model.specs.declared.column.ColInfo.{ColInfo}
-use Rattle.doc_model.specs.ByIds.{find_id, has_id, AreDistinct, with_id}
+use Rattle.doc_model.specs.ByIds.{has_id, AreDistinct, with_id}
 use Rattle.doc_model.specs.Rows.{has}
-use Rattle.doc_model.specs.Grid.{Grid, beside, IsGrid, cell}
+use Rattle.doc_model.specs.Grid.{Grid, beside, cell}
 use Rattle.doc_model.specs.Column.{column_id, is_base, is_null, is_sound_info, may_hold}
 use Rattle.doc_model.specs.Sound.{IsSoundGrid}
 use Rattle.doc_model.specs.Valid.{all_null}
 use Rattle.doc_model.specs.Apply.{with_column, with_name, with_info}
-use Rattle.doc_model.proofs.Choices.{cond_true, cond_false, each_weaker, each_mapped, each_true, length_map}
+use Rattle.doc_model.proofs.Choices.{each_weaker, each_mapped, each_true, length_map}
 use Rattle.doc_model.proofs.ByIdsLaws.{bytes_itself, bytes_apart, found_all, each_found, apart_has}
 use Rattle.doc_model.proofs.RowsLaws.{each_at}
 use Rattle.doc_model.proofs.SoundLaws.{base_held}
-use Rattle.doc_model.proofs.ByRowLaws.{each_with_id, AreDistinct-with_id}
+use Rattle.doc_model.proofs.ByRowLaws.{each_with_id}
 
 beside-map : {K K' V : Type 0} (test : K' → Bool) (h : K → K') (ks : List K) (vs : List V) (d : V) → beside test (map h ks) vs d ≡ beside (λ k. test (h k)) ks vs d
 beside-map test h [] vs d = refl
@@ -48,15 +47,16 @@ module _ {X : Type 0} (id : X → List ℕ) where
 
       go : (ys : List X) → Agrees h ys → AreDistinct id ys → AreDistinct id (map h ys)
       go [] a d = tt
-      go (e ∷ ys) a d =
-          (row e ys (first e ys a.1) d.0,
-           go ys (each_weaker (λ y. AllByRecursion (λ k. bytes_eq (id (h k)) (id (h y)) ≡ bytes_eq (id k) (id y)) (e ∷ ys)) (λ y. AllByRecursion (λ k. bytes_eq (id (h k)) (id (h y)) ≡ bytes_eq (id k) (id y)) ys) (λ y p. p.1) ys a.1) d.1)
+      go (e ∷ ys) a d = (
+        row e ys (first e ys a.1) d.0,
+        go ys (each_weaker (λ y. AllByRecursion (λ k. bytes_eq (id (h k)) (id (h y)) ≡ bytes_eq (id k) (id y)) (e ∷ ys)) (λ y. AllByRecursion (λ k. bytes_eq (id (h k)) (id (h y)) ≡ bytes_eq (id k) (id y)) ys) (λ y p. p.1) ys a.1) d.1,
+      )
 
   -- a new id tells things apart as the old one did
   pub Agrees-new_id : (c new : List ℕ) (f : X → X) (xs : List X) → ((x : X) → id (f x) ≡ new) → has_id id xs new ≡ false → Agrees (λ x. cond (bytes_eq (id x) c) (f x) x) xs
   Agrees-new_id c new f xs named fresh =
       each_weaker (λ y. bytes_eq new (id y) ≡ false) (λ e. AllByRecursion (λ k. bytes_eq (id (h k)) (id (h e)) ≡ bytes_eq (id k) (id e)) xs)
-        (λ e ne. each_weaker (λ y. bytes_eq new (id y) ≡ false) (λ k. bytes_eq (id (h k)) (id (h e)) ≡ bytes_eq (id k) (id e)) (λ k nk. pair k e nk ne) xs absent) xs absent
+      (λ e ne. each_weaker (λ y. bytes_eq new (id y) ≡ false) (λ k. bytes_eq (id (h k)) (id (h e)) ≡ bytes_eq (id k) (id e)) (λ k nk. pair k e nk ne) xs absent) xs absent
     where
       h : X → X
       h x = cond (bytes_eq (id x) c) (f x) x
@@ -68,14 +68,14 @@ module _ {X : Type 0} (id : X → List ℕ) where
       pair k e nk ne =
           elim (bytes_eq (id k) c) as (λ a. bytes_eq (id k) c ≡ a → bytes_eq (id (cond a (f k) k)) (id (cond (bytes_eq (id e) c) (f e) e)) ≡ bytes_eq (id k) (id e)) [
             | true ↦ λ ik. elim (bytes_eq (id e) c) as (λ b. bytes_eq (id e) c ≡ b → bytes_eq (id (f k)) (id (cond b (f e) e)) ≡ bytes_eq (id k) (id e)) [
-                | true ↦ λ ie. ap (λ n. bytes_eq n (id (f e))) (named k) ∙ ap (bytes_eq new) (named e) ∙ bytes_itself new
-                    ∙ sym (ap (λ n. bytes_eq n (id e)) ((bytes_eq-Decides (id k) c).0 ik) ∙ ap (bytes_eq c) ((bytes_eq-Decides (id e) c).0 ie) ∙ bytes_itself c)
-                | false ↦ λ oe. ap (λ n. bytes_eq n (id e)) (named k) ∙ ne ∙ sym (ap (λ n. bytes_eq n (id e)) ((bytes_eq-Decides (id k) c).0 ik) ∙ bytes_apart (id e) c oe)
-              ] refl
+              | true ↦ λ ie. ap (λ n. bytes_eq n (id (f e))) (named k) ∙ ap (bytes_eq new) (named e) ∙ bytes_itself new
+                  ∙ sym (ap (λ n. bytes_eq n (id e)) ((bytes_eq-Decides (id k) c).0 ik) ∙ ap (bytes_eq c) ((bytes_eq-Decides (id e) c).0 ie) ∙ bytes_itself c)
+              | false ↦ λ oe. ap (λ n. bytes_eq n (id e)) (named k) ∙ ne ∙ sym (ap (λ n. bytes_eq n (id e)) ((bytes_eq-Decides (id k) c).0 ik) ∙ bytes_apart (id e) c oe)
+            ] refl
             | false ↦ λ ok. elim (bytes_eq (id e) c) as (λ b. bytes_eq (id e) c ≡ b → bytes_eq (id k) (id (cond b (f e) e)) ≡ bytes_eq (id k) (id e)) [
-                | true ↦ λ ie. ap (bytes_eq (id k)) (named e) ∙ bytes_apart new (id k) nk ∙ sym (ap (bytes_eq (id k)) ((bytes_eq-Decides (id e) c).0 ie) ∙ ok)
-                | false ↦ λ _. refl
-              ] refl
+              | true ↦ λ ie. ap (bytes_eq (id k)) (named e) ∙ bytes_apart new (id k) nk ∙ sym (ap (bytes_eq (id k)) ((bytes_eq-Decides (id e) c).0 ie) ∙ ok)
+              | false ↦ λ _. refl
+            ] refl
           ] refl
 
 -- a changed column keeps the table sound where ids stay apart and each cell may stand in its column
@@ -93,7 +93,7 @@ IsSoundGrid-with_column c f g s a infos hold = record {
   from_one = s.from_one;
   infos = infos;
   holds = λ d r found here. found_all column_id (λ d. may_hold d (cell column_id (with_column c f g) d.id r) ≡ true) d.id (map h g.columns) d
-    (each_mapped (λ d. may_hold d (cell column_id (with_column c f g) d.id r) ≡ true) h g.columns (each r here g.columns a hold)) found;
+      (each_mapped (λ d. may_hold d (cell column_id (with_column c f g) d.id r) ≡ true) h g.columns (each r here g.columns a hold)) found;
 }
   where
     h : ColDef → ColDef
@@ -121,20 +121,20 @@ each_holds g s = each_found column_id (λ e. (r : ℕ) → has g.rows r ≡ true
 pub IsSoundGrid-with_name : (c new : List ℕ) (g : Grid ColDef) → IsSoundGrid g → has_id column_id g.columns new ≡ false → IsSoundGrid (with_column c (with_name new) g)
 IsSoundGrid-with_name c new g s fresh =
     IsSoundGrid-with_column c (with_name new) g s (Agrees-new_id column_id c new (with_name new) g.columns (λ d. refl) fresh)
-      (each_with_id column_id (λ d. is_sound_info d.info ≡ true) c (with_name new) g.columns (λ d _ i. i) s.infos)
-      (each_weaker (λ e. (r : ℕ) → has g.rows r ≡ true → may_hold e (cell column_id g e.id r) ≡ true) (λ e. (r : ℕ) → has g.rows r ≡ true → may_hold (cond (bytes_eq e.id c) (with_name new e) e) (cell column_id g e.id r) ≡ true)
-        (λ e k r here. elim (bytes_eq e.id c) as (λ b. may_hold (cond b (with_name new e) e) (cell column_id g e.id r) ≡ true) [ true ↦ k r here | false ↦ k r here ]) g.columns (each_holds g s))
+    (each_with_id column_id (λ d. is_sound_info d.info ≡ true) c (with_name new) g.columns (λ d _ i. i) s.infos)
+    (each_weaker (λ e. (r : ℕ) → has g.rows r ≡ true → may_hold e (cell column_id g e.id r) ≡ true) (λ e. (r : ℕ) → has g.rows r ≡ true → may_hold (cond (bytes_eq e.id c) (with_name new e) e) (cell column_id g e.id r) ≡ true)
+    (λ e k r here. elim (bytes_eq e.id c) as (λ b. may_hold (cond b (with_name new e) e) (cell column_id g e.id r) ≡ true) [ true ↦ k r here | false ↦ k r here ]) g.columns (each_holds g s))
 
 pub IsSoundGrid-with_info : (c : List ℕ) (info : ColInfo) (g : Grid ColDef) → IsSoundGrid g → is_sound_info info ≡ true → (not info.is_formula || all_null g c) ≡ true → IsSoundGrid (with_column c (with_info info) g)
 IsSoundGrid-with_info c info g s sound null =
     IsSoundGrid-with_column c (with_info info) g s
-      (each g.columns)
-      (each_with_id column_id (λ d. is_sound_info d.info ≡ true) c (with_info info) g.columns (λ d _ _. sound) s.infos)
-      (each_weaker (λ e. (r : ℕ) → has g.rows r ≡ true → may_hold e (cell column_id g e.id r) ≡ true) (λ e. (r : ℕ) → has g.rows r ≡ true → may_hold (cond (bytes_eq e.id c) (with_info info e) e) (cell column_id g e.id r) ≡ true)
-        (λ e k r here. elim (bytes_eq e.id c) as (λ b. bytes_eq e.id c ≡ b → may_hold (cond b (with_info info e) e) (cell column_id g e.id r) ≡ true) [
-          | true ↦ λ is. new e r ((bytes_eq-Decides e.id c).0 is) here (k r here)
-          | false ↦ λ _. k r here
-        ] refl) g.columns (each_holds g s))
+    (each g.columns)
+    (each_with_id column_id (λ d. is_sound_info d.info ≡ true) c (with_info info) g.columns (λ d _ _. sound) s.infos)
+    (each_weaker (λ e. (r : ℕ) → has g.rows r ≡ true → may_hold e (cell column_id g e.id r) ≡ true) (λ e. (r : ℕ) → has g.rows r ≡ true → may_hold (cond (bytes_eq e.id c) (with_info info e) e) (cell column_id g e.id r) ≡ true)
+    (λ e k r here. elim (bytes_eq e.id c) as (λ b. bytes_eq e.id c ≡ b → may_hold (cond b (with_info info e) e) (cell column_id g e.id r) ≡ true) [
+      | true ↦ λ is. new e r ((bytes_eq-Decides e.id c).0 is) here (k r here)
+      | false ↦ λ _. k r here
+    ] refl) g.columns (each_holds g s))
   where
     h : ColDef → ColDef
     h d = cond (bytes_eq d.id c) (with_info info d) d

@@ -1,8 +1,7 @@
 -- Changes of the plain tables that keep a document whole.
-use Rattle.std.proofs.Common.{ℕ, Bool, true, false, cond, not, ◌||◌, ◌&&◌, ◌+◌, List, [], ◌∷◌, ◌++◌, map, filter, ◌≡◌, ◌<◌, ◌≤◌, refl, sym, ap, subst, ◌∙◌, Option, Some, None, eqb, ltb, arith}
-use Rattle.std.proofs.lemmas.Bool.{false≢true, true≢false}
+use Rattle.std.proofs.Common.{ℕ, Bool, true, false, cond, not, ◌+◌, List, [], ◌∷◌, ◌++◌, map, filter, ◌≡◌, ◌<◌, ◌≤◌, refl, sym, ap, subst, ◌∙◌, Some, ltb, arith}
 use Rattle.std.proofs.lemmas.Slice.Eq.{bytes_eq-Decides}
-use Rattle.std.specs.List.{list_any, AllByRecursion}
+use Rattle.std.specs.List.{AllByRecursion}
 use Rattle.std.specs.Str.{bytes_eq}
 use Rattle.doc_model.specs.declared.column.ColDef.{ColDef}
 use Rattle.doc_model.specs.MetadataIds.{is_metadata_id}
@@ -12,7 +11,7 @@ use Rattle.doc_model.specs.Grid.{Grid}
 use Rattle.doc_model.specs.Column.{column_row}
 use Rattle.doc_model.specs.Document.{Table, table_id, table_row, renamed, put_by_row}
 use Rattle.doc_model.specs.Sound.{IsSoundGrid, has_names}
-use Rattle.doc_model.proofs.Choices.{each_filter, each_weaker, filter_all, cond_true}
+use Rattle.doc_model.proofs.Choices.{each_filter, each_weaker, filter_all}
 use Rattle.doc_model.proofs.ByIdsLaws.{bytes_apart, has_apart, found_all}
 use Rattle.doc_model.proofs.ByRowLaws.{each_put, IsAscending-put_by_row, IsAscending-filtered, AreDistinct-put_by_row, AreDistinct-filter, AreDistinct-with_id, map-with_id, each_with_id, each_with_id_found, with_id_absent}
 use Rattle.doc_model.proofs.ColumnsKept.{AreDistinct-Agrees, Agrees-new_id}
@@ -40,7 +39,7 @@ times-without r id [] t d f = absurd (cc)
 times-without r id (s ∷ p) t d f =
     let right : times r (own s ++ column_rows p) ≡ times r (own s) + times r (column_rows p) = times-append r (own s) (column_rows p) in
     elim (bytes_eq s.id id) as (λ b. bytes_eq s.id id ≡ b → cond b (Some s) (find_id table_id id p) ≡ Some t
-        → times r (column_rows (cond (not b) (s ∷ without_id table_id id p) (without_id table_id id p))) + times r (own t) ≡ times r (own s ++ column_rows p)) [
+    → times r (column_rows (cond (not b) (s ∷ without_id table_id id p) (without_id table_id id p))) + times r (own t) ≡ times r (own s ++ column_rows p)) [
       | true ↦ λ is f.
           let same : s ≡ t = cc in
           let apart : AllByRecursion (λ z. not (bytes_eq (table_id z) id) ≡ true) p = each_weaker (λ z. bytes_eq id (table_id z) ≡ false) (λ z. not (bytes_eq (table_id z) id) ≡ true) (λ z e. ap not (bytes_apart id (table_id z) e)) p (subst (λ n. AllByRecursion (λ z. bytes_eq n (table_id z) ≡ false) p) ((bytes_eq-Decides s.id id).0 is) d.0) in
@@ -59,7 +58,7 @@ times-with r id f [] t d e = absurd (cc)
 times-with r id f (s ∷ p) t d e =
     let right : times r (own s ++ column_rows p) ≡ times r (own s) + times r (column_rows p) = times-append r (own s) (column_rows p) in
     elim (bytes_eq s.id id) as (λ b. bytes_eq s.id id ≡ b → cond b (Some s) (find_id table_id id p) ≡ Some t
-        → times r (own (cond b (f s) s) ++ column_rows (with_id table_id id f p)) + times r (own t) ≡ times r (own s ++ column_rows p) + times r (own (f t))) [
+    → times r (own (cond b (f s) s) ++ column_rows (with_id table_id id f p)) + times r (own t) ≡ times r (own s ++ column_rows p) + times r (own (f t))) [
       | true ↦ λ is e.
           let same : s ≡ t = cc in
           let absent : has_id table_id p id ≡ false = has_apart table_id id p (subst (λ n. AllByRecursion (λ z. bytes_eq n (table_id z) ≡ false) p) ((bytes_eq-Decides s.id id).0 is) d.0) in
@@ -100,13 +99,13 @@ module _ (r u : Grid ColDef) (p : List Table) (good : IsGood r u p) where
       → IsSoundGrid (f t).grid → has_names (f t) ≡ true → own (f t) ≡ own t → IsGood r u (with_id table_id id f p)
   good_same_rows id f t ki kr found sound names same =
       good_with id f t ki kr found sound names
-        (subst IsAscending (sym same) (found_all table_id (λ t. IsAscending (own t)) id p t good.columns_ascend found))
-        (subst (AllByRecursion (λ q. 0 < q)) (sym same) (found_all table_id (λ t. AllByRecursion (λ q. 0 < q) (own t)) id p t good.columns_from_one found))
-        (λ q.
-          let here : times q (column_rows (with_id table_id id f p)) + times q (own t) ≡ times q (column_rows p) + times q (own (f t)) = times-with q id f p t good.distinct found in
-          let equal : times q (own (f t)) ≡ times q (own t) = ap (times q) same in
-          let few : times q (column_rows p) ≤ 1 = times-once q (column_rows p) good.once in
-          omega arith)
+      (subst IsAscending (sym same) (found_all table_id (λ t. IsAscending (own t)) id p t good.columns_ascend found))
+      (subst (AllByRecursion (λ q. 0 < q)) (sym same) (found_all table_id (λ t. AllByRecursion (λ q. 0 < q) (own t)) id p t good.columns_from_one found))
+      (λ q.
+      let here : times q (column_rows (with_id table_id id f p)) + times q (own t) ≡ times q (column_rows p) + times q (own (f t)) = times-with q id f p t good.distinct found in
+      let equal : times q (own (f t)) ≡ times q (own t) = ap (times q) same in
+      let few : times q (column_rows p) ≤ 1 = times-once q (column_rows p) good.once in
+      omega arith)
 
   -- a new table
   pub good_added : (t : Table) → IsPlain t.id → has_id table_id p t.id ≡ false → IsSoundGrid t.grid → has_names t ≡ true → IsAscending (own t) → AllByRecursion (λ q. 0 < q) (own t)
@@ -147,9 +146,9 @@ module _ (r u : Grid ColDef) (p : List Table) (good : IsGood r u p) where
     grids = each_filter (λ t. IsSoundGrid t.grid) test p good.grids;
     names = each_filter (λ t. has_names t ≡ true) test p good.names;
     once = once-times (column_rows (without_id table_id id p)) (λ q.
-      let here : times q (column_rows (without_id table_id id p)) + times q (own t) ≡ times q (column_rows p) = times-without q id p t good.distinct found in
-      let few : times q (column_rows p) ≤ 1 = times-once q (column_rows p) good.once in
-      omega arith);
+        let here : times q (column_rows (without_id table_id id p)) + times q (own t) ≡ times q (column_rows p) = times-without q id p t good.distinct found in
+        let few : times q (column_rows p) ≤ 1 = times-once q (column_rows p) good.once in
+        omega arith);
     tables_ascend = IsAscending-filtered table_row test p good.tables_ascend;
     columns_ascend = each_filter (λ t. IsAscending (own t)) test p good.columns_ascend;
     table_rows = kept p good.table_rows;

@@ -18,3 +18,4 @@ pub mod GoodLaws
 pub mod RecordSteps
 pub mod TableSteps
 pub mod ColumnSteps
+pub mod InverseLaws

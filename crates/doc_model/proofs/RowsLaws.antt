@@ -165,15 +165,15 @@ all_in_at qs rs q h here = each_at (λ q. has rs q ≡ true) qs q (each_true (λ
 pub without-insert_rows : (qs rs : List ℕ) → IsAscending rs → none_in qs rs ≡ true → without qs (insert_rows qs rs) ≡ rs
 without-insert_rows qs rs a h =
     same_ascending (without qs (insert_rows qs rs)) rs (IsAscending-filter (λ r. not (has qs r)) (insert_rows qs rs) (IsAscending-insert_rows qs rs a)) a
-      (λ q. has-filter (λ r. not (has qs r)) (insert_rows qs rs) q ∙ ap (λ b. not (has qs q) && b) (has-insert_rows qs rs q)
-        ∙ out_of_both (has qs q) (has rs q) (none_in_at qs rs q h))
+    (λ q. has-filter (λ r. not (has qs r)) (insert_rows qs rs) q ∙ ap (λ b. not (has qs q) && b) (has-insert_rows qs rs q)
+    ∙ out_of_both (has qs q) (has rs q) (none_in_at qs rs q h))
 
 -- rows taken out and put back
 pub insert_rows-again : (qs rs : List ℕ) → IsAscending rs → all_in qs rs ≡ true → insert_rows qs (without qs rs) ≡ rs
 insert_rows-again qs rs a h =
     same_ascending (insert_rows qs (without qs rs)) rs (IsAscending-insert_rows qs (without qs rs) (IsAscending-filter (λ r. not (has qs r)) rs a)) a
-      (λ q. has-insert_rows qs (without qs rs) q ∙ ap (λ b. has qs q || b) (has-filter (λ r. not (has qs r)) rs q)
-        ∙ in_either (has qs q) (has rs q) (all_in_at qs rs q h))
+    (λ q. has-insert_rows qs (without qs rs) q ∙ ap (λ b. has qs q || b) (has-filter (λ r. not (has qs r)) rs q)
+    ∙ in_either (has qs q) (has rs q) (all_in_at qs rs q h))
 
 -- rows put in where there is none
 pub insert_rows-all : (rs : List ℕ) → IsAscending rs → insert_rows rs [] ≡ rs

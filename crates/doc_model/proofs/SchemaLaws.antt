@@ -1,19 +1,15 @@
 -- What the schema tables are, and what is sound in them.
-use Rattle.std.proofs.Common.{ℕ, zero, suc, pos, Bool, true, false, cond, not, ◌||◌, ◌&&◌, ◌+◌, ◌*◌, ◌-◌, List, [], ◌∷◌, ◌++◌, map, ◌≡◌, ◌<◌, ◌≤◌, length, refl, sym, ap, subst, ◌∙◌, Option, Some, None, eqb, ltb, arith}
-use Rattle.std.proofs.lemmas.Bool.{false≢true, true≢false, and_parts, or_right, eqb-true, ltb-true, leb-true, le-leb}
+use Rattle.std.proofs.Common.{ℕ, zero, suc, Bool, true, false, cond, not, ◌||◌, ◌&&◌, ◌+◌, ◌*◌, ◌-◌, List, [], ◌∷◌, map, ◌≡◌, ◌≤◌, length, refl, sym, ap, subst, ◌∙◌, eqb, ltb, arith}
+use Rattle.std.proofs.lemmas.Bool.{and_parts, eqb-true, leb-true, le-leb}
 use Rattle.std.specs.Prelude.{nat_le}
-use Rattle.std.specs.List.{list_any, list_all, AllByRecursion}
+use Rattle.std.specs.List.{AllByRecursion}
 use Rattle.std.specs.Str.{bytes_eq, chars, chars_after, continuation_len, lead_bits}
 use Rattle.cell_types.specs.NameRule.{is_name, has_name_characters, is_reserved}
-use Rattle.cell_types.specs.declared.column_type.ColType.{ColType}
-use Rattle.cell_types.specs.declared.column_type.ColType.TheVariants as type
-use Rattle.cell_types.specs.declared.value.CellValue.{CellValue}
 use Rattle.cell_types.specs.declared.value.CellValue.TheVariants.{Null}
 use Rattle.doc_model.specs.declared.column.ColDef.{ColDef}
-use Rattle.doc_model.specs.declared.column.ColInfo.{ColInfo}
-use Rattle.doc_model.specs.Grid.{Grid, beside, IsGrid, cell}
+use Rattle.doc_model.specs.Grid.{Grid, beside, cell}
 use Rattle.doc_model.specs.Rows.{has, insert_row, IsAscending}
-use Rattle.doc_model.specs.Column.{column_id, is_short, is_base, is_sound_info, is_sound_type}
+use Rattle.doc_model.specs.Column.{column_id, is_short, is_base}
 use Rattle.doc_model.specs.Schema.{Described, described_row, put_described, in_order}
 use Rattle.doc_model.proofs.RowsLaws.{has-insert_row, IsAscending-insert_row}
 
@@ -22,9 +18,9 @@ continuation_few b =
     elim (ltb b 128) as (λ x. cond x 0 (cond (ltb b 224) 1 (cond (ltb b 240) 2 3)) ≤ 3) [
       | true ↦ omega arith
       | false ↦ elim (ltb b 224) as (λ x. cond x 1 (cond (ltb b 240) 2 3) ≤ 3) [
-          | true ↦ omega arith
-          | false ↦ elim (ltb b 240) as (λ x. cond x 2 3 ≤ 3) [ true ↦ omega arith | false ↦ omega arith ]
-        ]
+        | true ↦ omega arith
+        | false ↦ elim (ltb b 240) as (λ x. cond x 2 3 ≤ 3) [ true ↦ omega arith | false ↦ omega arith ]
+      ]
     ]
 
 chars_bound : (n c : ℕ) (bs : List ℕ) → length bs ≤ n + 4 * length (chars_after n c bs)
@@ -66,13 +62,13 @@ pub rows-put_described : (e : Described) (es : List Described) → map described
 rows-put_described e [] = refl
 rows-put_described e (x ∷ es) =
     elim (ltb e.column.row x.column.row) as (λ b. map described_row (cond b (e ∷ x ∷ es) (cond (eqb e.column.row x.column.row) (e ∷ es) (x ∷ put_described e es)))
-        ≡ cond b (e.column.row ∷ x.column.row ∷ map described_row es) (cond (eqb e.column.row x.column.row) (x.column.row ∷ map described_row es) (x.column.row ∷ insert_row e.column.row (map described_row es)))) [
+    ≡ cond b (e.column.row ∷ x.column.row ∷ map described_row es) (cond (eqb e.column.row x.column.row) (x.column.row ∷ map described_row es) (x.column.row ∷ insert_row e.column.row (map described_row es)))) [
       | true ↦ refl
       | false ↦ elim (eqb e.column.row x.column.row) as (λ b. eqb e.column.row x.column.row ≡ b → map described_row (cond b (e ∷ es) (x ∷ put_described e es))
-            ≡ cond b (x.column.row ∷ map described_row es) (x.column.row ∷ insert_row e.column.row (map described_row es))) [
-          | true ↦ λ is. ap (λ q. q ∷ map described_row es) (eqb-true e.column.row x.column.row is)
-          | false ↦ λ _. ap (λ rows. x.column.row ∷ rows) (rows-put_described e es)
-        ] refl
+          ≡ cond b (x.column.row ∷ map described_row es) (x.column.row ∷ insert_row e.column.row (map described_row es))) [
+            | true ↦ λ is. ap (λ q. q ∷ map described_row es) (eqb-true e.column.row x.column.row is)
+            | false ↦ λ _. ap (λ rows. x.column.row ∷ rows) (rows-put_described e es)
+          ] refl
     ]
 
 pub has-in_order : (es : List Described) (r : ℕ) → has (map described_row (in_order es)) r ≡ has (map described_row es) r
@@ -108,4 +104,4 @@ beside_each_holds P test (k ∷ ks) (v ∷ vs) d p h = elim (test k) as (λ b. P
 pub base_cell : (g : Grid ColDef) (c : List ℕ) (r : ℕ) → AllByRecursion (AllByRecursion (λ v. is_base v ≡ true)) g.cells → is_base (cell column_id g c r) ≡ true
 base_cell g c r h =
     beside_each_holds (λ v. is_base v ≡ true) (λ d. bytes_eq (column_id d) c) g.columns (beside (λ q. eqb q r) g.rows g.cells []) Null refl
-      (beside_each_holds (AllByRecursion (λ v. is_base v ≡ true)) (λ q. eqb q r) g.rows g.cells [] tt h)
+    (beside_each_holds (AllByRecursion (λ v. is_base v ≡ true)) (λ q. eqb q r) g.rows g.cells [] tt h)

@@ -1,28 +1,26 @@
 -- Actions that add, remove and rename tables: what they leave whole, and that what undoes them does so.
-use Rattle.std.proofs.Common.{ℕ, Bool, true, false, cond, not, ◌||◌, ◌&&◌, ◌+◌, List, [], ◌∷◌, map, ◌≡◌, ◌<◌, ◌≤◌, length, refl, sym, ap, subst, ◌∙◌, Option, Some, None, eqb, ltb, arith}
-use Rattle.std.proofs.lemmas.Bool.{false≢true, true≢false, and_parts, lt-ltb, ltb-true}
+use Rattle.std.proofs.Common.{ℕ, Bool, true, false, not, ◌&&◌, ◌+◌, List, [], ◌∷◌, map, ◌≡◌, ◌<◌, ◌≤◌, length, refl, sym, ap, subst, ◌∙◌, Some, eqb, ltb, arith}
+use Rattle.std.proofs.lemmas.Bool.{false≢true, and_parts, lt-ltb, ltb-true}
 use Rattle.std.specs.List.{list_all, AllByRecursion}
 use Rattle.std.specs.Str.{bytes_eq}
 use Rattle.cell_types.specs.NameRule.{is_name}
 use Rattle.cell_types.specs.declared.value.CellValue.{CellValue}
-use Rattle.doc_model.specs.declared.action.DocAction.{DocAction}
 use Rattle.doc_model.specs.declared.action.DocAction.TheVariants.{BulkAdd, AddTable, RemoveTable, RenameTable}
-use Rattle.doc_model.specs.declared.column.CellColumn.{CellColumn}
 use Rattle.doc_model.specs.declared.column.ColDef.{ColDef}
 use Rattle.doc_model.specs.MetadataIds.{tables_id, columns_id}
-use Rattle.doc_model.specs.ByIds.{find_id, has_id, AreDistinct, are_distinct, with_id, without_id}
+use Rattle.doc_model.specs.ByIds.{find_id, has_id, are_distinct, without_id}
 use Rattle.doc_model.specs.Rows.{has, is_once, none_in, IsAscending}
 use Rattle.doc_model.specs.Grid.{Grid}
 use Rattle.doc_model.specs.Records.{add_rows}
 use Rattle.doc_model.specs.Column.{column_id, column_row, start_of, is_sound_info}
 use Rattle.doc_model.specs.Document.{Table, Document, table_id, table_row, on_grid, renamed, with_table, put_by_row, by_row}
-use Rattle.doc_model.specs.Schema.{described_row, all_columns, in_order, with_schema}
+use Rattle.doc_model.specs.Schema.{all_columns, with_schema}
 use Rattle.doc_model.specs.Sound.{IsSoundGrid, has_names}
 use Rattle.doc_model.specs.Valid.{passes, schema_table, record_table, rows_of, from_one, are_free, is_new_table, gives_data, valid}
 use Rattle.doc_model.specs.Apply.{new_table, effect}
 use Rattle.doc_model.specs.Inverse.{made_of, data_columns, table_again, inverse}
 use Rattle.doc_model.specs.ViewEdits.{if_any}
-use Rattle.doc_model.proofs.Choices.{cond_true, cond_false, not_true, parts_3, parts_6, both_true, true_each, each_true, each_weaker, each_mapped, each_unmapped}
+use Rattle.doc_model.proofs.Choices.{cond_true, not_true, parts_3, parts_6, both_true, true_each, each_true, each_weaker, each_mapped, each_unmapped}
 use Rattle.doc_model.proofs.ByIdsLaws.{bytes_itself, found_id, found_all, has_found, are_distinct-AreDistinct, AreDistinct-are_distinct}
 use Rattle.doc_model.proofs.RowsLaws.{all_in_itself}
 use Rattle.doc_model.proofs.ByRowLaws.{each_by_row, IsAscending-by_row, by_row_again, AreDistinct-by_row, find-put_by_row, without-put_by_row, put_by_row-without, with_id-put_by_row, with_id_back, find-new_id, has-old_id, apart_ids, has_id-without_id}
@@ -76,8 +74,8 @@ module _ (r u : Grid ColDef) (p : List Table) (good : IsGood r u p) where
   pub add_table_outcome : (table : List ℕ) (row : ℕ) (columns : List ColDef) → valid whole (AddTable table row columns) ≡ true → Outcome whole (AddTable table row columns) (inverse whole (AddTable table row columns))
   add_table_outcome table row columns v =
       let six : (is_new_table whole table ≡ true) × (are_free whole tables_id (row ∷ []) ≡ true) × (are_distinct column_id columns ≡ true) × (list_all (λ (d : ColDef). is_name d.id) columns ≡ true)
-            × (are_free whole columns_id (map column_row columns) ≡ true) × (list_all (λ (d : ColDef). is_sound_info d.info) columns ≡ true)
-        = parts_6 (is_new_table whole table) (are_free whole tables_id (row ∷ [])) (are_distinct column_id columns) (list_all (λ (d : ColDef). is_name d.id) columns) (are_free whole columns_id (map column_row columns)) (list_all (λ (d : ColDef). is_sound_info d.info) columns) v in
+      × (are_free whole columns_id (map column_row columns) ≡ true) × (list_all (λ (d : ColDef). is_sound_info d.info) columns ≡ true)
+      = parts_6 (is_new_table whole table) (are_free whole tables_id (row ∷ [])) (are_distinct column_id columns) (list_all (λ (d : ColDef). is_name d.id) columns) (are_free whole columns_id (map column_row columns)) (list_all (λ (d : ColDef). is_sound_info d.info) columns) v in
       let new : (not (has_id table_id whole table) ≡ true) × (is_name table ≡ true) = and_parts (not (has_id table_id whole table)) (is_name table) six.0 in
       let absent : IsPlain table × (has_id table_id p table ≡ false) = absent_parts r u p table (not_true (has_id table_id whole table) new.0) in
       let row_free : (0 < row) × (has (rows_of whole tables_id) row ≡ false) = one_free_parts whole tables_id row six.1 in
@@ -90,19 +88,19 @@ module _ (r u : Grid ColDef) (p : List Table) (good : IsGood r u p) where
         holds = λ d q found here. absurd (false≢true here);
       } in
       let names : has_names t ≡ true = both_true (is_name table) (list_all (λ (d : ColDef). is_name d.id) (by_row column_row columns)) new.1
-        (true_each (λ (d : ColDef). is_name d.id) (by_row column_row columns) (each_by_row column_row (λ d. is_name d.id ≡ true) columns (each_true (λ (d : ColDef). is_name d.id) columns six.3))) in
+      (true_each (λ (d : ColDef). is_name d.id) (by_row column_row columns) (each_by_row column_row (λ d. is_name d.id ≡ true) columns (each_true (λ (d : ColDef). is_name d.id) columns six.3))) in
       record {
         resources = r;
         rules = u;
         plain = put_by_row table_row t p;
         becomes = refl;
         good = good_added r u p good t absent.0 absent.1 sound names (IsAscending-by_row column_row columns free.1)
-          (each_mapped (λ q. 0 < q) column_row (by_row column_row columns) (each_by_row column_row (λ d. 0 < column_row d) columns (each_unmapped (λ q. 0 < q) column_row columns (from_one_each (map column_row columns) free.0))))
-          row_free.0 (ap (λ rows. has rows row) (sym (rows_of-tables r u p)) ∙ row_free.1)
-          (λ q. once q free.1 free.2);
+            (each_mapped (λ q. 0 < q) column_row (by_row column_row columns) (each_by_row column_row (λ d. 0 < column_row d) columns (each_unmapped (λ q. 0 < q) column_row columns (from_one_each (map column_row columns) free.0))))
+            row_free.0 (ap (λ rows. has rows row) (sym (rows_of-tables r u p)) ∙ row_free.1)
+            (λ q. once q free.1 free.2);
         leads = one_back whole (with_schema r u (put_by_row table_row t p)) (RemoveTable table)
-          (ap (λ o. passes o (λ (_ : Table). true)) (schema_table_plain r u (put_by_row table_row t p) table absent.0 ∙ find-put_by_row table_row table_id t p table absent.1 ∙ cond_true (bytes_eq table table) (Some t) (find_id table_id table p) (bytes_itself table)))
-          (ap (with_schema r u) (without-put_by_row table_row table_id t p absent.1));
+            (ap (λ o. passes o (λ (_ : Table). true)) (schema_table_plain r u (put_by_row table_row t p) table absent.0 ∙ find-put_by_row table_row table_id t p table absent.1 ∙ cond_true (bytes_eq table table) (Some t) (find_id table_id table p) (bytes_itself table)))
+            (ap (with_schema r u) (without-put_by_row table_row table_id t p absent.1));
       }
     where
       once : (q : ℕ) → is_once (map column_row columns) ≡ true → none_in (map column_row columns) (rows_of whole columns_id) ≡ true → times q (map column_row (by_row column_row columns)) + times q (column_rows p) ≤ 1
@@ -160,18 +158,18 @@ module _ (r u : Grid ColDef) (p : List Table) (good : IsGood r u p) where
     valid_again : valid after (AddTable t.id t.row t.grid.columns) ≡ true
     valid_again =
         both_true ((((is_new_table after t.id && are_free after tables_id (t.row ∷ [])) && are_distinct column_id t.grid.columns) && list_all (λ (d : ColDef). is_name d.id) t.grid.columns) && are_free after columns_id (own t)) (list_all (λ (d : ColDef). is_sound_info d.info) t.grid.columns)
-          (both_true (((is_new_table after t.id && are_free after tables_id (t.row ∷ [])) && are_distinct column_id t.grid.columns) && list_all (λ (d : ColDef). is_name d.id) t.grid.columns) (are_free after columns_id (own t))
-            (both_true ((is_new_table after t.id && are_free after tables_id (t.row ∷ [])) && are_distinct column_id t.grid.columns) (list_all (λ (d : ColDef). is_name d.id) t.grid.columns)
-              (both_true (is_new_table after t.id && are_free after tables_id (t.row ∷ [])) (are_distinct column_id t.grid.columns)
-                (both_true (is_new_table after t.id) (are_free after tables_id (t.row ∷ []))
-                  (both_true (not (has_id table_id after t.id)) (is_name t.id) (ap not (has_plain r u left t.id plain ∙ table_absent)) names_t.0)
-                  (one_free after tables_id t.row row_positive row_absent))
-                (are_distinct-AreDistinct column_id t.grid.columns sound_t.is_grid.distinct))
-              (true_each (λ (d : ColDef). is_name d.id) t.grid.columns names_t.1))
-            (free_from after columns_id (own t)
-              (true_each (λ q. ltb 0 q) (own t) (each_weaker (λ q. 0 < q) (λ q. ltb 0 q ≡ true) (λ q l. lt-ltb 0 q l) (own t) (found_all table_id (λ t. AllByRecursion (λ q. 0 < q) (own t)) t.id p t good.columns_from_one found)))
-              (once_ascending (own t) ascend_t) own_absent))
-          (true_each (λ (d : ColDef). is_sound_info d.info) t.grid.columns sound_t.infos)
+        (both_true (((is_new_table after t.id && are_free after tables_id (t.row ∷ [])) && are_distinct column_id t.grid.columns) && list_all (λ (d : ColDef). is_name d.id) t.grid.columns) (are_free after columns_id (own t))
+        (both_true ((is_new_table after t.id && are_free after tables_id (t.row ∷ [])) && are_distinct column_id t.grid.columns) (list_all (λ (d : ColDef). is_name d.id) t.grid.columns)
+        (both_true (is_new_table after t.id && are_free after tables_id (t.row ∷ [])) (are_distinct column_id t.grid.columns)
+        (both_true (is_new_table after t.id) (are_free after tables_id (t.row ∷ []))
+        (both_true (not (has_id table_id after t.id)) (is_name t.id) (ap not (has_plain r u left t.id plain ∙ table_absent)) names_t.0)
+        (one_free after tables_id t.row row_positive row_absent))
+        (are_distinct-AreDistinct column_id t.grid.columns sound_t.is_grid.distinct))
+        (true_each (λ (d : ColDef). is_name d.id) t.grid.columns names_t.1))
+        (free_from after columns_id (own t)
+        (true_each (λ q. ltb 0 q) (own t) (each_weaker (λ q. 0 < q) (λ q. ltb 0 q ≡ true) (λ q l. lt-ltb 0 q l) (own t) (found_all table_id (λ t. AllByRecursion (λ q. 0 < q) (own t)) t.id p t good.columns_from_one found)))
+        (once_ascending (own t) ascend_t) own_absent))
+        (true_each (λ (d : ColDef). is_sound_info d.info) t.grid.columns sound_t.infos)
 
     -- the table as it comes back, without its rows
     abbrev empty : Table
@@ -205,10 +203,10 @@ module _ (r u : Grid ColDef) (p : List Table) (good : IsGood r u p) where
     valid_rows =
         ap (λ o. passes o (λ x. is_once t.grid.rows && from_one t.grid.rows && none_in t.grid.rows x.grid.rows && gives_data x.grid t.grid.rows (data_columns t.grid t.grid.rows))) found_between
         ∙ both_true ((is_once t.grid.rows && from_one t.grid.rows) && none_in t.grid.rows []) (gives_data (bare t.grid) t.grid.rows (data_columns t.grid t.grid.rows))
-            (both_true (is_once t.grid.rows && from_one t.grid.rows) (none_in t.grid.rows [])
-              (both_true (is_once t.grid.rows) (from_one t.grid.rows) (once_ascending t.grid.rows sound_t.is_grid.ascending) (from_one_in t.grid.rows t.grid sound_t (all_in_itself t.grid.rows)))
-              (none_there t.grid.rows))
-            (gives_data_columns t.grid (bare t.grid) t.grid.rows sound_t refl (all_in_itself t.grid.rows))
+        (both_true (is_once t.grid.rows && from_one t.grid.rows) (none_in t.grid.rows [])
+        (both_true (is_once t.grid.rows) (from_one t.grid.rows) (once_ascending t.grid.rows sound_t.is_grid.ascending) (from_one_in t.grid.rows t.grid sound_t (all_in_itself t.grid.rows)))
+        (none_there t.grid.rows))
+        (gives_data_columns t.grid (bare t.grid) t.grid.rows sound_t refl (all_in_itself t.grid.rows))
       where
         none_there : (rows : List ℕ) → none_in rows [] ≡ true
         none_there [] = refl
@@ -219,9 +217,9 @@ module _ (r u : Grid ColDef) (p : List Table) (good : IsGood r u p) where
         let f : Grid ColDef → Grid ColDef = add_rows column_id start_of t.grid.rows (data_columns t.grid t.grid.rows) in
         with_table-plain r u (put_by_row table_row empty left) t.id f plain (λ g. refl)
         ∙ ap (with_schema r u)
-            (with_id-put_by_row table_id table_row (on_grid f) empty left refl table_absent
-            ∙ ap (λ g. put_by_row table_row (record { id = t.id; row = t.row; grid = g }) left) (add_rows-bare t.grid sound_t)
-            ∙ filled)
+        (with_id-put_by_row table_id table_row (on_grid f) empty left refl table_absent
+        ∙ ap (λ g. put_by_row table_row (record { id = t.id; row = t.row; grid = g }) left) (add_rows-bare t.grid sound_t)
+        ∙ filled)
 
     table_back : LeadsBack after whole (table_again t)
     table_back =
@@ -243,7 +241,7 @@ module _ (r u : Grid ColDef) (p : List Table) (good : IsGood r u p) where
         becomes = refl;
         good = good_removed r u p good table t at.1;
         leads = subst (λ o. LeadsBack (with_schema r u (without_id table_id table p)) whole (made_of o table_again)) (sym (find_plain r u p table at.0 ∙ at.1))
-          (subst (λ id. LeadsBack (with_schema r u (without_id table_id id p)) whole (table_again t)) named
+            (subst (λ id. LeadsBack (with_schema r u (without_id table_id id p)) whole (table_again t)) named
             (table_back t (subst IsPlain (sym named) at.0) (ap (λ id. find_id table_id id p) named ∙ at.1)));
       }
 
@@ -265,11 +263,11 @@ module _ (r u : Grid ColDef) (p : List Table) (good : IsGood r u p) where
         plain = q;
         becomes = refl;
         good = good_renamed r u p good table new t absent.0 absent.1 at.1
-          (both_true (is_name new) (list_all (λ (d : ColDef). is_name d.id) t.grid.columns) fresh.1 (true_each (λ (d : ColDef). is_name d.id) t.grid.columns names.1));
+            (both_true (is_name new) (list_all (λ (d : ColDef). is_name d.id) t.grid.columns) fresh.1 (true_each (λ (d : ColDef). is_name d.id) t.grid.columns names.1));
         leads = one_back whole (with_schema r u q) (RenameTable new table)
-          (ap (λ o. passes o (λ (_ : Table). is_new_table (with_schema r u q) table)) (schema_table_plain r u q new absent.0 ∙ find-new_id table_id table new (renamed new) p t (λ x. refl) at.1 absent.1)
+            (ap (λ o. passes o (λ (_ : Table). is_new_table (with_schema r u q) table)) (schema_table_plain r u q new absent.0 ∙ find-new_id table_id table new (renamed new) p t (λ x. refl) at.1 absent.1)
             ∙ both_true (not (has_id table_id (with_schema r u q) table)) (is_name table)
-                (ap not (has_plain r u q table at.0 ∙ has-old_id table_id table new (renamed new) p (λ x. refl) (apart_ids table_id table new p (has_found table_id table p t at.1) absent.1)))
-                (ap is_name (sym named) ∙ names.0))
-          (ap (with_schema r u) (with_id_back table_id table new (renamed new) (renamed table) p (λ x. refl) (λ x e. ap (λ n. let y : Table = record { id = n; row = x.row; grid = x.grid } in y) (sym e)) absent.1));
+            (ap not (has_plain r u q table at.0 ∙ has-old_id table_id table new (renamed new) p (λ x. refl) (apart_ids table_id table new p (has_found table_id table p t at.1) absent.1)))
+            (ap is_name (sym named) ∙ names.0))
+            (ap (with_schema r u) (with_id_back table_id table new (renamed new) (renamed table) p (λ x. refl) (λ x e. ap (λ n. let y : Table = record { id = n; row = x.row; grid = x.grid } in y) (sym e)) absent.1));
       }

@@ -1,14 +1,14 @@
 -- How often a number stands in a list.
-use Rattle.std.proofs.Common.{ℕ, Bool, true, false, cond, not, ◌||◌, ◌&&◌, ◌+◌, List, [], ◌∷◌, ◌++◌, map, filter, ◌≡◌, ◌<◌, ◌≤◌, refl, sym, ap, subst, ◌∙◌, Option, Some, None, eqb, ltb, arith}
+use Rattle.std.proofs.Common.{ℕ, Bool, true, false, cond, not, ◌||◌, ◌+◌, List, [], ◌∷◌, ◌++◌, map, ◌≡◌, ◌≤◌, refl, sym, ap, subst, ◌∙◌, Some, eqb, ltb, arith}
 use Rattle.std.proofs.lemmas.Bool.{false≢true, true≢false, eqb-true, and_parts}
 use Rattle.std.proofs.lemmas.Slice.Eq.{bytes_eq-Decides}
-use Rattle.std.specs.List.{list_any, list_all, AllByRecursion}
+use Rattle.std.specs.List.{list_all, AllByRecursion}
 use Rattle.std.specs.Str.{bytes_eq}
-use Rattle.doc_model.specs.ByIds.{find_id, has_id, AreDistinct, without_id}
+use Rattle.doc_model.specs.ByIds.{find_id, AreDistinct, without_id}
 use Rattle.doc_model.specs.Rows.{has, is_once, none_in, IsAscending}
 use Rattle.doc_model.specs.Document.{put_by_row, by_row}
-use Rattle.doc_model.proofs.Choices.{cond_true, cond_false, not_true, both_true, each_true, true_each, filter_all, each_weaker}
-use Rattle.doc_model.proofs.ByIdsLaws.{bytes_apart, has_apart}
+use Rattle.doc_model.proofs.Choices.{not_true, both_true, filter_all, each_weaker}
+use Rattle.doc_model.proofs.ByIdsLaws.{bytes_apart}
 use Rattle.doc_model.proofs.RowsLaws.{number_itself, has_below}
 
 abbrev pub one_if : Bool → ℕ
@@ -62,7 +62,7 @@ once-times (q ∷ rows) h =
     let here : one_if (eqb q q) + times q rows ≤ 1 = h q in
     let none : times q rows ≡ 0 = omega arith in
     both_true (not (has rows q)) (is_once rows) (ap not (absent-times q rows none))
-      (once-times rows (λ r. let some : one_if (eqb q r) + times r rows ≤ 1 = h r in omega arith))
+    (once-times rows (λ r. let some : one_if (eqb q r) + times r rows ≤ 1 = h r in omega arith))
 
 pub times-append : (r : ℕ) (xs ys : List ℕ) → times r (xs ++ ys) ≡ times r xs + times r ys
 times-append r [] ys = omega arith
@@ -77,8 +77,8 @@ pub none_in-times : (new rows : List ℕ) → ((r : ℕ) → has new r ≡ true 
 none_in-times [] rows h = refl
 none_in-times (q ∷ new) rows h =
     both_true (not (has rows q)) (list_all (λ q. not (has rows q)) new)
-      (ap not (absent-times q rows (h q (ap (λ b. b || has new q) (number_itself q)))))
-      (none_in-times new rows (λ r e. h r (later (eqb q r) (has new r) e)))
+    (ap not (absent-times q rows (h q (ap (λ b. b || has new q) (number_itself q)))))
+    (none_in-times new rows (λ r e. h r (later (eqb q r) (has new r) e)))
   where
     later : (a b : Bool) → b ≡ true → (a || b) ≡ true
     later true b e = refl
@@ -111,7 +111,7 @@ module _ {X : Type 0} (row : X → ℕ) (r : ℕ) where
   times-without_id id c [] x d f = absurd (cc)
   times-without_id id c (y ∷ ys) x d f =
       elim (bytes_eq (id y) c) as (λ b. bytes_eq (id y) c ≡ b → cond b (Some y) (find_id id c ys) ≡ Some x
-          → times r (map row (cond (not b) (y ∷ without_id id c ys) (without_id id c ys))) + one_if (eqb (row x) r) ≡ one_if (eqb (row y) r) + times r (map row ys)) [
+      → times r (map row (cond (not b) (y ∷ without_id id c ys) (without_id id c ys))) + one_if (eqb (row x) r) ≡ one_if (eqb (row y) r) + times r (map row ys)) [
         | true ↦ λ is f.
             let same : y ≡ x = cc in
             let apart : AllByRecursion (λ z. not (bytes_eq (id z) c) ≡ true) ys = each_weaker (λ z. bytes_eq c (id z) ≡ false) (λ z. not (bytes_eq (id z) c) ≡ true) (λ z e. ap not (bytes_apart c (id z) e)) ys (subst (λ n. AllByRecursion (λ z. bytes_eq n (id z) ≡ false) ys) ((bytes_eq-Decides (id y) c).0 is) d.0) in

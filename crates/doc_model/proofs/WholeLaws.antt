@@ -1,28 +1,27 @@
 -- A sound document that agrees with its schema, told by its parts.
-use Rattle.std.proofs.Common.{ℕ, pos, Bool, true, false, cond, not, ◌||◌, ◌&&◌, ◌+◌, List, [], ◌∷◌, ◌++◌, map, ◌≡◌, ◌<◌, ◌≤◌, length, refl, sym, ap, subst, ◌∙◌, Option, Some, None, eqb, ltb, arith}
-use Rattle.std.proofs.lemmas.Bool.{false≢true, true≢false, and_parts, or_right}
+use Rattle.std.proofs.Common.{ℕ, Bool, true, false, ◌||◌, ◌&&◌, ◌+◌, List, [], ◌∷◌, ◌++◌, map, ◌≡◌, ◌<◌, ◌≤◌, length, refl, sym, ap, subst, ◌∙◌, arith}
+use Rattle.std.proofs.lemmas.Bool.{true≢false, and_parts, or_right}
 use Rattle.std.proofs.lemmas.Slice.Eq.{bytes_eq-Decides}
 use Rattle.std.specs.Prelude.{codes}
-use Rattle.std.specs.List.{list_any, list_all, AllByRecursion}
+use Rattle.std.specs.List.{list_all, AllByRecursion}
 use Rattle.std.specs.Str.{bytes_eq}
 use Rattle.cell_types.specs.NameRule.{is_name}
 use Rattle.cell_types.specs.declared.column_type.ColType.{ColType}
 use Rattle.cell_types.specs.declared.column_type.ColType.TheVariants as type
-use Rattle.cell_types.specs.declared.value.CellValue.{CellValue}
 use Rattle.cell_types.specs.declared.value.CellValue.TheVariants as value
 use Rattle.doc_model.specs.declared.column.ColDef.{ColDef}
 use Rattle.doc_model.specs.declared.column.ColInfo.{ColInfo}
-use Rattle.doc_model.specs.MetadataIds.{tables_id, columns_id, resources_id, rules_id, is_schema_id, is_acl_id, is_metadata_id}
-use Rattle.doc_model.specs.ByIds.{find_id, has_id, AreDistinct}
+use Rattle.doc_model.specs.MetadataIds.{tables_id, columns_id, resources_id, rules_id, is_metadata_id}
+use Rattle.doc_model.specs.ByIds.{AreDistinct}
 use Rattle.doc_model.specs.Rows.{has, is_once, IsAscending}
-use Rattle.doc_model.specs.Grid.{Grid, IsGrid, cell}
+use Rattle.doc_model.specs.Grid.{Grid, cell}
 use Rattle.doc_model.specs.Column.{column_id, column_row, is_short, is_base, is_sound_info, is_sound_type, may_hold}
 use Rattle.doc_model.specs.Document.{Table, Document, table_id, table_row}
-use Rattle.doc_model.specs.Schema.{tables_columns, columns_columns, resources_columns, rules_columns, type_text, Described, described_row, describe, all_columns, in_order, tables_grid, columns_grid, with_schema, resources, rules, plain_tables, SchemaAgrees}
+use Rattle.doc_model.specs.Schema.{tables_columns, columns_columns, resources_columns, rules_columns, type_text, Described, described_row, describe, all_columns, in_order, tables_grid, columns_grid, with_schema, resources, rules, plain_tables}
 use Rattle.doc_model.specs.Sound.{IsSoundGrid, has_names, IsSound}
 use Rattle.doc_model.specs.DocumentLaws.{IsWhole}
-use Rattle.doc_model.proofs.Choices.{cond_true, cond_false, each_weaker, each_map, each_mapped, each_unmapped, each_both, each_true, length_map, map-map}
-use Rattle.doc_model.proofs.ByIdsLaws.{found_all, bytes_apart}
+use Rattle.doc_model.proofs.Choices.{each_weaker, each_map, each_mapped, each_true, length_map, map-map}
+use Rattle.doc_model.proofs.ByIdsLaws.{found_all}
 use Rattle.doc_model.proofs.RowsLaws.{each_has, each_at}
 use Rattle.doc_model.proofs.SoundLaws.{held_base}
 use Rattle.doc_model.proofs.SchemaLaws.{short_from, short_name, name_bytes, has-in_order, IsAscending-in_order, each_in_order, base_cell}
@@ -135,7 +134,7 @@ none_of false false false false e = (refl, refl, refl, refl)
 pub plain_from : (id : List ℕ) → is_metadata_id id ≡ false → IsPlain id
 plain_from id e =
     let four : (bytes_eq tables_id id ≡ false) × (bytes_eq columns_id id ≡ false) × (bytes_eq resources_id id ≡ false) × (bytes_eq rules_id id ≡ false)
-      = none_of (bytes_eq tables_id id) (bytes_eq columns_id id) (bytes_eq resources_id id) (bytes_eq rules_id id) e in
+    = none_of (bytes_eq tables_id id) (bytes_eq columns_id id) (bytes_eq resources_id id) (bytes_eq rules_id id) e in
     record { tables = four.0; columns = four.1; resources = four.2; rules = four.3 }
 
 pub metadata_from : (id : List ℕ) → IsPlain id → is_metadata_id id ≡ false
@@ -153,12 +152,12 @@ short_metadata id e =
     elim (bytes_eq tables_id id) as (λ b. bytes_eq tables_id id ≡ b → ((b || bytes_eq columns_id id) || (bytes_eq resources_id id || bytes_eq rules_id id)) ≡ true → length id ≤ 260) [
       | true ↦ λ is _. bound tables_id is (omega arith)
       | false ↦ λ _. elim (bytes_eq columns_id id) as (λ b. bytes_eq columns_id id ≡ b → (b || (bytes_eq resources_id id || bytes_eq rules_id id)) ≡ true → length id ≤ 260) [
-          | true ↦ λ is _. bound columns_id is (omega arith)
-          | false ↦ λ _. elim (bytes_eq resources_id id) as (λ b. bytes_eq resources_id id ≡ b → (b || bytes_eq rules_id id) ≡ true → length id ≤ 260) [
-              | true ↦ λ is _. bound resources_id is (omega arith)
-              | false ↦ λ _ is. bound rules_id is (omega arith)
-            ] refl
+        | true ↦ λ is _. bound columns_id is (omega arith)
+        | false ↦ λ _. elim (bytes_eq resources_id id) as (λ b. bytes_eq resources_id id ≡ b → (b || bytes_eq rules_id id) ≡ true → length id ≤ 260) [
+          | true ↦ λ is _. bound resources_id is (omega arith)
+          | false ↦ λ _ is. bound rules_id is (omega arith)
         ] refl
+      ] refl
     ] refl e
   where
     bound : (m : List ℕ) → bytes_eq m id ≡ true → length m ≤ 260 → length id ≤ 260
@@ -210,8 +209,8 @@ tables_sound r u p good = record {
   from_one = good.table_rows;
   infos = (refl, tt);
   holds = λ d r found here. held_base d (cell column_id (tables_grid p) d.id r)
-    (found_all column_id (λ d. d.info.is_formula ≡ false) d.id tables_columns d (refl, tt) found)
-    (base_cell (tables_grid p) d.id r (each_mapped (AllByRecursion (λ v. is_base v ≡ true)) (λ (t : Table). value.Text t.id ∷ []) p
+      (found_all column_id (λ d. d.info.is_formula ≡ false) d.id tables_columns d (refl, tt) found)
+      (base_cell (tables_grid p) d.id r (each_mapped (AllByRecursion (λ v. is_base v ≡ true)) (λ (t : Table). value.Text t.id ∷ []) p
       (each_weaker (λ t. has_names t ≡ true) (λ (t : Table). AllByRecursion (λ v. is_base v ≡ true) (value.Text t.id ∷ [])) (λ t e. (short_name t.id (names_parts t e).0, tt)) p good.names)));
 }
 
@@ -233,7 +232,7 @@ all_shortly : (p : List Table) → AllByRecursion (λ t. IsSoundGrid t.grid) p �
 all_shortly [] g n = tt
 all_shortly (t ∷ p) g n =
     each_append IsShortly (map (λ (d : ColDef). let e : Described = record { parent = t.row; column = d } in e) t.grid.columns) (all_columns p)
-      (shortly_described t.row t.grid.columns (names_parts t n.0).1 g.0.infos) (all_shortly p g.1 n.1)
+    (shortly_described t.row t.grid.columns (names_parts t n.0).1 g.0.infos) (all_shortly p g.1 n.1)
 
 columns_distinct : AreDistinct column_id columns_columns
 columns_distinct = ((refl, (refl, (refl, (refl, tt)))), ((refl, (refl, (refl, tt))), ((refl, (refl, tt)), ((refl, tt), (tt, tt)))))
@@ -251,8 +250,8 @@ columns_sound r u p good =
       from_one = each_has (λ q. 0 < q) (map described_row es) (λ q here. each_at (λ q. 0 < q) (column_rows p) q (each_column_row (λ q. 0 < q) p good.columns_from_one) (ap (λ rows. has rows q) (sym (described_rows p)) ∙ sym (has-in_order (all_columns p) q) ∙ here));
       infos = (ap (λ b. (b && is_short []) && true) (or_right (is_name tables_id) (is_metadata_id tables_id) tables_metadata), (refl, (refl, (refl, (refl, tt)))));
       holds = λ d r found here. held_base d (cell column_id (columns_grid p) d.id r)
-        (found_all column_id (λ d. d.info.is_formula ≡ false) d.id columns_columns d (refl, (refl, (refl, (refl, (refl, tt))))) found)
-        (base_cell (columns_grid p) d.id r (each_mapped (AllByRecursion (λ v. is_base v ≡ true)) describe es
+          (found_all column_id (λ d. d.info.is_formula ≡ false) d.id columns_columns d (refl, (refl, (refl, (refl, (refl, tt))))) found)
+          (base_cell (columns_grid p) d.id r (each_mapped (AllByRecursion (λ v. is_base v ≡ true)) describe es
           (each_weaker IsShortly (λ e. AllByRecursion (λ v. is_base v ≡ true) (describe e)) (λ e h. (refl, (h.0, (h.1, (refl, (h.2, tt)))))) es (each_in_order IsShortly (all_columns p) (all_shortly p good.grids good.names)))));
     }
 
@@ -271,14 +270,31 @@ whole_from r u p good = record {
   sound = record {
     distinct = (
       (tables_columns_apart, (tables_resources_apart, (tables_rules_apart, each_weaker (λ t. IsPlain t.id) (λ t. bytes_eq tables_id t.id ≡ false) (λ t h. h.tables) p plains))),
-      ((columns_resources_apart, (columns_rules_apart, each_weaker (λ t. IsPlain t.id) (λ t. bytes_eq columns_id t.id ≡ false) (λ t h. h.columns) p plains)),
-      ((resources_rules_apart, each_weaker (λ t. IsPlain t.id) (λ t. bytes_eq resources_id t.id ≡ false) (λ t h. h.resources) p plains),
-      (each_weaker (λ t. IsPlain t.id) (λ t. bytes_eq rules_id t.id ≡ false) (λ t h. h.rules) p plains,
-      good.distinct))),
+      (
+        (columns_resources_apart, (columns_rules_apart, each_weaker (λ t. IsPlain t.id) (λ t. bytes_eq columns_id t.id ≡ false) (λ t h. h.columns) p plains)),
+        (
+          (resources_rules_apart, each_weaker (λ t. IsPlain t.id) (λ t. bytes_eq resources_id t.id ≡ false) (λ t h. h.resources) p plains),
+          (
+            each_weaker (λ t. IsPlain t.id) (λ t. bytes_eq rules_id t.id ≡ false) (λ t h. h.rules) p plains,
+            good.distinct,
+          ),
+        ),
+      ),
     );
     grids = (tables_sound r u p good, (columns_sound r u p good, (good.resources_sound, (good.rules_sound, good.grids))));
-    names = (named _ tables_id tables_metadata, (named _ columns_id columns_metadata, (named _ resources_id resources_metadata, (named _ rules_id rules_metadata,
-      each_weaker (λ t. has_names t ≡ true) (λ t. (is_metadata_id t.id || has_names t) ≡ true) (λ t e. or_right (is_metadata_id t.id) (has_names t) e) p good.names))));
+    names = (
+      named _ tables_id tables_metadata,
+      (
+        named _ columns_id columns_metadata,
+        (
+          named _ resources_id resources_metadata,
+          (
+            named _ rules_id rules_metadata,
+            each_weaker (λ t. has_names t ≡ true) (λ t. (is_metadata_id t.id || has_names t) ≡ true) (λ t e. or_right (is_metadata_id t.id) (has_names t) e) p good.names,
+          ),
+        ),
+      ),
+    );
   };
 }
   where
@@ -294,7 +310,7 @@ good_from s whole =
     let whole' : IsSound (with_schema (resources s) (rules s) p) = subst IsSound whole.agrees.schema whole.sound in
     let d : AreDistinct table_id (with_schema (resources s) (rules s) p) = whole'.distinct in
     let plains : AllByRecursion (λ t. is_metadata_id t.id ≡ false) p
-      = plain_each p d.0.1.1.1 d.1.0.1.1 d.1.1.0.1 d.1.1.1.0 in
+    = plain_each p d.0.1.1.1 d.1.0.1.1 d.1.1.0.1 d.1.1.1.0 in
     record {
       resources_sound = whole'.grids.1.1.0;
       rules_sound = whole'.grids.1.1.1.0;
@@ -309,7 +325,7 @@ good_from s whole =
       columns_ascend = whole.agrees.columns_ascend;
       table_rows = whole'.grids.0.from_one;
       columns_from_one = each_table_rows (λ q. 0 < q) p (each_has (λ q. 0 < q) (column_rows p) (λ q here.
-        each_at (λ q. 0 < q) (map described_row (in_order (all_columns p))) q whole'.grids.1.0.from_one (has-in_order (all_columns p) q ∙ ap (λ rows. has rows q) (described_rows p) ∙ here)));
+          each_at (λ q. 0 < q) (map described_row (in_order (all_columns p))) q whole'.grids.1.0.from_one (has-in_order (all_columns p) q ∙ ap (λ rows. has rows q) (described_rows p) ∙ here)));
     }
   where
     plain_each : (p : List Table) → AllByRecursion (λ t. bytes_eq tables_id (table_id t) ≡ false) p → AllByRecursion (λ t. bytes_eq columns_id (table_id t) ≡ false) p

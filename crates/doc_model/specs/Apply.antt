@@ -1,5 +1,5 @@
 -- What a document action does.
-use Rattle.std.specs.Prelude.{ℕ, Bool, true, cond, ◌&&◌, List, [], ◌∷◌, map}
+use Rattle.std.specs.Prelude.{ℕ, Bool, true, cond, ◌&&◌, List, [], ◌∷◌}
 use Rattle.std.specs.Str.{bytes_eq}
 use Rattle.doc_model.specs.declared.action.DocAction.{DocAction}
 use Rattle.doc_model.specs.declared.action.DocAction.TheVariants.{BulkAdd, BulkUpdate, BulkRemove, AddTable, RemoveTable, RenameTable, AddColumn, RemoveColumn, RenameColumn, ModifyColumn}
@@ -25,7 +25,7 @@ new_table id row columns = record {
 abbrev pub add_column : ColDef → Grid ColDef → Grid ColDef
 add_column new g =
     grid_of (put_by_row column_row new g.columns) g.rows (λ d r.
-      cond (bytes_eq d.id new.id) (start_of new) (cell column_id g d.id r))
+    cond (bytes_eq d.id new.id) (start_of new) (cell column_id g d.id r))
 
 abbrev pub remove_column : List ℕ → Grid ColDef → Grid ColDef
 remove_column c g =

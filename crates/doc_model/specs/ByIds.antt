@@ -38,7 +38,7 @@ module _ {X : Type 0} (id : X → List ℕ) where
   place x [] = x ∷ []
   place x (y ∷ ys) =
       cond (precedes (id x) (id y)) (x ∷ y ∷ ys)
-        (cond (bytes_eq (id x) (id y)) (x ∷ ys) (y ∷ place x ys))
+      (cond (bytes_eq (id x) (id y)) (x ∷ ys) (y ∷ place x ys))
 
   -- the things in the order of their ids
   abbrev pub by_id : List X → List X

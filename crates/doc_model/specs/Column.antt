@@ -1,5 +1,5 @@
 -- Columns of a document, and what their cells may hold.
-use Rattle.std.specs.Prelude.{ℕ, pos, Bool, true, false, cond, not, ◌&&◌, ◌||◌, nat_le, List, [], length}
+use Rattle.std.specs.Prelude.{ℕ, pos, Bool, true, false, cond, ◌&&◌, ◌||◌, nat_le, List, [], length}
 use Rattle.std.specs.List.{list_all}
 use Rattle.cell_types.specs.NameRule.{is_name}
 use Rattle.cell_types.specs.declared.column_type.ColType.{ColType}

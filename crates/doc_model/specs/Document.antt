@@ -1,6 +1,5 @@
 -- Documents: tables with their ids, metadata rows, columns, rows and base cells.
-use Rattle.std.specs.Prelude.{ℕ, Bool, cond, nat_lt, List, [], ◌∷◌, map}
-use Rattle.std.specs.Str.{bytes_eq}
+use Rattle.std.specs.Prelude.{ℕ, cond, nat_lt, List, [], ◌∷◌}
 use Rattle.doc_model.specs.declared.column.ColDef.{ColDef}
 use Rattle.doc_model.specs.ByIds.{with_id}
 use Rattle.doc_model.specs.Grid.{Grid}

@@ -1,5 +1,5 @@
 -- What undoes a document action.
-use Rattle.std.specs.Prelude.{ℕ, Bool, cond, not, List, [], ◌∷◌, ◌++◌, map, filter, Option, Some, None}
+use Rattle.std.specs.Prelude.{ℕ, cond, not, List, [], ◌∷◌, ◌++◌, map, filter, Option, Some, None}
 use Rattle.doc_model.specs.declared.action.DocAction.{DocAction}
 use Rattle.doc_model.specs.declared.action.DocAction.TheVariants.{BulkAdd, BulkUpdate, BulkRemove, AddTable, RemoveTable, RenameTable, AddColumn, RemoveColumn, RenameColumn, ModifyColumn}
 use Rattle.doc_model.specs.declared.column.CellColumn.{CellColumn}
@@ -21,7 +21,7 @@ made_of (Some x) f = f x
 abbrev pub data_columns : Grid ColDef → List ℕ → List CellColumn
 data_columns g rows =
     map (λ (d : ColDef). column_of column_id g rows d.id)
-      (by_id column_id (filter (λ (d : ColDef). not d.info.is_formula) g.columns))
+    (by_id column_id (filter (λ (d : ColDef). not d.info.is_formula) g.columns))
 
 -- the old cells of the given columns, by column id
 abbrev pub old_columns : Grid ColDef → List ℕ → List CellColumn → List CellColumn
@@ -33,7 +33,7 @@ abbrev pub column_again : List ℕ → Grid ColDef → ColDef → List DocAction
 column_again table g d =
     AddColumn table d
     ∷ cond d.info.is_formula [] (if_any g.rows
-      (BulkUpdate table g.rows (column_of column_id g g.rows d.id ∷ [])))
+    (BulkUpdate table g.rows (column_of column_id g g.rows d.id ∷ [])))
 
 -- a table comes back in its place, and then its rows
 abbrev pub table_again : Table → List DocAction

@@ -3,7 +3,7 @@ use Rattle.std.specs.Prelude.{ℕ, false, List, [], ◌∷◌, codes}
 use Rattle.cell_types.specs.declared.column_type.ColType.TheVariants as type
 use Rattle.doc_model.specs.declared.column.ColDef.{ColDef}
 use Rattle.doc_model.specs.Grid.{Grid}
-use Rattle.doc_model.specs.Document.{Table, Document}
+use Rattle.doc_model.specs.Document.{Document}
 use Rattle.doc_model.specs.Schema.{with_schema, resources_columns, rules_columns}
 
 -- columns without rows

@@ -1,5 +1,5 @@
 -- The schema tables as what describes the other tables, and where they do so.
-use Rattle.std.specs.Prelude.{ℕ, pos, Bool, true, false, cond, nat_eq, nat_lt, List, [], ◌∷◌, ◌++◌, map, ◌≡◌, codes}
+use Rattle.std.specs.Prelude.{ℕ, pos, true, false, cond, nat_eq, nat_lt, List, [], ◌∷◌, ◌++◌, map, ◌≡◌, codes}
 use Rattle.std.specs.List.{AllByRecursion}
 use Rattle.cell_types.specs.declared.column_type.ColType.{ColType}
 use Rattle.cell_types.specs.declared.column_type.ColType.TheVariants as type
@@ -77,7 +77,7 @@ abbrev pub put_described : Described → List Described → List Described
 put_described e [] = e ∷ []
 put_described e (x ∷ xs) =
     cond (nat_lt e.column.row x.column.row) (e ∷ x ∷ xs)
-      (cond (nat_eq e.column.row x.column.row) (e ∷ xs) (x ∷ put_described e xs))
+    (cond (nat_eq e.column.row x.column.row) (e ∷ xs) (x ∷ put_described e xs))
 
 -- the columns in the order of their rows
 abbrev pub in_order : List Described → List Described

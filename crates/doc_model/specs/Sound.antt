@@ -1,5 +1,5 @@
 -- Sound documents.
-use Rattle.std.specs.Prelude.{ℕ, Bool, true, ◌||◌, ◌&&◌, List, ◌≡◌, ◌<◌, Some}
+use Rattle.std.specs.Prelude.{ℕ, Bool, true, ◌||◌, ◌&&◌, ◌≡◌, ◌<◌, Some}
 use Rattle.std.specs.List.{list_all, AllByRecursion}
 use Rattle.cell_types.specs.NameRule.{is_name}
 use Rattle.doc_model.specs.declared.column.ColDef.{ColDef}

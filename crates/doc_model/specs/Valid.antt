@@ -6,10 +6,9 @@ use Rattle.doc_model.specs.declared.action.DocAction.{DocAction}
 use Rattle.doc_model.specs.declared.action.DocAction.TheVariants.{BulkAdd, BulkUpdate, BulkRemove, AddTable, RemoveTable, RenameTable, AddColumn, RemoveColumn, RenameColumn, ModifyColumn}
 use Rattle.doc_model.specs.declared.column.CellColumn.{CellColumn}
 use Rattle.doc_model.specs.declared.column.ColDef.{ColDef}
-use Rattle.doc_model.specs.declared.column.ColInfo.{ColInfo}
 use Rattle.doc_model.specs.MetadataIds.{is_schema_id, is_metadata_id, tables_id, columns_id}
 use Rattle.doc_model.specs.ByIds.{find_id, has_id, are_distinct}
-use Rattle.doc_model.specs.Rows.{has, is_once, all_in, none_in}
+use Rattle.doc_model.specs.Rows.{is_once, all_in, none_in}
 use Rattle.doc_model.specs.Grid.{Grid, cell}
 use Rattle.doc_model.specs.Records.{given_id}
 use Rattle.doc_model.specs.Column.{column_id, column_row, is_base, is_null, is_sound_info}

@@ -1,5 +1,5 @@
 -- The edits of one table of a view, and those that lead from one state of it to another.
-use Rattle.std.specs.Prelude.{ℕ, pos, Bool, false, cond, not, List, [], ◌∷◌, ◌++◌, map, filter, Some, None}
+use Rattle.std.specs.Prelude.{ℕ, Bool, false, cond, not, List, [], ◌∷◌, ◌++◌, map, filter, Some, None}
 use Rattle.std.specs.Str.{bytes_eq}
 use Rattle.cell_types.specs.declared.value.CellValue.{CellValue}
 use Rattle.doc_model.specs.declared.column.CellColumn.{CellColumn}
@@ -67,12 +67,12 @@ differs columns d = elim (find_id shown_id d.id columns) [ None ↦ false | Some
 abbrev pub shape_edits : Grid ViewCol → Grid ViewCol → List Edit
 shape_edits g w =
     map (λ (d : ViewCol). remove_column d.id)
-      (filter (λ d. not (has_id shown_id w.columns d.id)) g.columns)
+    (filter (λ d. not (has_id shown_id w.columns d.id)) g.columns)
     ++ map add_column (filter (λ d. not (has_id shown_id g.columns d.id)) w.columns)
     ++ map modify_column (filter (differs g.columns) w.columns)
     ++ if_any (without w.rows g.rows) (remove (without w.rows g.rows))
     ++ if_any (without g.rows w.rows)
-      (add (without g.rows w.rows) (whole w (without g.rows w.rows)))
+    (add (without g.rows w.rows) (whole w (without g.rows w.rows)))
 
 -- the rows in which a column's cells differ
 abbrev pub differing : Grid ViewCol → Grid ViewCol → ViewCol → List ℕ

@@ -1,6 +1,23 @@
 //! Laws of the definitions, each proved as the contract of a function that does nothing.
 
+ghost use Rattle.doc_model.specs.DocumentLaws.{InverseAllLaw, InverseLaw, KeptLaw};
 ghost use Rattle.doc_model.specs.ViewLaws.{NoChangesLaw, PatchLaw};
+
+/// A valid action leaves a sound document sound and in agreement with its schema.
+pub fn kept_law()
+    ensures { KeptLaw }
+{}
+
+/// The inverse of a valid action gives back the document before it, exactly; each action of the
+/// inverse is valid at its place.
+pub fn inverse_law()
+    ensures { InverseLaw }
+{}
+
+/// The inverse of valid actions gives back the document before them.
+pub fn inverse_all_law()
+    ensures { InverseAllLaw }
+{}
 
 /// Patching a view with the changes to another view gives the other.
 pub fn patch_law()

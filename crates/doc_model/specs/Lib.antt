@@ -11,6 +11,7 @@ pub mod NewDocument
 pub mod Valid
 pub mod Apply
 pub mod Inverse
+pub mod Readers
 pub mod DocumentLaws
 pub mod Same
 pub mod ViewEdits

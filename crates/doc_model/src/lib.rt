@@ -13,6 +13,7 @@ mod entry;
 pub mod laws;
 mod limit;
 mod request;
+mod tables;
 mod user;
 mod user_action;
 mod view;
@@ -22,6 +23,7 @@ pub use column::{CellColumn, CellRowList, ColDef, ColDefList, ColInfo, ColumnLis
 pub use entry::{Entry, EntryList};
 pub use limit::{LimitKind, Refusal, RuleRef};
 pub use request::Request;
+pub use tables::{DocCells, DocTables};
 pub use user::{User, UserList};
 pub use user_action::{
     IdList, UserAction, UserActionList, UserCol, UserColList, UserColumn, UserColumnList,

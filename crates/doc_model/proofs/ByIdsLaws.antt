@@ -269,6 +269,16 @@ module _ {X : Type 0} (id : X → List ℕ) where
         ] refl
       ] refl
 
+  pub has_id-place : (x : X) (xs : List X) (c : List ℕ) → has_id id (place id x xs) c ≡ (bytes_eq (id x) c || has_id id xs c)
+  has_id-place x xs c =
+      has_id-find c (place id x xs) ∙ ap is_some (find-place x xs c)
+      ∙ elim (bytes_eq (id x) c) as (λ b. is_some (cond b (Some x) (find_id id c xs)) ≡ (b || has_id id xs c)) [ true ↦ refl | false ↦ sym (has_id-find c xs) ]
+
+  pub has_id-without : (c : List ℕ) (xs : List X) (e : List ℕ) → has_id id (without_id id c xs) e ≡ (not (bytes_eq c e) && has_id id xs e)
+  has_id-without c xs e =
+      has_id-find e (without_id id c xs) ∙ ap is_some (find-without_id c xs e)
+      ∙ elim (bytes_eq c e) as (λ b. is_some (cond b None (find_id id e xs)) ≡ (not b && has_id id xs e)) [ true ↦ refl | false ↦ sym (has_id-find e xs) ]
+
   -- a thing before all others stands first
   pub place_low : (x : X) (xs : List X) → AllByRecursion (λ y. precedes (id x) (id y) ≡ true) xs → place id x xs ≡ x ∷ xs
   place_low x [] h = refl

@@ -27,10 +27,10 @@ use Rattle.doc_model.proofs.ViewEditsLaws.{after-edits, edits_again}
 abbrev after : List ViewAction → List ViewTable → List ViewTable
 after cs v = patch v cs
 
-abbrev named : List ℕ → List ViewTable → Option ViewTable
+abbrev pub named : List ℕ → List ViewTable → Option ViewTable
 named c v = find_id shown_table_id c v
 
-abbrev with_edits : List Edit → ViewTable → ViewTable
+abbrev pub with_edits : List Edit → ViewTable → ViewTable
 with_edits es s = table s.id (all_edited es (grid s))
 
 pub after-append : (cs ds : List ViewAction) (v : List ViewTable) → after (cs ++ ds) v ≡ after ds (after cs v)
@@ -67,7 +67,7 @@ named-edit t e (s ∷ v) c =
           ] refl
     ] refl
 
-named-edits : (t : List ℕ) (es : List Edit) (v : List ViewTable) (c : List ℕ)
+pub named-edits : (t : List ℕ) (es : List Edit) (v : List ViewTable) (c : List ℕ)
     → named c (after (map (on_table t) es) v) ≡ cond (bytes_eq t c) (option_map (with_edits es) (named c v)) (named c v)
 named-edits t [] v c =
     elim (bytes_eq t c) as (λ b. named c v ≡ cond b (option_map (with_edits []) (named c v)) (named c v)) [
@@ -83,17 +83,17 @@ named-edits t (e ∷ es) v c =
       | false ↦ refl
     ]
 
-abbrev filling : Grid ViewCol → List ℕ → List Edit
+abbrev pub filling : Grid ViewCol → List ℕ → List Edit
 filling w rows = if_any rows (add rows (whole w rows))
 
 -- a table of the columns alone
-abbrev empty : Grid ViewCol → Grid ViewCol
+abbrev pub empty : Grid ViewCol → Grid ViewCol
 empty w = record { columns = w.columns; rows = []; cells = [] }
 
 IsShown-empty : (w : Grid ViewCol) → IsShown w → IsShown (empty w)
 IsShown-empty w t = record { by_ids = t.by_ids; is_grid = record { distinct = t.is_grid.distinct; ascending = tt; height = refl; width = tt } }
 
-bare_empty : (w : Grid ViewCol) → IsShown w → bare w.columns ≡ empty w
+pub bare_empty : (w : Grid ViewCol) → IsShown w → bare w.columns ≡ empty w
 bare_empty w t = ap (λ cs. let x : Grid ViewCol = record { columns = cs; rows = []; cells = [] } in x) (by_id_again shown_id w.columns t.by_ids)
 
 -- an empty table that is given all rows
@@ -114,7 +114,7 @@ filled_new w (q ∷ qs) e t =
     ∙ ap (λ b. cond b (Some (cell shown_id w d.id r)) None) (has_id-find shown_id d.id w.columns ∙ ap is_some found)))
 
 -- what a name finds after a table was introduced
-named-introduced : (t : ViewTable) (v : List ViewTable) (c : List ℕ) → IsShown (grid t) → named c (after (introduced t) v) ≡ cond (bytes_eq t.id c) (Some t) (named c v)
+pub named-introduced : (t : ViewTable) (v : List ViewTable) (c : List ℕ) → IsShown (grid t) → named c (after (introduced t) v) ≡ cond (bytes_eq t.id c) (Some t) (named c v)
 named-introduced t v c g =
     let es : List Edit = filling (grid t) t.rows in
     let t0 : ViewTable = table t.id (bare t.columns) in
@@ -125,7 +125,7 @@ named-introduced t v c g =
       | false ↦ refl
     ]
 
-named-all_introduced : (ts : List ViewTable) (v : List ViewTable) (c : List ℕ) → IsByIds shown_table_id ts → AllByRecursion (λ t. IsShown (grid t)) ts
+pub named-all_introduced : (ts : List ViewTable) (v : List ViewTable) (c : List ℕ) → IsByIds shown_table_id ts → AllByRecursion (λ t. IsShown (grid t)) ts
     → named c (after (for_each introduced ts) v) ≡ or_else (named c ts) (named c v)
 named-all_introduced [] v c s g = refl
 named-all_introduced (t ∷ ts) v c s g =
@@ -137,7 +137,7 @@ named-all_introduced (t ∷ ts) v c s g =
       | false ↦ λ _. refl
     ] refl
 
-named-removed : (ts : List ViewTable) (v : List ViewTable) (c : List ℕ) → named c (after (map (λ (s : ViewTable). RemoveTable s.id) ts) v) ≡ cond (has_id shown_table_id ts c) None (named c v)
+pub named-removed : (ts : List ViewTable) (v : List ViewTable) (c : List ℕ) → named c (after (map (λ (s : ViewTable). RemoveTable s.id) ts) v) ≡ cond (has_id shown_table_id ts c) None (named c v)
 named-removed [] v c = refl
 named-removed (t ∷ ts) v c =
     named-removed ts (patched (RemoveTable t.id) v) c
@@ -175,25 +175,25 @@ IsByIds-after [] v h = h
 IsByIds-after (c ∷ cs) v h = IsByIds-after cs (patched c v) (IsByIds-patched c v h)
 
 -- the edits of a table that was shown before, to what it is now
-abbrev edits_of : Option ViewTable → ViewTable → List Edit
+abbrev pub edits_of : Option ViewTable → ViewTable → List Edit
 edits_of None t = []
 edits_of (Some s) t = edits (grid s) (grid t)
 
-abbrev renewed : List ViewTable → ViewTable → List Edit
+abbrev pub renewed : List ViewTable → ViewTable → List Edit
 renewed v t = edits_of (named t.id v) t
 
-revised-renewed : (v : List ViewTable) (t : ViewTable) → revised v t ≡ map (on_table t.id) (renewed v t)
+pub revised-renewed : (v : List ViewTable) (t : ViewTable) → revised v t ≡ map (on_table t.id) (renewed v t)
 revised-renewed v t = elim (named t.id v) as (λ o. elim o as (λ _. List ViewAction) [ None ↦ [] | Some s ↦ map (on_table t.id) (edits (grid s) (grid t)) ] ≡ map (on_table t.id) (edits_of o t)) [ None ↦ refl | Some s ↦ refl ]
 
-abbrev renew : List ViewTable → List ViewTable → List ViewAction
+abbrev pub renew : List ViewTable → List ViewTable → List ViewAction
 renew v ts = for_each (revised v) ts
 
 -- each table's edits reach that table alone
-abbrev renewal : List ViewTable → Option ViewTable → Option ViewTable → Option ViewTable
+abbrev pub renewal : List ViewTable → Option ViewTable → Option ViewTable → Option ViewTable
 renewal v None o = o
 renewal v (Some t) o = option_map (with_edits (renewed v t)) o
 
-named-renewed : (v0 ts v : List ViewTable) (c : List ℕ) → IsByIds shown_table_id ts → named c (after (renew v0 ts) v) ≡ renewal v0 (named c ts) (named c v)
+pub named-renewed : (v0 ts v : List ViewTable) (c : List ℕ) → IsByIds shown_table_id ts → named c (after (renew v0 ts) v) ≡ renewal v0 (named c ts) (named c v)
 named-renewed v0 [] v c s = refl
 named-renewed v0 (t ∷ ts) v c s =
     let v1 : List ViewTable = after (map (on_table t.id) (renewed v0 t)) v in
@@ -205,7 +205,7 @@ named-renewed v0 (t ∷ ts) v c s =
       | false ↦ λ _. refl
     ] refl
 
-abbrev is_new : List ViewTable → ViewTable → Bool
+abbrev pub is_new : List ViewTable → ViewTable → Bool
 is_new v t = not (has_id shown_table_id v (shown_table_id t))
 
 -- by what a name finds in the two views

@@ -19,3 +19,4 @@ pub mod RecordSteps
 pub mod TableSteps
 pub mod ColumnSteps
 pub mod InverseLaws
+pub mod FitsLaws

@@ -20,10 +20,10 @@ use Rattle.doc_model.proofs.GridLaws.{cell-grid_of, same_grid, IsGrid-grid_of}
 use Rattle.doc_model.proofs.RecordsLaws.{given_own, given_absent, IsGrid-add_rows, IsGrid-update_rows, IsGrid-remove_rows}
 use Rattle.doc_model.proofs.SameLaws.{same_value-Decides, same_column-Decides}
 
-abbrev after : List Edit → Grid ViewCol → Grid ViewCol
+abbrev pub after : List Edit → Grid ViewCol → Grid ViewCol
 after es g = all_edited es g
 
-abbrev at : Grid ViewCol → List ℕ → ℕ → CellValue
+abbrev pub at : Grid ViewCol → List ℕ → ℕ → CellValue
 at g c r = cell shown_id g c r
 
 pub after-append : (es fs : List Edit) (g : Grid ViewCol) → after (es ++ fs) g ≡ after fs (after es g)
@@ -50,7 +50,7 @@ IsShown-after [] g h = h
 IsShown-after (e ∷ es) g h = IsShown-after es (edited e g) (IsShown-edited e g h)
 
 -- what removals leave
-find-removed : (ds : List ViewCol) (g : Grid ViewCol) (c : List ℕ) → find_id shown_id c (after (map (λ d. remove_column (shown_id d)) ds) g).columns ≡ cond (has_id shown_id ds c) None (find_id shown_id c g.columns)
+pub find-removed : (ds : List ViewCol) (g : Grid ViewCol) (c : List ℕ) → find_id shown_id c (after (map (λ d. remove_column (shown_id d)) ds) g).columns ≡ cond (has_id shown_id ds c) None (find_id shown_id c g.columns)
 find-removed [] g c = refl
 find-removed (d ∷ ds) g c =
     find-removed ds (edited (remove_column (shown_id d)) g) c
@@ -60,7 +60,7 @@ find-removed (d ∷ ds) g c =
       | false ↦ refl
     ]
 
-rows-removed : (ds : List ViewCol) (g : Grid ViewCol) → (after (map (λ d. remove_column (shown_id d)) ds) g).rows ≡ g.rows
+pub rows-removed : (ds : List ViewCol) (g : Grid ViewCol) → (after (map (λ d. remove_column (shown_id d)) ds) g).rows ≡ g.rows
 rows-removed [] g = refl
 rows-removed (d ∷ ds) g = rows-removed ds (edited (remove_column (shown_id d)) g)
 
@@ -72,24 +72,24 @@ placed d ds cs c s =
       | false ↦ λ _. refl
     ] refl
 
-find-added : (ds : List ViewCol) (g : Grid ViewCol) (c : List ℕ) → IsByIds shown_id ds → find_id shown_id c (after (map add_column ds) g).columns ≡ or_else (find_id shown_id c ds) (find_id shown_id c g.columns)
+pub find-added : (ds : List ViewCol) (g : Grid ViewCol) (c : List ℕ) → IsByIds shown_id ds → find_id shown_id c (after (map add_column ds) g).columns ≡ or_else (find_id shown_id c ds) (find_id shown_id c g.columns)
 find-added [] g c s = refl
 find-added (d ∷ ds) g c s = find-added ds (edited (add_column d) g) c s.1 ∙ placed d ds g.columns c s
 
-rows-added : (ds : List ViewCol) (g : Grid ViewCol) → (after (map add_column ds) g).rows ≡ g.rows
+pub rows-added : (ds : List ViewCol) (g : Grid ViewCol) → (after (map add_column ds) g).rows ≡ g.rows
 rows-added [] g = refl
 rows-added (d ∷ ds) g = rows-added ds (edited (add_column d) g)
 
-find-modified : (ds : List ViewCol) (g : Grid ViewCol) (c : List ℕ) → IsByIds shown_id ds → find_id shown_id c (after (map modify_column ds) g).columns ≡ or_else (find_id shown_id c ds) (find_id shown_id c g.columns)
+pub find-modified : (ds : List ViewCol) (g : Grid ViewCol) (c : List ℕ) → IsByIds shown_id ds → find_id shown_id c (after (map modify_column ds) g).columns ≡ or_else (find_id shown_id c ds) (find_id shown_id c g.columns)
 find-modified [] g c s = refl
 find-modified (d ∷ ds) g c s = find-modified ds (edited (modify_column d) g) c s.1 ∙ placed d ds g.columns c s
 
-rows-modified : (ds : List ViewCol) (g : Grid ViewCol) → (after (map modify_column ds) g).rows ≡ g.rows
+pub rows-modified : (ds : List ViewCol) (g : Grid ViewCol) → (after (map modify_column ds) g).rows ≡ g.rows
 rows-modified [] g = refl
 rows-modified (d ∷ ds) g = rows-modified ds (edited (modify_column d) g)
 
 -- rows that may be none
-rows-out : (qs : List ℕ) (g : Grid ViewCol) → (after (if_any qs (remove qs)) g).rows ≡ without qs g.rows
+pub rows-out : (qs : List ℕ) (g : Grid ViewCol) → (after (if_any qs (remove qs)) g).rows ≡ without qs g.rows
 rows-out [] g = sym (filter_all (λ (r : ℕ). true) g.rows (every g.rows))
   where
     every : (rs : List ℕ) → AllByRecursion (λ (r : ℕ). true ≡ true) rs
@@ -97,7 +97,7 @@ rows-out [] g = sym (filter_all (λ (r : ℕ). true) g.rows (every g.rows))
     every (r ∷ rs) = (refl, every rs)
 rows-out (q ∷ qs) g = refl
 
-columns-out : (qs : List ℕ) (g : Grid ViewCol) → (after (if_any qs (remove qs)) g).columns ≡ g.columns
+pub columns-out : (qs : List ℕ) (g : Grid ViewCol) → (after (if_any qs (remove qs)) g).columns ≡ g.columns
 columns-out [] g = refl
 columns-out (q ∷ qs) g = refl
 
@@ -109,13 +109,13 @@ columns-in : (qs : List ℕ) (ks : List CellColumn) (g : Grid ViewCol) → (afte
 columns-in [] ks g = refl
 columns-in (q ∷ qs) ks g = refl
 
-abbrev gone : Grid ViewCol → Grid ViewCol → List ViewCol
+abbrev pub gone : Grid ViewCol → Grid ViewCol → List ViewCol
 gone g w = filter (λ d. not (has_id shown_id w.columns (shown_id d))) g.columns
 
-abbrev new : Grid ViewCol → Grid ViewCol → List ViewCol
+abbrev pub new : Grid ViewCol → Grid ViewCol → List ViewCol
 new g w = filter (λ d. not (has_id shown_id g.columns (shown_id d))) w.columns
 
-abbrev changed : Grid ViewCol → Grid ViewCol → List ViewCol
+abbrev pub changed : Grid ViewCol → Grid ViewCol → List ViewCol
 changed g w = filter (differs g.columns) w.columns
 
 -- by what an shown_id finds in the two grids
@@ -147,28 +147,28 @@ choice g w c (Some e) (Some d) eg ew =
       | false ↦ λ _. refl
     ] refl
 
-abbrev shape : Grid ViewCol → Grid ViewCol → List Edit
+abbrev pub shape : Grid ViewCol → Grid ViewCol → List Edit
 shape g w = shape_edits g w
 
-abbrev cuts : Grid ViewCol → Grid ViewCol → List Edit
+abbrev pub cuts : Grid ViewCol → Grid ViewCol → List Edit
 cuts g w = map (λ d. remove_column (shown_id d)) (gone g w)
 
-abbrev out : Grid ViewCol → Grid ViewCol → List ℕ
+abbrev pub out : Grid ViewCol → Grid ViewCol → List ℕ
 out g w = without w.rows g.rows
 
-abbrev come : Grid ViewCol → Grid ViewCol → List ℕ
+abbrev pub come : Grid ViewCol → Grid ViewCol → List ℕ
 come g w = without g.rows w.rows
 
-abbrev come_columns : Grid ViewCol → Grid ViewCol → List CellColumn
+abbrev pub come_columns : Grid ViewCol → Grid ViewCol → List CellColumn
 come_columns g w = whole w (come g w)
 
-abbrev columns_done : Grid ViewCol → Grid ViewCol → Grid ViewCol
+abbrev pub columns_done : Grid ViewCol → Grid ViewCol → Grid ViewCol
 columns_done g w = after (map modify_column (changed g w)) (after (map add_column (new g w)) (after (cuts g w) g))
 
-abbrev shaped : Grid ViewCol → Grid ViewCol → Grid ViewCol
+abbrev pub shaped : Grid ViewCol → Grid ViewCol → Grid ViewCol
 shaped g w = after (if_any (come g w) (add (come g w) (come_columns g w))) (after (if_any (out g w) (remove (out g w))) (columns_done g w))
 
-after_shape : (g w : Grid ViewCol) → after (shape g w) g ≡ shaped g w
+pub after_shape : (g w : Grid ViewCol) → after (shape g w) g ≡ shaped g w
 after_shape g w =
     after-append (cuts g w ++ map add_column (new g w) ++ map modify_column (changed g w) ++ if_any (out g w) (remove (out g w))) (if_any (come g w) (add (come g w) (come_columns g w))) g
     ∙ ap (after (if_any (come g w) (add (come g w) (come_columns g w)))) (
@@ -177,7 +177,7 @@ after_shape g w =
     after-append (cuts g w ++ map add_column (new g w)) (map modify_column (changed g w)) g
     ∙ ap (after (map modify_column (changed g w))) (after-append (cuts g w) (map add_column (new g w)) g)))
 
-find_done : (g w : Grid ViewCol) → IsShown g → IsShown w → (c : List ℕ) → find_id shown_id c (columns_done g w).columns ≡ find_id shown_id c w.columns
+pub find_done : (g w : Grid ViewCol) → IsShown g → IsShown w → (c : List ℕ) → find_id shown_id c (columns_done g w).columns ≡ find_id shown_id c w.columns
 find_done g w s t c =
     find-modified (changed g w) (after (map add_column (new g w)) (after (cuts g w) g)) c (IsByIds-filter shown_id (differs g.columns) w.columns t.by_ids)
     ∙ ap (or_else (find_id shown_id c (changed g w))) (find-added (new g w) (after (cuts g w) g) c (IsByIds-filter shown_id (λ d. not (has_id shown_id g.columns (shown_id d))) w.columns t.by_ids)
@@ -188,37 +188,37 @@ find_done g w s t c =
     (has_id-find shown_id c (gone g w) ∙ ap is_some (find-filter shown_id (λ d. not (has_id shown_id w.columns (shown_id d))) c g.columns s.by_ids))
     ∙ choice g w c (find_id shown_id c g.columns) (find_id shown_id c w.columns) refl refl
 
-IsShown-done : (g w : Grid ViewCol) → IsShown g → IsShown (columns_done g w)
+pub IsShown-done : (g w : Grid ViewCol) → IsShown g → IsShown (columns_done g w)
 IsShown-done g w s = IsShown-after (map modify_column (changed g w)) (after (map add_column (new g w)) (after (cuts g w) g)) (IsShown-after (map add_column (new g w)) (after (cuts g w) g) (IsShown-after (cuts g w) g s))
 
-columns-shaped : (g w : Grid ViewCol) → IsShown g → IsShown w → (shaped g w).columns ≡ w.columns
+pub columns-shaped : (g w : Grid ViewCol) → IsShown g → IsShown w → (shaped g w).columns ≡ w.columns
 columns-shaped g w s t =
     columns-in (come g w) (come_columns g w) (after (if_any (out g w) (remove (out g w))) (columns_done g w))
     ∙ columns-out (out g w) (columns_done g w)
     ∙ same_by_ids shown_id (columns_done g w).columns w.columns (IsShown-done g w s).by_ids t.by_ids (find_done g w s t)
 
-rows-shaped : (g w : Grid ViewCol) → IsShown g → IsShown w → (shaped g w).rows ≡ w.rows
+pub rows-shaped : (g w : Grid ViewCol) → IsShown g → IsShown w → (shaped g w).rows ≡ w.rows
 rows-shaped g w s t =
     rows-in (come g w) (come_columns g w) (after (if_any (out g w) (remove (out g w))) (columns_done g w))
     ∙ ap (insert_rows (come g w)) (rows-out (out g w) (columns_done g w)
     ∙ ap (without (out g w)) (rows-modified (changed g w) (after (map add_column (new g w)) (after (cuts g w) g)) ∙ rows-added (new g w) (after (cuts g w) g) ∙ rows-removed (gone g w) g))
     ∙ insert_rows-without g.rows w.rows s.is_grid.ascending t.is_grid.ascending
 
-abbrev writes : Grid ViewCol → Grid ViewCol → List ViewCol → List Edit
+abbrev pub writes : Grid ViewCol → Grid ViewCol → List ViewCol → List Edit
 writes h w ds = cell_edits h w ds
 
-abbrev rows_for : Grid ViewCol → Grid ViewCol → ViewCol → List ℕ
+abbrev pub rows_for : Grid ViewCol → Grid ViewCol → ViewCol → List ℕ
 rows_for h w d = differing h w d
 
 -- one column's update, which may be of no row
-abbrev write_one : Grid ViewCol → Grid ViewCol → ViewCol → List Edit
+abbrev pub write_one : Grid ViewCol → Grid ViewCol → ViewCol → List Edit
 write_one h w d = if_any (rows_for h w d) (update (rows_for h w d) (column_of shown_id w (rows_for h w d) d.id ∷ []))
 
-columns-write : (rs : List ℕ) (ks : List CellColumn) (g : Grid ViewCol) → (after (if_any rs (update rs ks)) g).columns ≡ g.columns
+pub columns-write : (rs : List ℕ) (ks : List CellColumn) (g : Grid ViewCol) → (after (if_any rs (update rs ks)) g).columns ≡ g.columns
 columns-write [] ks g = refl
 columns-write (r ∷ rs) ks g = refl
 
-rows-write : (rs : List ℕ) (ks : List CellColumn) (g : Grid ViewCol) → (after (if_any rs (update rs ks)) g).rows ≡ g.rows
+pub rows-write : (rs : List ℕ) (ks : List CellColumn) (g : Grid ViewCol) → (after (if_any rs (update rs ks)) g).rows ≡ g.rows
 rows-write [] ks g = refl
 rows-write (r ∷ rs) ks g = refl
 

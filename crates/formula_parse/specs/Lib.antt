@@ -1,0 +1,14 @@
+pub mod Tree
+pub mod TreeSize
+pub mod OperatorCode
+pub mod TreeCode
+pub mod Seen
+pub mod TreeFalls
+pub mod Levels
+pub mod Lexemes
+pub mod Grammar
+pub mod Standing
+pub mod Spelling
+pub mod Machine
+pub mod Steps
+pub mod Parsed

@@ -1,0 +1,223 @@
+-- What tells trees apart: each tree as a tree of numbers, and back.
+use Rattle.std.specs.Prelude.{ℕ, zero, suc, ◌≡◌, List, [], ◌∷◌, refl, get_or, nat_eq, cond}
+use Rattle.std.specs.Coded.{Coded, code_by, coded_list, coded×, coded_ℕ}
+use Rattle.std.proofs.Common.{ap, ◌∙◌}
+use base.Stored.{Gv, gnil, gnum, gcons, num}
+use denote.Struct.Codes.{itself}
+use Rattle.formula_parse.specs.declared.operator.BinaryOp.{BinaryOp}
+use Rattle.formula_parse.specs.declared.operator.BinaryOp.TheVariants as op
+use Rattle.formula_parse.specs.declared.operator.PrefixOp.{PrefixOp}
+use Rattle.formula_parse.specs.declared.operator.PrefixOp.TheVariants as pre
+use Rattle.formula_parse.specs.declared.operator.Constant.{Constant}
+use Rattle.formula_parse.specs.declared.operator.Constant.TheVariants as con
+use Rattle.formula_parse.specs.declared.operator.LookupKind.{LookupKind}
+use Rattle.formula_parse.specs.declared.operator.LookupKind.TheVariants as kind
+use Rattle.formula_parse.specs.Tree.{Tree, number, text, constant, dollar, binary, prefix, conditional, parentheses, list, call, attribute, every, lookup, Trees, no_trees, one_more, Keys, no_keys, one_key}
+
+abbrev pub op_number : BinaryOp → ℕ
+op_number op.Or = 0
+op_number op.And = 1
+op_number op.Equal = 2
+op_number op.NotEqual = 3
+op_number op.Less = 4
+op_number op.AtMost = 5
+op_number op.More = 6
+op_number op.AtLeast = 7
+op_number op.In = 8
+op_number op.NotIn = 9
+op_number op.Is = 10
+op_number op.IsNot = 11
+op_number op.Add = 12
+op_number op.Subtract = 13
+op_number op.Multiply = 14
+op_number op.Divide = 15
+op_number op.Remainder = 16
+
+abbrev pub op_at : ℕ → BinaryOp
+op_at n = get_or (op.Or ∷ op.And ∷ op.Equal ∷ op.NotEqual ∷ op.Less ∷ op.AtMost ∷ op.More ∷ op.AtLeast ∷ op.In ∷ op.NotIn ∷ op.Is ∷ op.IsNot ∷ op.Add ∷ op.Subtract ∷ op.Multiply ∷ op.Divide ∷ op.Remainder ∷ []) n op.Or
+
+op_back : (o : BinaryOp) → op_at (op_number o) ≡ o
+op_back op.Or = refl
+op_back op.And = refl
+op_back op.Equal = refl
+op_back op.NotEqual = refl
+op_back op.Less = refl
+op_back op.AtMost = refl
+op_back op.More = refl
+op_back op.AtLeast = refl
+op_back op.In = refl
+op_back op.NotIn = refl
+op_back op.Is = refl
+op_back op.IsNot = refl
+op_back op.Add = refl
+op_back op.Subtract = refl
+op_back op.Multiply = refl
+op_back op.Divide = refl
+op_back op.Remainder = refl
+
+abbrev pub pre_number : PrefixOp → ℕ
+pre_number pre.Not = 0
+pre_number pre.Negate = 1
+
+abbrev pub pre_at : ℕ → PrefixOp
+pre_at n = get_or (pre.Not ∷ pre.Negate ∷ []) n pre.Not
+
+pre_back : (o : PrefixOp) → pre_at (pre_number o) ≡ o
+pre_back pre.Not = refl
+pre_back pre.Negate = refl
+
+abbrev pub con_number : Constant → ℕ
+con_number con.Truth = 0
+con_number con.Falsity = 1
+con_number con.Nothing = 2
+con_number con.Rec = 3
+
+abbrev pub con_at : ℕ → Constant
+con_at n = get_or (con.Truth ∷ con.Falsity ∷ con.Nothing ∷ con.Rec ∷ []) n con.Truth
+
+con_back : (o : Constant) → con_at (con_number o) ≡ o
+con_back con.Truth = refl
+con_back con.Falsity = refl
+con_back con.Nothing = refl
+con_back con.Rec = refl
+
+abbrev pub kind_number : LookupKind → ℕ
+kind_number kind.Records = 0
+kind_number kind.One = 1
+
+abbrev pub kind_at : ℕ → LookupKind
+kind_at n = get_or (kind.Records ∷ kind.One ∷ []) n kind.Records
+
+kind_back : (k : LookupKind) → kind_at (kind_number k) ≡ k
+kind_back kind.Records = refl
+kind_back kind.One = refl
+
+abbrev name_code : List ℕ → Gv
+name_code [] = gnil
+name_code (n ∷ ns) = gcons (gnum n) (name_code ns)
+
+abbrev name_in : Gv → List ℕ
+name_in gnil = []
+name_in (gnum n) = []
+name_in (gcons a b) = num a ∷ name_in b
+
+name_back : (ns : List ℕ) → name_in (name_code ns) ≡ ns
+name_back [] = refl
+name_back (n ∷ ns) = ap (λ m. n ∷ m) (name_back ns)
+
+abbrev names_code : Keys → Gv
+names_code no_keys = gnil
+names_code (one_key n t ks) = gcons (name_code n) (names_code ks)
+
+-- the names and the trees together
+abbrev zipped : Gv → Trees → Keys
+zipped (gcons n ns) (one_more t ts) = one_key (name_in n) t (zipped ns ts)
+zipped _ _ = no_keys
+
+abbrev left_of : Gv → Gv
+left_of gnil = gnil
+left_of (gnum n) = gnil
+left_of (gcons a b) = a
+
+abbrev right_of : Gv → Gv
+right_of gnil = gnil
+right_of (gnum n) = gnil
+right_of (gcons a b) = b
+
+-- a tree's code is what it is, and the codes of its parts
+abbrev mutual
+  tree_code : Tree → Gv
+  tree_code (number n) = gcons (gcons (gnum 0) (gnum n)) gnil
+  tree_code (text s) = gcons (gcons (gnum 1) (name_code s)) gnil
+  tree_code (constant c) = gcons (gcons (gnum 2) (gnum (con_number c))) gnil
+  tree_code (dollar n) = gcons (gcons (gnum 3) (name_code n)) gnil
+  tree_code (binary o a b) = gcons (gcons (gnum 4) (gnum (op_number o))) (gcons (tree_code a) (gcons (tree_code b) gnil))
+  tree_code (prefix o a) = gcons (gcons (gnum 5) (gnum (pre_number o))) (gcons (tree_code a) gnil)
+  tree_code (conditional a c b) = gcons (gcons (gnum 6) gnil) (gcons (tree_code a) (gcons (tree_code c) (gcons (tree_code b) gnil)))
+  tree_code (parentheses a) = gcons (gcons (gnum 7) gnil) (gcons (tree_code a) gnil)
+  tree_code (list ts) = gcons (gcons (gnum 8) gnil) (trees_code ts)
+  tree_code (call n ts) = gcons (gcons (gnum 9) (name_code n)) (trees_code ts)
+  tree_code (attribute a n) = gcons (gcons (gnum 10) (name_code n)) (gcons (tree_code a) gnil)
+  tree_code (every n) = gcons (gcons (gnum 11) (name_code n)) gnil
+  tree_code (lookup k n ks) = gcons (gcons (gnum 12) (gcons (gnum (kind_number k)) (gcons (name_code n) (names_code ks)))) (keys_code ks)
+
+  keys_code : Keys → Gv
+  keys_code no_keys = gnil
+  keys_code (one_key n t ks) = gcons (tree_code t) (keys_code ks)
+
+  trees_code : Trees → Gv
+  trees_code no_trees = gnil
+  trees_code (one_more t ts) = gcons (tree_code t) (trees_code ts)
+
+abbrev first : Trees → Tree
+first no_trees = number 0
+first (one_more t ts) = t
+
+abbrev rest : Trees → Trees
+rest no_trees = no_trees
+rest (one_more t ts) = ts
+
+abbrev made_at : ℕ → Gv → Trees → Tree
+made_at tag g ts =
+    cond (nat_eq tag 0) (number (num g))
+    (cond (nat_eq tag 1) (text (name_in g))
+    (cond (nat_eq tag 2) (constant (con_at (num g)))
+    (cond (nat_eq tag 3) (dollar (name_in g))
+    (cond (nat_eq tag 4) (binary (op_at (num g)) (first ts) (first (rest ts)))
+    (cond (nat_eq tag 5) (prefix (pre_at (num g)) (first ts))
+    (cond (nat_eq tag 6) (conditional (first ts) (first (rest ts)) (first (rest (rest ts))))
+    (cond (nat_eq tag 7) (parentheses (first ts))
+    (cond (nat_eq tag 8) (list ts)
+    (cond (nat_eq tag 9) (call (name_in g) ts)
+    (cond (nat_eq tag 10) (attribute (first ts) (name_in g))
+    (cond (nat_eq tag 11) (every (name_in g))
+      (lookup (kind_at (num (left_of g))) (name_in (left_of (right_of g))) (zipped (right_of (right_of g)) ts)))))))))))))
+
+abbrev made : Gv → Trees → Tree
+made gnil ts = number 0
+made (gnum n) ts = number 0
+made (gcons a g) ts = made_at (num a) g ts
+
+abbrev mutual
+  tree_in : Gv → Tree
+  tree_in gnil = number 0
+  tree_in (gnum n) = number 0
+  tree_in (gcons g gs) = made g (trees_in gs)
+
+  trees_in : Gv → Trees
+  trees_in gnil = no_trees
+  trees_in (gnum n) = no_trees
+  trees_in (gcons g gs) = one_more (tree_in g) (trees_in gs)
+
+mutual
+  pub tree_back : (t : Tree) → tree_in (tree_code t) ≡ t
+  tree_back (number n) = refl
+  tree_back (text s) = ap text (name_back s)
+  tree_back (constant c) = ap constant (con_back c)
+  tree_back (dollar n) = ap dollar (name_back n)
+  tree_back (binary o a b) = λ i. binary (op_back o i) (tree_back a i) (tree_back b i)
+  tree_back (prefix o a) = λ i. prefix (pre_back o i) (tree_back a i)
+  tree_back (conditional a c b) = λ i. conditional (tree_back a i) (tree_back c i) (tree_back b i)
+  tree_back (parentheses a) = ap parentheses (tree_back a)
+  tree_back (list ts) = ap list (trees_back ts)
+  tree_back (call n ts) = λ i. call (name_back n i) (trees_back ts i)
+  tree_back (attribute a n) = λ i. attribute (tree_back a i) (name_back n i)
+  tree_back (every n) = ap every (name_back n)
+  tree_back (lookup k n ks) = λ i. lookup (kind_back k i) (name_back n i) (keys_back ks i)
+
+  keys_back : (ks : Keys) → zipped (names_code ks) (trees_in (keys_code ks)) ≡ ks
+  keys_back no_keys = refl
+  keys_back (one_key n t ks) = λ i. one_key (name_back n i) (tree_back t i) (keys_back ks i)
+
+  trees_back : (ts : Trees) → trees_in (trees_code ts) ≡ ts
+  trees_back no_trees = refl
+  trees_back (one_more t ts) = λ i. one_more (tree_back t i) (trees_back ts i)
+
+abbrev pub coded_tree : Coded Tree
+coded_tree = code_by Gv itself tree_code tree_in tree_back
+
+abbrev pub coded_trees : Coded (List Tree)
+coded_trees = coded_list coded_tree
+
+abbrev pub coded_keys : Coded (List (List ℕ × Tree))
+coded_keys = coded_list (coded× (coded_list coded_ℕ) coded_tree)

@@ -1,0 +1,85 @@
+//! Why there is no formula.
+
+use formula_lex::LexFault;
+use std::alloc::{AllocError, AllocFailed};
+use std::fmt;
+
+/// Why a text is no formula.
+#[derive(Clone, Copy, Debug, PartialEq, Eq)]
+pub enum ParseFault {
+    /// No tree within the limits spells the text. The place is that of the token that ends the
+    /// reading; nothing is claimed of it but that it lies in the text.
+    ///
+    /// Units: `at` counts bytes.
+    Syntax { at: usize },
+    /// Memory is wanting.
+    NoMemory,
+}
+
+impl fmt::Display for ParseFault {
+    fn fmt<W: fmt::Write>(&self, f: &mut fmt::Formatter<W>) -> fmt::Result {
+        match self {
+            ParseFault::Syntax { at } => write!(f, "no formula, from byte {at} on"),
+            ParseFault::NoMemory => write!(f, "out of memory"),
+        }
+    }
+}
+
+impl std::error::Error for ParseFault {}
+
+impl From<AllocError> for ParseFault {
+    ghost use Rattle.std.specs.Prelude.{◌≡◌};
+    ghost use Rattle.formula_parse.specs.declared.fault.ParseFault.TheVariants.{NoMemory};
+
+    ghost from_gives = { λ _ made. made ≡ NoMemory };
+
+    fn from(error: AllocError) -> Self {
+        let _ = error;
+        ParseFault::NoMemory
+    }
+}
+
+impl From<LexFault> for ParseFault {
+    ghost use Rattle.std.specs.Prelude.{◌≡◌};
+    ghost use Rattle.formula_parse.specs.Parsed.{of_lexer};
+
+    ghost from_gives = { λ fault made. made ≡ of_lexer fault };
+
+    fn from(fault: LexFault) -> Self {
+        match fault {
+            LexFault::Bad { at } => ParseFault::Syntax { at },
+            LexFault::NoMemory => ParseFault::NoMemory,
+        }
+    }
+}
+
+// What ends the reading at a token, whose place the loop knows.
+#[derive(Clone, Copy, Debug, PartialEq, Eq)]
+pub(crate) enum Stop {
+    Syntax,
+    NoMemory,
+}
+
+impl From<AllocError> for Stop {
+    ghost use Rattle.std.specs.Prelude.{◌≡◌};
+    ghost use Rattle.formula_parse.specs.declared.fault.Stop.TheVariants.{NoMemory};
+
+    ghost from_gives = { λ _ made. made ≡ NoMemory };
+
+    fn from(error: AllocError) -> Self {
+        let _ = error;
+        Stop::NoMemory
+    }
+}
+
+impl<T: Drop> From<AllocFailed<T>> for Stop {
+    ghost use Rattle.std.specs.Prelude.{◌≡◌};
+    ghost use Rattle.formula_parse.specs.declared.fault.Stop.TheVariants.{NoMemory};
+
+    ghost from_gives = { λ _ made. made ≡ NoMemory };
+
+    fn from(error: AllocFailed<T>) -> Self {
+        let _ = error;
+        Stop::NoMemory
+    }
+}

@@ -1,0 +1,133 @@
+//! What the grammar tells apart in tokens: a word is a keyword, or a name that is allowed, or nothing.
+
+ghost use Rattle.std.specs.Prelude.{◌≡◌, Bool, Option, Some, None, cond, bytes_eq};
+ghost use Rattle.cell_types.specs.NameRule.{is_reserved};
+ghost use Rattle.formula_parse.specs.Lexemes.{keyword_of, is_id, is_field};
+ghost use Rattle.formula_parse.specs.Machine.{lexeme_of, kept_name};
+ghost use Rattle.formula_parse.specs.Parsed.{Gives};
+
+use crate::fault::Stop;
+use cell_types::{CellText, Name};
+use formula_lex::{Sign, TokenKind, TokenText};
+use std::alloc::Global;
+
+/// A reserved word that the grammar uses.
+#[derive(Clone, Copy, Debug, PartialEq, Eq)]
+pub enum Keyword {
+    Or,
+    And,
+    Not,
+    In,
+    Is,
+    If,
+    Else,
+    Truth,
+    Falsity,
+    Nothing,
+    Rec,
+}
+
+/// A token as the grammar sees it.
+#[derive(Drop)]
+pub enum Lexeme {
+    Number(u64),
+    Text(CellText),
+    Name(Name),
+    Dollar(Name),
+    Keyword(Keyword),
+    Sign(Sign),
+}
+
+// The keyword that a word is.
+#[tactic(auto, unfolding(crate::specs::Lexemes::keyword_of))]
+fn keyword_of(word: &str) -> Option<Keyword>
+    ensures { result ≡ keyword_of word.now }
+{
+    if word == "or" {
+        return Some(Keyword::Or);
+    }
+    if word == "and" {
+        return Some(Keyword::And);
+    }
+    if word == "not" {
+        return Some(Keyword::Not);
+    }
+    if word == "in" {
+        return Some(Keyword::In);
+    }
+    if word == "is" {
+        return Some(Keyword::Is);
+    }
+    if word == "if" {
+        return Some(Keyword::If);
+    }
+    if word == "else" {
+        return Some(Keyword::Else);
+    }
+    if word == "True" {
+        return Some(Keyword::Truth);
+    }
+    if word == "False" {
+        return Some(Keyword::Falsity);
+    }
+    if word == "None" {
+        return Some(Keyword::Nothing);
+    }
+    if word == "rec" {
+        return Some(Keyword::Rec);
+    }
+    None
+}
+
+// Whether a word is reserved.
+#[tactic(auto, unfolding(cell_types::specs::NameRule::is_reserved, cell_types::specs::NameRule::reserved_words))]
+fn is_reserved(word: &str) -> bool
+    ensures { result ≡ is_reserved word.now }
+{
+    const RESERVED: [&str; 37] = [
+        "False", "None", "True", "and", "as", "assert", "async", "await", "break", "class",
+        "continue", "def", "del", "elif", "else", "except", "finally", "for", "from", "global",
+        "if", "import", "in", "is", "lambda", "nonlocal", "not", "or", "pass", "raise", "return",
+        "try", "while", "with", "yield", "id", "rec",
+    ];
+    RESERVED.contains(&word)
+}
+
+/// Whether a name is `id`, which columns are asked by and nothing else is called.
+#[tactic(auto, unfolding(crate::specs::Lexemes::id_word))]
+pub(crate) fn is_id(name: &str) -> bool
+    ensures { result ≡ is_id name.now }
+{
+    name == "id"
+}
+
+// A copy of a name that is allowed.
+fn kept_name(alloc: Global, word: &TokenText) -> Result<Name, Stop>
+    ensures { Gives (λ name. name) result (kept_name word.now) }
+{
+    if is_reserved(word.as_str()) && !is_id(word.as_str()) {
+        return Err(Stop::Syntax);
+    }
+    let text = CellText::copy_of(alloc, word.as_str())?;
+    match Name::try_new(text) {
+        Some(name) => Ok(name),
+        None => Err(Stop::Syntax),
+    }
+}
+
+/// What the grammar sees in a token.
+#[tactic(auto, unfolding(crate::specs::Machine::lexeme_of))]
+pub(crate) fn lexeme_of(alloc: Global, kind: &TokenKind) -> Result<Lexeme, Stop>
+    ensures { Gives (λ lexeme. lexeme) result (lexeme_of kind.now) }
+{
+    match kind {
+        TokenKind::Number(n) => Ok(Lexeme::Number(*n)),
+        TokenKind::Text(text) => Ok(Lexeme::Text(CellText::copy_of(alloc, text.as_str())?)),
+        TokenKind::Name(word) => match keyword_of(word.as_str()) {
+            Some(keyword) => Ok(Lexeme::Keyword(keyword)),
+            None => Ok(Lexeme::Name(kept_name(alloc, word)?)),
+        },
+        TokenKind::Dollar(word) => Ok(Lexeme::Dollar(kept_name(alloc, word)?)),
+        TokenKind::Sign(sign) => Ok(Lexeme::Sign(*sign)),
+    }
+}

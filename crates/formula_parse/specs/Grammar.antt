@@ -15,7 +15,7 @@ use Rattle.formula_parse.specs.declared.operator.Dialect.{Dialect}
 use Rattle.formula_parse.specs.declared.operator.Dialect.TheVariants as dialect
 use Rattle.formula_parse.specs.declared.lexeme.Keyword.TheVariants as word
 use Rattle.formula_parse.specs.declared.lexeme.Lexeme.{Lexeme}
-use Rattle.formula_parse.specs.declared.lexeme.Lexeme.TheVariants.{Number, Text, Name, Dollar, Keyword as Word, Sign}
+use Rattle.formula_parse.specs.declared.lexeme.Lexeme.TheVariants.{Number, Text, Name, Dollar, Keyword as Word, Sign as Mark}
 use Rattle.formula_parse.specs.Levels.{Group, or_group, and_group, comparison, sum_group, term_group, group_level, group_left, group_right}
 use Rattle.formula_parse.specs.Lexemes.{is_id}
 use Rattle.formula_parse.specs.Tree.{Tree, number, text, constant, dollar, binary, prefix, conditional, parentheses, list, call, attribute, every, lookup, Trees, no_trees, one_more, Keys, no_keys, one_key}
@@ -40,26 +40,26 @@ prefix_level pre.Negate = 7
 abbrev pub op_lexemes : BinaryOp → List Lexeme
 op_lexemes op.Or = Word word.Or ∷ []
 op_lexemes op.And = Word word.And ∷ []
-op_lexemes op.Equal = Sign sign.Equal ∷ []
-op_lexemes op.NotEqual = Sign sign.NotEqual ∷ []
-op_lexemes op.Less = Sign sign.Less ∷ []
-op_lexemes op.AtMost = Sign sign.AtMost ∷ []
-op_lexemes op.More = Sign sign.More ∷ []
-op_lexemes op.AtLeast = Sign sign.AtLeast ∷ []
+op_lexemes op.Equal = Mark sign.Equal ∷ []
+op_lexemes op.NotEqual = Mark sign.NotEqual ∷ []
+op_lexemes op.Less = Mark sign.Less ∷ []
+op_lexemes op.AtMost = Mark sign.AtMost ∷ []
+op_lexemes op.More = Mark sign.More ∷ []
+op_lexemes op.AtLeast = Mark sign.AtLeast ∷ []
 op_lexemes op.In = Word word.In ∷ []
 op_lexemes op.NotIn = Word word.Not ∷ Word word.In ∷ []
 op_lexemes op.Is = Word word.Is ∷ []
 op_lexemes op.IsNot = Word word.Is ∷ Word word.Not ∷ []
-op_lexemes op.Add = Sign sign.Plus ∷ []
-op_lexemes op.Subtract = Sign sign.Minus ∷ []
-op_lexemes op.Multiply = Sign sign.Star ∷ []
-op_lexemes op.Divide = Sign sign.DoubleSlash ∷ []
-op_lexemes op.Remainder = Sign sign.Percent ∷ []
+op_lexemes op.Add = Mark sign.Plus ∷ []
+op_lexemes op.Subtract = Mark sign.Minus ∷ []
+op_lexemes op.Multiply = Mark sign.Star ∷ []
+op_lexemes op.Divide = Mark sign.DoubleSlash ∷ []
+op_lexemes op.Remainder = Mark sign.Percent ∷ []
 
 -- how an operator in front is written
 abbrev pub prefix_lexeme : PrefixOp → Lexeme
 prefix_lexeme pre.Not = Word word.Not
-prefix_lexeme pre.Negate = Sign sign.Minus
+prefix_lexeme pre.Negate = Mark sign.Minus
 
 -- how a constant is written
 abbrev pub constant_lexeme : Constant → Lexeme
@@ -79,7 +79,7 @@ lookup_word look.One = codes "lookupOne"
 
 -- how a lookup begins
 abbrev pub lookup_lexemes : LookupKind → List ℕ → List Lexeme
-lookup_lexemes k n = Name n ∷ (Sign sign.Point ∷ (Name (lookup_word k) ∷ (Sign sign.Open ∷ [])))
+lookup_lexemes k n = Name n ∷ (Mark sign.Point ∷ (Name (lookup_word k) ∷ (Mark sign.Open ∷ [])))
 
 -- how a tree is written
 abbrev mutual
@@ -92,13 +92,13 @@ abbrev mutual
   lexemes_of (prefix o a) = prefix_lexeme o ∷ lexemes_of a
   lexemes_of (conditional a c b) =
       lexemes_of a ++ (Word word.If ∷ (lexemes_of c ++ (Word word.Else ∷ lexemes_of b)))
-  lexemes_of (parentheses a) = Sign sign.Open ∷ (lexemes_of a ++ Sign sign.Close ∷ [])
-  lexemes_of (list ts) = Sign sign.OpenList ∷ (items_of ts ++ Sign sign.CloseList ∷ [])
+  lexemes_of (parentheses a) = Mark sign.Open ∷ (lexemes_of a ++ Mark sign.Close ∷ [])
+  lexemes_of (list ts) = Mark sign.OpenList ∷ (items_of ts ++ Mark sign.CloseList ∷ [])
   lexemes_of (call n ts) =
-      Name n ∷ (Sign sign.Open ∷ (items_of ts ++ Sign sign.Close ∷ []))
-  lexemes_of (attribute a n) = lexemes_of a ++ Sign sign.Point ∷ (Name n ∷ [])
-  lexemes_of (every n) = Name n ∷ (Sign sign.Point ∷ (Name all_word ∷ []))
-  lexemes_of (lookup k n ks) = lookup_lexemes k n ++ (keys_in ks ++ Sign sign.Close ∷ [])
+      Name n ∷ (Mark sign.Open ∷ (items_of ts ++ Mark sign.Close ∷ []))
+  lexemes_of (attribute a n) = lexemes_of a ++ Mark sign.Point ∷ (Name n ∷ [])
+  lexemes_of (every n) = Name n ∷ (Mark sign.Point ∷ (Name all_word ∷ []))
+  lexemes_of (lookup k n ks) = lookup_lexemes k n ++ (keys_in ks ++ Mark sign.Close ∷ [])
 
   -- with commas between them
   pub items_of : Trees → List Lexeme
@@ -108,15 +108,15 @@ abbrev mutual
   -- with a comma in front of each
   pub more_of : Trees → List Lexeme
   more_of no_trees = []
-  more_of (one_more t ts) = Sign sign.Comma ∷ (lexemes_of t ++ more_of ts)
+  more_of (one_more t ts) = Mark sign.Comma ∷ (lexemes_of t ++ more_of ts)
 
   -- with commas between them
   pub keys_in : Keys → List Lexeme
   keys_in no_keys = []
-  keys_in (one_key n t ks) = Name n ∷ (Sign sign.Assign ∷ (lexemes_of t ++ more_keys ks))
+  keys_in (one_key n t ks) = Name n ∷ (Mark sign.Assign ∷ (lexemes_of t ++ more_keys ks))
 
   -- with a comma in front of each
   pub more_keys : Keys → List Lexeme
   more_keys no_keys = []
   more_keys (one_key n t ks) =
-      Sign sign.Comma ∷ (Name n ∷ (Sign sign.Assign ∷ (lexemes_of t ++ more_keys ks)))
+      Mark sign.Comma ∷ (Name n ∷ (Mark sign.Assign ∷ (lexemes_of t ++ more_keys ks)))

@@ -7,7 +7,7 @@ use Rattle.formula_lex.specs.declared.token.TokenKind.TheVariants as kind
 use Rattle.formula_parse.specs.declared.lexeme.Keyword.{Keyword}
 use Rattle.formula_parse.specs.declared.lexeme.Keyword.TheVariants as word
 use Rattle.formula_parse.specs.declared.lexeme.Lexeme.{Lexeme}
-use Rattle.formula_parse.specs.declared.lexeme.Lexeme.TheVariants.{Number, Text, Name, Dollar, Keyword as Word, Sign}
+use Rattle.formula_parse.specs.declared.lexeme.Lexeme.TheVariants.{Number, Text, Name, Dollar, Keyword as Word, Sign as Mark}
 
 -- how a keyword is written
 abbrev pub keyword_text : Keyword → List ℕ
@@ -61,7 +61,7 @@ kind_of (Text s) = kind.Text s
 kind_of (Name n) = kind.Name n
 kind_of (Dollar n) = kind.Dollar n
 kind_of (Word k) = kind.Name (keyword_text k)
-kind_of (Sign s) = kind.Sign s
+kind_of (Mark s) = kind.Sign s
 
 -- names are words that are allowed
 abbrev pub IsAllowed : Lexeme → Type 0

@@ -17,7 +17,7 @@ use Rattle.formula_parse.specs.declared.operator.Dialect.TheVariants as dialect
 use Rattle.formula_parse.specs.declared.lexeme.Keyword.{Keyword}
 use Rattle.formula_parse.specs.declared.lexeme.Keyword.TheVariants as word
 use Rattle.formula_parse.specs.declared.lexeme.Lexeme.{Lexeme}
-use Rattle.formula_parse.specs.declared.lexeme.Lexeme.TheVariants.{Number, Text, Name, Dollar, Keyword as Word, Sign}
+use Rattle.formula_parse.specs.declared.lexeme.Lexeme.TheVariants.{Number, Text, Name, Dollar, Keyword as Word, Sign as Mark}
 use Rattle.formula_parse.specs.declared.frame.Frame.{Frame}
 use Rattle.formula_parse.specs.declared.frame.Frame.TheVariants.{Left, Prefix, Condition, Otherwise, Parentheses, Items, Arguments, Key}
 use Rattle.formula_parse.specs.declared.frame.Mode.{Mode}
@@ -82,7 +82,7 @@ after fs t = kept t >>= λ u. Some (fs, Operator u)
 abbrev pub open_left : Dialect → BinaryOp → List Frame × Tree → Option State
 open_left d o r =
     cond (has_op d o && (nat_le (room r.0) (group_level (group_of o)) && nat_le (group_left (group_of o)) (level_of r.1)))
-      (Some (Left r.1 o ∷ r.0, Operand)) None
+    (Some (Left r.1 o ∷ r.0, Operand)) None
 
 -- the same, once what binds closer is closed
 abbrev pub infix_step : Dialect → BinaryOp → List Frame → Tree → Option State
@@ -160,7 +160,7 @@ operand_step d (Text s) fs = after fs (text s)
 operand_step d (Dollar n) fs = dollar_step d n fs
 operand_step d (Name n) fs = name_operand d n fs
 operand_step d (Word k) fs = word_operand d k fs
-operand_step d (Sign s) fs = sign_operand s fs
+operand_step d (Mark s) fs = sign_operand s fs
 
 -- the end of arguments, where there are none
 abbrev pub close_empty : List Frame → Option State
@@ -174,8 +174,8 @@ close_empty_list _ = None
 
 -- a lexeme where the first item is wanted, or the end
 abbrev pub first_step : Dialect → Lexeme → List Frame → Option State
-first_step d (Sign sign.Close) fs = close_empty fs
-first_step d (Sign sign.CloseList) fs = close_empty_list fs
+first_step d (Mark sign.Close) fs = close_empty fs
+first_step d (Mark sign.CloseList) fs = close_empty_list fs
 first_step d k fs = operand_step d k fs
 
 -- a point behind a tree

@@ -12,7 +12,7 @@ use Rattle.formula_parse.specs.declared.operator.Dialect.{Dialect}
 use Rattle.formula_parse.specs.declared.lexeme.Keyword.{Keyword}
 use Rattle.formula_parse.specs.declared.lexeme.Keyword.TheVariants as word
 use Rattle.formula_parse.specs.declared.lexeme.Lexeme.{Lexeme}
-use Rattle.formula_parse.specs.declared.lexeme.Lexeme.TheVariants.{Number, Text, Name, Dollar, Keyword as Word, Sign}
+use Rattle.formula_parse.specs.declared.lexeme.Lexeme.TheVariants.{Number, Text, Name, Dollar, Keyword as Word, Sign as Mark}
 use Rattle.formula_parse.specs.declared.frame.Frame.{Frame}
 use Rattle.formula_parse.specs.declared.frame.Frame.TheVariants.{Arguments, Key}
 use Rattle.formula_parse.specs.declared.frame.Mode.{Mode}
@@ -56,7 +56,7 @@ sign_after d _ fs t = None
 -- a lexeme behind a tree
 abbrev pub after_step : Dialect → Lexeme → List Frame → Tree → Option State
 after_step d (Word k) fs t = word_after d k fs t
-after_step d (Sign s) fs t = sign_after d s fs t
+after_step d (Mark s) fs t = sign_after d s fs t
 after_step d _ fs t = None
 
 -- a lexeme behind a tree and `not`
@@ -76,8 +76,8 @@ dot_step _ fs t = None
 
 -- a lexeme behind a name
 abbrev pub name_step : Lexeme → List Frame → List ℕ → Option State
-name_step (Sign sign.Open) fs n = Some (Arguments n [] ∷ fs, FirstItem)
-name_step (Sign sign.Point) fs n = Some (fs, AfterPoint n)
+name_step (Mark sign.Open) fs n = Some (Arguments n [] ∷ fs, FirstItem)
+name_step (Mark sign.Point) fs n = Some (fs, AfterPoint n)
 name_step _ fs n = None
 
 -- a word behind a table's name and a point
@@ -94,12 +94,12 @@ name_point_step _ fs n = None
 
 -- a lexeme behind the word of a lookup
 abbrev pub lookup_step : Lexeme → List Frame → LookupKind → List ℕ → Option State
-lookup_step (Sign sign.Open) fs k n = Some (fs, FirstKey k n)
+lookup_step (Mark sign.Open) fs k n = Some (fs, FirstKey k n)
 lookup_step _ fs k n = None
 
 -- a lexeme where the first key is wanted, or the end
 abbrev pub first_key_step : Lexeme → List Frame → LookupKind → List ℕ → Option State
-first_key_step (Sign sign.Close) fs k n = after fs (lookup k n (keys_from []))
+first_key_step (Mark sign.Close) fs k n = after fs (lookup k n (keys_from []))
 first_key_step (Name m) fs k n = Some (fs, AfterKey k n [] m)
 first_key_step _ fs k n = None
 
@@ -114,7 +114,7 @@ next_key_step _ fs k n ks = None
 
 -- a lexeme behind the name of a key
 abbrev pub key_step : Lexeme → List Frame → LookupKind → List ℕ → List (List ℕ × Tree) → List ℕ → Option State
-key_step (Sign sign.Assign) fs k n ks m = Some (Key k n ks m ∷ fs, Operand)
+key_step (Mark sign.Assign) fs k n ks m = Some (Key k n ks m ∷ fs, Operand)
 key_step _ fs k n ks m = None
 
 -- the next lexeme
@@ -162,7 +162,7 @@ lexeme_of (kind.Number n) = Some (Number n)
 lexeme_of (kind.Text s) = Some (Text s)
 lexeme_of (kind.Name n) = word_lexeme n (keyword_of n)
 lexeme_of (kind.Dollar n) = kept_name n >>= λ m. Some (Dollar m)
-lexeme_of (kind.Sign s) = Some (Sign s)
+lexeme_of (kind.Sign s) = Some (Mark s)
 
 -- the next token
 abbrev pub token_step : Dialect → Token → List Frame → Mode → Option State

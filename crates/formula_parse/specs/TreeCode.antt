@@ -4,107 +4,26 @@ use Rattle.std.specs.Coded.{Coded, code_by, coded_list, coded×, coded_ℕ}
 use Rattle.std.proofs.Common.{ap, ◌∙◌}
 use base.Stored.{Gv, gnil, gnum, gcons, num}
 use denote.Struct.Codes.{itself}
-use Rattle.formula_parse.specs.declared.operator.BinaryOp.{BinaryOp}
-use Rattle.formula_parse.specs.declared.operator.BinaryOp.TheVariants as op
-use Rattle.formula_parse.specs.declared.operator.PrefixOp.{PrefixOp}
-use Rattle.formula_parse.specs.declared.operator.PrefixOp.TheVariants as pre
-use Rattle.formula_parse.specs.declared.operator.Constant.{Constant}
-use Rattle.formula_parse.specs.declared.operator.Constant.TheVariants as con
-use Rattle.formula_parse.specs.declared.operator.LookupKind.{LookupKind}
-use Rattle.formula_parse.specs.declared.operator.LookupKind.TheVariants as kind
+use Rattle.formula_parse.specs.OperatorCode.{op_number, op_at, op_back, pre_number, pre_at, pre_back, con_number, con_at, con_back, kind_number, kind_at, kind_back}
 use Rattle.formula_parse.specs.Tree.{Tree, number, text, constant, dollar, binary, prefix, conditional, parentheses, list, call, attribute, every, lookup, Trees, no_trees, one_more, Keys, no_keys, one_key}
 
-abbrev pub op_number : BinaryOp → ℕ
-op_number op.Or = 0
-op_number op.And = 1
-op_number op.Equal = 2
-op_number op.NotEqual = 3
-op_number op.Less = 4
-op_number op.AtMost = 5
-op_number op.More = 6
-op_number op.AtLeast = 7
-op_number op.In = 8
-op_number op.NotIn = 9
-op_number op.Is = 10
-op_number op.IsNot = 11
-op_number op.Add = 12
-op_number op.Subtract = 13
-op_number op.Multiply = 14
-op_number op.Divide = 15
-op_number op.Remainder = 16
-
-abbrev pub op_at : ℕ → BinaryOp
-op_at n = get_or (op.Or ∷ op.And ∷ op.Equal ∷ op.NotEqual ∷ op.Less ∷ op.AtMost ∷ op.More ∷ op.AtLeast ∷ op.In ∷ op.NotIn ∷ op.Is ∷ op.IsNot ∷ op.Add ∷ op.Subtract ∷ op.Multiply ∷ op.Divide ∷ op.Remainder ∷ []) n op.Or
-
-op_back : (o : BinaryOp) → op_at (op_number o) ≡ o
-op_back op.Or = refl
-op_back op.And = refl
-op_back op.Equal = refl
-op_back op.NotEqual = refl
-op_back op.Less = refl
-op_back op.AtMost = refl
-op_back op.More = refl
-op_back op.AtLeast = refl
-op_back op.In = refl
-op_back op.NotIn = refl
-op_back op.Is = refl
-op_back op.IsNot = refl
-op_back op.Add = refl
-op_back op.Subtract = refl
-op_back op.Multiply = refl
-op_back op.Divide = refl
-op_back op.Remainder = refl
-
-abbrev pub pre_number : PrefixOp → ℕ
-pre_number pre.Not = 0
-pre_number pre.Negate = 1
-
-abbrev pub pre_at : ℕ → PrefixOp
-pre_at n = get_or (pre.Not ∷ pre.Negate ∷ []) n pre.Not
-
-pre_back : (o : PrefixOp) → pre_at (pre_number o) ≡ o
-pre_back pre.Not = refl
-pre_back pre.Negate = refl
-
-abbrev pub con_number : Constant → ℕ
-con_number con.Truth = 0
-con_number con.Falsity = 1
-con_number con.Nothing = 2
-con_number con.Rec = 3
-
-abbrev pub con_at : ℕ → Constant
-con_at n = get_or (con.Truth ∷ con.Falsity ∷ con.Nothing ∷ con.Rec ∷ []) n con.Truth
-
-con_back : (o : Constant) → con_at (con_number o) ≡ o
-con_back con.Truth = refl
-con_back con.Falsity = refl
-con_back con.Nothing = refl
-con_back con.Rec = refl
-
-abbrev pub kind_number : LookupKind → ℕ
-kind_number kind.Records = 0
-kind_number kind.One = 1
-
-abbrev pub kind_at : ℕ → LookupKind
-kind_at n = get_or (kind.Records ∷ kind.One ∷ []) n kind.Records
-
-kind_back : (k : LookupKind) → kind_at (kind_number k) ≡ k
-kind_back kind.Records = refl
-kind_back kind.One = refl
-
+-- the code of a name
 abbrev name_code : List ℕ → Gv
 name_code [] = gnil
 name_code (n ∷ ns) = gcons (gnum n) (name_code ns)
 
+-- the name of a code
 abbrev name_in : Gv → List ℕ
 name_in gnil = []
 name_in (gnum n) = []
 name_in (gcons a b) = num a ∷ name_in b
 
+-- which is the one that has it
 name_back : (ns : List ℕ) → name_in (name_code ns) ≡ ns
 name_back [] = refl
 name_back (n ∷ ns) = ap (λ m. n ∷ m) (name_back ns)
 
+-- the names of keys
 abbrev names_code : Keys → Gv
 names_code no_keys = gnil
 names_code (one_key n t ks) = gcons (name_code n) (names_code ks)
@@ -114,6 +33,7 @@ abbrev zipped : Gv → Trees → Keys
 zipped (gcons n ns) (one_more t ts) = one_key (name_in n) t (zipped ns ts)
 zipped _ _ = no_keys
 
+-- the parts of a pair
 abbrev left_of : Gv → Gv
 left_of gnil = gnil
 left_of (gnum n) = gnil
@@ -149,6 +69,7 @@ abbrev mutual
   trees_code no_trees = gnil
   trees_code (one_more t ts) = gcons (tree_code t) (trees_code ts)
 
+-- the first tree, and the others
 abbrev first : Trees → Tree
 first no_trees = number 0
 first (one_more t ts) = t
@@ -157,6 +78,7 @@ abbrev rest : Trees → Trees
 rest no_trees = no_trees
 rest (one_more t ts) = ts
 
+-- the tree with that tag
 abbrev made_at : ℕ → Gv → Trees → Tree
 made_at tag g ts =
     cond (nat_eq tag 0) (number (num g))
@@ -171,13 +93,15 @@ made_at tag g ts =
     (cond (nat_eq tag 9) (call (name_in g) ts)
     (cond (nat_eq tag 10) (attribute (first ts) (name_in g))
     (cond (nat_eq tag 11) (every (name_in g))
-      (lookup (kind_at (num (left_of g))) (name_in (left_of (right_of g))) (zipped (right_of (right_of g)) ts)))))))))))))
+    (lookup (kind_at (num (left_of g))) (name_in (left_of (right_of g))) (zipped (right_of (right_of g)) ts)))))))))))))
 
+-- the tree with that root and those parts
 abbrev made : Gv → Trees → Tree
 made gnil ts = number 0
 made (gnum n) ts = number 0
 made (gcons a g) ts = made_at (num a) g ts
 
+-- the tree of a code
 abbrev mutual
   tree_in : Gv → Tree
   tree_in gnil = number 0
@@ -189,6 +113,7 @@ abbrev mutual
   trees_in (gnum n) = no_trees
   trees_in (gcons g gs) = one_more (tree_in g) (trees_in gs)
 
+-- which is the one that has it
 mutual
   pub tree_back : (t : Tree) → tree_in (tree_code t) ≡ t
   tree_back (number n) = refl
@@ -213,6 +138,7 @@ mutual
   trees_back no_trees = refl
   trees_back (one_more t ts) = λ i. one_more (tree_back t i) (trees_back ts i)
 
+-- the codes tell trees apart
 abbrev pub coded_tree : Coded Tree
 coded_tree = code_by Gv itself tree_code tree_in tree_back
 

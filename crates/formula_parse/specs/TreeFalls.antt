@@ -5,7 +5,7 @@ use denote.Param.Weighed.{most}
 use Rattle.formula_parse.specs.declared.tree.LookupKey.{LookupKey}
 use Rattle.formula_parse.specs.declared.tree.Node.{Node}
 use Rattle.formula_parse.specs.declared.tree.Node.TheVariants as node
-use Rattle.formula_parse.specs.declared.tree.Formula.TheDeep as deep
+use Rattle.formula_parse.specs.declared.tree.ArgumentList.TheDeep as deep
 use Rattle.formula_parse.specs.Tree.{Tree, from_list, keys_from}
 use Rattle.formula_parse.specs.TreeSize.{tree_size, list_size, trees_size, keys_size, key_list_size}
 use Rattle.formula_parse.specs.Seen.{tree_of, keys_of}

@@ -13,7 +13,8 @@
 //! | 8     | atoms and attributes       |      |       |
 
 ghost use Rattle.std.specs.Prelude.{◌≡◌};
-ghost use Rattle.formula_parse.specs.Grammar.{has_op, group_of, prefix_level};
+ghost use Rattle.formula_parse.specs.Grammar.{group_of, prefix_level};
+ghost use Rattle.formula_parse.specs.Standing.{has_op};
 ghost use Rattle.formula_parse.specs.Levels.{group_level, group_left, group_right};
 
 /// Which formulas are read.

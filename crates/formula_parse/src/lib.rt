@@ -1,0 +1,27 @@
+//! Formulas: a text read as the one tree that spells it.
+//!
+//! Stands on `cell_types` (names and texts) and `formula_lex` (tokens).
+//! Used by `formula_eval` and by whatever reads formulas or rules.
+//!
+//! Promises: `parse` gives the tree that specs/Spelling.antt says, no other tree is spelled by the
+//! text, and `Syntax` comes exactly where none is, within 4,096 bytes and 256 constructs. The text
+//! is read once, with a stack of what is open and no recursion.
+//! Not promised: that a fault's place tells a writer what is wrong; it lies in the text, no more.
+//! Read first: operator.rt, tree.rt, then frame.rt and parser.rt.
+#![tactic(auto)]
+
+mod fault;
+mod frame;
+mod lexeme;
+mod operator;
+mod parser;
+mod reduce;
+mod step;
+#[cfg(test)]
+mod tests;
+mod tree;
+
+pub use fault::ParseFault;
+pub use operator::{BinaryOp, Constant, Dialect, LookupKind, PrefixOp};
+pub use parser::{MAX_TEXT_BYTES, parse, read_tree};
+pub use tree::{ArgumentList, Formula, LookupKey, LookupKeyList, MAX_HEIGHT, Node};

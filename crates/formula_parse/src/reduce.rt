@@ -1,0 +1,120 @@
+//! Closing what binds closer than what comes: where trees are built.
+
+ghost use Rattle.std.specs.Prelude.{◌≡◌, ℕ, ◌+◌, ◌≤◌, List, [], ◌∷◌, ◌++◌, Bool, true, Option, Some, None};
+ghost use Rattle.formula_parse.specs.Tree.{Tree, height_of};
+ghost use Rattle.formula_parse.specs.Seen.{tree_of};
+ghost use Rattle.formula_parse.specs.Machine.{kept, is_last, filled, reduce, infix_step, if_step, else_step, prefix_step};
+ghost use Rattle.formula_parse.specs.Parsed.{Gives};
+ghost use Rattle.formula_parse.specs.declared.operator.Dialect.TheVariants as dialects;
+
+use crate::fault::Stop;
+use crate::frame::{Frame, Mode, Stack};
+use crate::operator::{BinaryOp, Dialect, PrefixOp};
+use crate::tree::{Formula, MAX_HEIGHT, Node};
+use std::alloc::Global;
+
+/// The formula with this at its root, where it is not too high.
+pub(crate) fn kept(alloc: Global, node: Node, below: u16) -> Result<Formula, Stop>
+    requires { height_of (tree_of node) ≡ below + 1 }
+    ensures { Gives (λ f. f) result (kept (tree_of node)) }
+{
+    if below >= MAX_HEIGHT {
+        return Err(Stop::Syntax);
+    }
+    Ok(Formula::of(alloc, node, below + 1)?)
+}
+
+// The frame with the formula in it.
+fn filled(alloc: Global, frame: Frame, tree: Formula) -> Result<Formula, Stop>
+    requires { is_last frame ≡ true }
+    ensures { Gives (λ f. f) result (kept (filled frame tree)) }
+{
+    match frame {
+        Frame::Left(left, op) => {
+            let below = left.height().max(tree.height());
+            kept(alloc, Node::Binary(op, left, tree), below)
+        }
+        Frame::Prefix(op) => {
+            let below = tree.height();
+            kept(alloc, Node::Prefix(op, tree), below)
+        }
+        Frame::Otherwise(value, condition) => {
+            let below = value.height().max(condition.height().max(tree.height()));
+            kept(alloc, Node::Conditional(value, condition, tree), below)
+        }
+        _ => unreachable!(),
+    }
+}
+
+/// Closes each frame that ends with its formula and whose level is from `level` on.
+pub(crate) fn reduce(
+    alloc: Global,
+    level: u8,
+    frames: &mut Stack,
+    tree: Formula,
+) -> Result<Formula, Stop>
+    ensures { Gives (λ t. (frames.new, t)) result (reduce level frames.old tree) }
+{
+    let mut tree = tree;
+    while let Some(frame) = frames.take_closing(level) {
+        tree = filled(alloc, frame, tree)?;
+    }
+    Ok(tree)
+}
+
+/// An operator between operands behind a formula.
+pub(crate) fn infix(
+    alloc: Global,
+    dialect: Dialect,
+    op: BinaryOp,
+    frames: &mut Stack,
+    tree: Formula,
+) -> Result<Mode, Stop>
+    ensures { Gives (λ m. (frames.new, m)) result (infix_step dialect op frames.old tree) }
+{
+    let left = reduce(alloc, op.level() + 1, frames, tree)?;
+    if dialect.has(op) && frames.room() <= op.level() && op.left() <= left.level() {
+        frames.push(Frame::Left(left, op))?;
+        return Ok(Mode::Operand);
+    }
+    Err(Stop::Syntax)
+}
+
+/// An operator in front of an operand.
+pub(crate) fn open_prefix(op: PrefixOp, frames: &mut Stack) -> Result<Mode, Stop>
+    ensures { Gives (λ m. (frames.new, m)) result (prefix_step op frames.old) }
+{
+    if frames.room() <= op.level() {
+        frames.push(Frame::Prefix(op))?;
+        return Ok(Mode::Operand);
+    }
+    Err(Stop::Syntax)
+}
+
+/// `if` behind a formula.
+pub(crate) fn open_condition(alloc: Global, frames: &mut Stack, tree: Formula) -> Result<Mode, Stop>
+    ensures { Gives (λ m. (frames.new, m)) result (if_step dialects.Formula frames.old tree) }
+{
+    let value = reduce(alloc, 1, frames, tree)?;
+    if frames.room() == 0 && 1 <= value.level() {
+        frames.push(Frame::Condition(value))?;
+        return Ok(Mode::Operand);
+    }
+    Err(Stop::Syntax)
+}
+
+/// `else` behind a formula that nothing else closes.
+pub(crate) fn open_otherwise(frames: &mut Stack, tree: Formula) -> Result<Mode, Stop>
+    ensures { Gives (λ m. (frames.new, m)) result (else_step frames.old tree) }
+{
+    match frames.pop() {
+        Some(Frame::Condition(value)) => {
+            if 1 <= tree.level() {
+                frames.push(Frame::Otherwise(value, tree))?;
+                return Ok(Mode::Operand);
+            }
+            Err(Stop::Syntax)
+        }
+        _ => Err(Stop::Syntax),
+    }
+}

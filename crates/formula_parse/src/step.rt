@@ -1,0 +1,475 @@
+//! The steps of the parser: what the next token makes of what is open.
+
+ghost use Rattle.std.specs.Prelude.{◌≡◌, ℕ, ◌+◌, ◌≤◌, List, [], ◌∷◌, ◌++◌, Bool, true, Option, Some, None, bytes_eq};
+ghost use Rattle.formula_parse.specs.Tree.{Tree, attribute, height_of, from_list, heights, keys_from, key_heights};
+ghost use Rattle.formula_parse.specs.Machine.{kept, close_step, close_list_step, comma_step, word_operand, sign_operand, name_operand, operand_step, close_empty, close_empty_list, first_step};
+ghost use Rattle.formula_parse.specs.Steps.{word_after, sign_after, after_step, is_step, name_step, table_step, first_key_step, next_key_step, key_step, step, finish};
+ghost use Rattle.formula_parse.specs.Grammar.{all_word, lookup_word};
+ghost use Rattle.formula_parse.specs.Parsed.{Gives};
+
+use crate::fault::Stop;
+use crate::frame::{Frame, Mode, Stack};
+use crate::lexeme::{Keyword, Lexeme, is_id};
+use crate::operator::{BinaryOp, Constant, Dialect, LookupKind, PrefixOp};
+use crate::reduce::{infix, kept, open_condition, open_otherwise, open_prefix, reduce};
+use crate::tree::{ArgumentList, Formula, LookupKey, LookupKeyList, Node};
+use cell_types::Name;
+use formula_lex::Sign;
+use std::alloc::Global;
+
+// `)` behind a formula that nothing else closes.
+fn close(alloc: Global, frames: &mut Stack, tree: Formula) -> Result<Mode, Stop>
+    ensures { Gives (λ m. (frames.new, m)) result (close_step frames.old tree) }
+{
+    match frames.pop() {
+        Some(Frame::Parentheses) => {
+            let below = tree.height();
+            Ok(Mode::Operator(kept(alloc, Node::Parentheses(tree), below)?))
+        }
+        Some(Frame::Arguments(name, items)) => {
+            let mut items = items;
+            items.push(tree)?;
+            let below = items.height();
+            Ok(Mode::Operator(kept(alloc, Node::Call(name, items), below)?))
+        }
+        Some(Frame::Key(kind, table, keys, name)) => {
+            let mut keys = keys;
+            keys.push(LookupKey { name, value: tree })?;
+            let below = keys.height();
+            Ok(Mode::Operator(kept(alloc, Node::Lookup(kind, table, keys), below)?))
+        }
+        _ => Err(Stop::Syntax),
+    }
+}
+
+// `]` behind a formula that nothing else closes.
+fn close_list(alloc: Global, frames: &mut Stack, tree: Formula) -> Result<Mode, Stop>
+    ensures { Gives (λ m. (frames.new, m)) result (close_list_step frames.old tree) }
+{
+    match frames.pop() {
+        Some(Frame::Items(items)) => {
+            let mut items = items;
+            items.push(tree)?;
+            let below = items.height();
+            Ok(Mode::Operator(kept(alloc, Node::List(items), below)?))
+        }
+        _ => Err(Stop::Syntax),
+    }
+}
+
+// `,` behind a formula that nothing else closes.
+fn comma(frames: &mut Stack, tree: Formula) -> Result<Mode, Stop>
+    ensures { Gives (λ m. (frames.new, m)) result (comma_step frames.old tree) }
+{
+    match frames.pop() {
+        Some(Frame::Items(items)) => {
+            let mut items = items;
+            items.push(tree)?;
+            frames.push(Frame::Items(items))?;
+            Ok(Mode::Operand)
+        }
+        Some(Frame::Arguments(name, items)) => {
+            let mut items = items;
+            items.push(tree)?;
+            frames.push(Frame::Arguments(name, items))?;
+            Ok(Mode::Operand)
+        }
+        Some(Frame::Key(kind, table, keys, name)) => {
+            let mut keys = keys;
+            keys.push(LookupKey { name, value: tree })?;
+            Ok(Mode::NextKey(kind, table, keys))
+        }
+        _ => Err(Stop::Syntax),
+    }
+}
+
+// A keyword where an operand is wanted.
+fn word_operand(
+    alloc: Global,
+    dialect: Dialect,
+    frames: &mut Stack,
+    keyword: Keyword,
+) -> Result<Mode, Stop>
+    ensures { Gives (λ m. (frames.new, m)) result (word_operand dialect keyword frames.old) }
+{
+    match keyword {
+        Keyword::Not => open_prefix(PrefixOp::Not, frames),
+        Keyword::Truth => Ok(Mode::Operator(kept(alloc, Node::Constant(Constant::Truth), 0)?)),
+        Keyword::Falsity => {
+            Ok(Mode::Operator(kept(alloc, Node::Constant(Constant::Falsity), 0)?))
+        }
+        Keyword::Nothing => {
+            Ok(Mode::Operator(kept(alloc, Node::Constant(Constant::Nothing), 0)?))
+        }
+        Keyword::Rec => match dialect {
+            Dialect::Formula => Ok(Mode::Operator(kept(alloc, Node::Constant(Constant::Rec), 0)?)),
+            Dialect::Rule => Err(Stop::Syntax),
+        },
+        _ => Err(Stop::Syntax),
+    }
+}
+
+// A sign where an operand is wanted.
+fn sign_operand(alloc: Global, frames: &mut Stack, sign: Sign) -> Result<Mode, Stop>
+    ensures { Gives (λ m. (frames.new, m)) result (sign_operand sign frames.old) }
+{
+    match sign {
+        Sign::Minus => open_prefix(PrefixOp::Negate, frames),
+        Sign::Open => {
+            frames.push(Frame::Parentheses)?;
+            Ok(Mode::Operand)
+        }
+        Sign::OpenList => {
+            frames.push(Frame::Items(ArgumentList::new(alloc)))?;
+            Ok(Mode::FirstItem)
+        }
+        _ => Err(Stop::Syntax),
+    }
+}
+
+// A name where an operand is wanted.
+fn name_operand(dialect: Dialect, frames: &mut Stack, name: Name) -> Result<Mode, Stop>
+    ensures { Gives (λ m. (frames.new, m)) result (name_operand dialect name frames.old) }
+{
+    match dialect {
+        Dialect::Formula => {
+            if is_id(name.as_str()) {
+                return Err(Stop::Syntax);
+            }
+            Ok(Mode::AfterName(name))
+        }
+        Dialect::Rule => Err(Stop::Syntax),
+    }
+}
+
+// A token where an operand is wanted.
+fn operand(
+    alloc: Global,
+    dialect: Dialect,
+    frames: &mut Stack,
+    lexeme: Lexeme,
+) -> Result<Mode, Stop>
+    ensures { Gives (λ m. (frames.new, m)) result (operand_step dialect lexeme frames.old) }
+{
+    match lexeme {
+        Lexeme::Number(n) => Ok(Mode::Operator(kept(alloc, Node::Number(n), 0)?)),
+        Lexeme::Text(text) => Ok(Mode::Operator(kept(alloc, Node::Text(text), 0)?)),
+        Lexeme::Dollar(name) => match dialect {
+            Dialect::Formula => Ok(Mode::Operator(kept(alloc, Node::Dollar(name), 0)?)),
+            Dialect::Rule => Err(Stop::Syntax),
+        },
+        Lexeme::Name(name) => name_operand(dialect, frames, name),
+        Lexeme::Keyword(keyword) => word_operand(alloc, dialect, frames, keyword),
+        Lexeme::Sign(sign) => sign_operand(alloc, frames, sign),
+    }
+}
+
+// The end of arguments, where there are none.
+fn close_empty(alloc: Global, frames: &mut Stack) -> Result<Mode, Stop>
+    ensures { Gives (λ m. (frames.new, m)) result (close_empty frames.old) }
+{
+    match frames.pop() {
+        Some(Frame::Arguments(name, items)) => {
+            if items.is_empty() {
+                return Ok(Mode::Operator(kept(alloc, Node::Call(name, items), 0)?));
+            }
+            Err(Stop::Syntax)
+        }
+        _ => Err(Stop::Syntax),
+    }
+}
+
+// The end of a list, where it has no items.
+fn close_empty_list(alloc: Global, frames: &mut Stack) -> Result<Mode, Stop>
+    ensures { Gives (λ m. (frames.new, m)) result (close_empty_list frames.old) }
+{
+    match frames.pop() {
+        Some(Frame::Items(items)) => {
+            if items.is_empty() {
+                return Ok(Mode::Operator(kept(alloc, Node::List(items), 0)?));
+            }
+            Err(Stop::Syntax)
+        }
+        _ => Err(Stop::Syntax),
+    }
+}
+
+// The first item of a list or of arguments, or their end.
+fn first_item(
+    alloc: Global,
+    dialect: Dialect,
+    frames: &mut Stack,
+    lexeme: Lexeme,
+) -> Result<Mode, Stop>
+    ensures { Gives (λ m. (frames.new, m)) result (first_step dialect lexeme frames.old) }
+{
+    match lexeme {
+        Lexeme::Sign(Sign::Close) => close_empty(alloc, frames),
+        Lexeme::Sign(Sign::CloseList) => close_empty_list(alloc, frames),
+        _ => operand(alloc, dialect, frames, lexeme),
+    }
+}
+
+// A keyword behind a formula.
+fn word_after(
+    alloc: Global,
+    dialect: Dialect,
+    frames: &mut Stack,
+    tree: Formula,
+    keyword: Keyword,
+) -> Result<Mode, Stop>
+    ensures { Gives (λ m. (frames.new, m)) result (word_after dialect keyword frames.old tree) }
+{
+    match keyword {
+        Keyword::Or => infix(alloc, dialect, BinaryOp::Or, frames, tree),
+        Keyword::And => infix(alloc, dialect, BinaryOp::And, frames, tree),
+        Keyword::In => infix(alloc, dialect, BinaryOp::In, frames, tree),
+        Keyword::Not => Ok(Mode::AfterNot(tree)),
+        Keyword::Is => Ok(Mode::AfterIs(tree)),
+        Keyword::If => match dialect {
+            Dialect::Formula => open_condition(alloc, frames, tree),
+            Dialect::Rule => Err(Stop::Syntax),
+        },
+        Keyword::Else => {
+            let tree = reduce(alloc, 0, frames, tree)?;
+            open_otherwise(frames, tree)
+        }
+        _ => Err(Stop::Syntax),
+    }
+}
+
+// A sign behind a formula.
+fn sign_after(
+    alloc: Global,
+    dialect: Dialect,
+    frames: &mut Stack,
+    tree: Formula,
+    sign: Sign,
+) -> Result<Mode, Stop>
+    ensures { Gives (λ m. (frames.new, m)) result (sign_after dialect sign frames.old tree) }
+{
+    match sign {
+        Sign::Equal => infix(alloc, dialect, BinaryOp::Equal, frames, tree),
+        Sign::NotEqual => infix(alloc, dialect, BinaryOp::NotEqual, frames, tree),
+        Sign::Less => infix(alloc, dialect, BinaryOp::Less, frames, tree),
+        Sign::AtMost => infix(alloc, dialect, BinaryOp::AtMost, frames, tree),
+        Sign::More => infix(alloc, dialect, BinaryOp::More, frames, tree),
+        Sign::AtLeast => infix(alloc, dialect, BinaryOp::AtLeast, frames, tree),
+        Sign::Plus => infix(alloc, dialect, BinaryOp::Add, frames, tree),
+        Sign::Minus => infix(alloc, dialect, BinaryOp::Subtract, frames, tree),
+        Sign::Star => infix(alloc, dialect, BinaryOp::Multiply, frames, tree),
+        Sign::DoubleSlash => infix(alloc, dialect, BinaryOp::Divide, frames, tree),
+        Sign::Percent => infix(alloc, dialect, BinaryOp::Remainder, frames, tree),
+        Sign::Point => match dialect {
+            Dialect::Formula => Ok(Mode::AfterDot(tree)),
+            Dialect::Rule => Err(Stop::Syntax),
+        },
+        Sign::Close => {
+            let tree = reduce(alloc, 0, frames, tree)?;
+            close(alloc, frames, tree)
+        }
+        Sign::CloseList => {
+            let tree = reduce(alloc, 0, frames, tree)?;
+            close_list(alloc, frames, tree)
+        }
+        Sign::Comma => {
+            let tree = reduce(alloc, 0, frames, tree)?;
+            comma(frames, tree)
+        }
+        _ => Err(Stop::Syntax),
+    }
+}
+
+// A token behind a formula.
+fn after(
+    alloc: Global,
+    dialect: Dialect,
+    frames: &mut Stack,
+    tree: Formula,
+    lexeme: Lexeme,
+) -> Result<Mode, Stop>
+    ensures { Gives (λ m. (frames.new, m)) result (after_step dialect lexeme frames.old tree) }
+{
+    match lexeme {
+        Lexeme::Keyword(keyword) => word_after(alloc, dialect, frames, tree, keyword),
+        Lexeme::Sign(sign) => sign_after(alloc, dialect, frames, tree, sign),
+        _ => Err(Stop::Syntax),
+    }
+}
+
+// A token behind a formula and `is`.
+fn after_is(
+    alloc: Global,
+    dialect: Dialect,
+    frames: &mut Stack,
+    tree: Formula,
+    lexeme: Lexeme,
+) -> Result<Mode, Stop>
+    ensures { Gives (λ m. (frames.new, m)) result (is_step dialect lexeme frames.old tree) }
+{
+    match lexeme {
+        Lexeme::Keyword(Keyword::Not) => infix(alloc, dialect, BinaryOp::IsNot, frames, tree),
+        _ => {
+            let _operand = infix(alloc, dialect, BinaryOp::Is, frames, tree)?;
+            operand(alloc, dialect, frames, lexeme)
+        }
+    }
+}
+
+// The attribute of a formula.
+fn attribute(alloc: Global, tree: Formula, name: Name) -> Result<Formula, Stop>
+    ensures { Gives (λ f. f) result (kept (attribute tree name)) }
+{
+    let below = tree.height();
+    kept(alloc, Node::Attribute(tree, name), below)
+}
+
+// A token behind a name.
+fn after_name(alloc: Global, frames: &mut Stack, name: Name, lexeme: Lexeme) -> Result<Mode, Stop>
+    ensures { Gives (λ m. (frames.new, m)) result (name_step lexeme frames.old name) }
+{
+    match lexeme {
+        Lexeme::Sign(Sign::Open) => {
+            frames.push(Frame::Arguments(name, ArgumentList::new(alloc)))?;
+            Ok(Mode::FirstItem)
+        }
+        Lexeme::Sign(Sign::Point) => Ok(Mode::AfterPoint(name)),
+        _ => Err(Stop::Syntax),
+    }
+}
+
+// A word behind a table's name and a point.
+#[tactic(auto, unfolding(crate::specs::Grammar::all_word, crate::specs::Grammar::lookup_word))]
+fn after_point(alloc: Global, frames: &mut Stack, table: Name, word: &str) -> Result<Mode, Stop>
+    ensures { Gives (λ m. (frames.new, m)) result (table_step word.now frames.old table) }
+{
+    if word == "all" {
+        return Ok(Mode::Operator(kept(alloc, Node::All(table), 0)?));
+    }
+    if word == "lookupRecords" {
+        return Ok(Mode::AfterLookup(LookupKind::Records, table));
+    }
+    if word == "lookupOne" {
+        return Ok(Mode::AfterLookup(LookupKind::One, table));
+    }
+    Err(Stop::Syntax)
+}
+
+// A token where the first key is wanted, or the end of the keys.
+fn first_key(
+    alloc: Global,
+    frames: &mut Stack,
+    kind: LookupKind,
+    table: Name,
+    lexeme: Lexeme,
+) -> Result<Mode, Stop>
+    ensures { Gives (λ m. (frames.new, m)) result (first_key_step lexeme frames.old kind table) }
+{
+    let keys = LookupKeyList::new(alloc);
+    match lexeme {
+        Lexeme::Sign(Sign::Close) => {
+            Ok(Mode::Operator(kept(alloc, Node::Lookup(kind, table, keys), 0)?))
+        }
+        Lexeme::Name(name) => Ok(Mode::AfterKey(kind, table, keys, name)),
+        _ => Err(Stop::Syntax),
+    }
+}
+
+// A token where a further key is wanted.
+fn next_key(
+    frames: &mut Stack,
+    kind: LookupKind,
+    table: Name,
+    keys: LookupKeyList,
+    lexeme: Lexeme,
+) -> Result<Mode, Stop>
+    ensures { Gives (λ m. (frames.new, m)) result (next_key_step lexeme frames.old kind table keys) }
+{
+    match lexeme {
+        Lexeme::Name(name) => {
+            if keys.has(&name) {
+                return Err(Stop::Syntax);
+            }
+            Ok(Mode::AfterKey(kind, table, keys, name))
+        }
+        _ => Err(Stop::Syntax),
+    }
+}
+
+// A token behind the name of a key.
+fn after_key(
+    frames: &mut Stack,
+    kind: LookupKind,
+    table: Name,
+    keys: LookupKeyList,
+    name: Name,
+    lexeme: Lexeme,
+) -> Result<Mode, Stop>
+    ensures { Gives (λ m. (frames.new, m)) result (key_step lexeme frames.old kind table keys name) }
+{
+    match lexeme {
+        Lexeme::Sign(Sign::Assign) => {
+            frames.push(Frame::Key(kind, table, keys, name))?;
+            Ok(Mode::Operand)
+        }
+        _ => Err(Stop::Syntax),
+    }
+}
+
+/// What the next token makes of what is open.
+#[tactic(auto, unfolding(crate::specs::Steps::step))]
+pub(crate) fn step(
+    alloc: Global,
+    dialect: Dialect,
+    frames: &mut Stack,
+    mode: Mode,
+    lexeme: Lexeme,
+) -> Result<Mode, Stop>
+    ensures { Gives (λ m. (frames.new, m)) result (step dialect lexeme frames.old mode) }
+{
+    match mode {
+        Mode::Operand => operand(alloc, dialect, frames, lexeme),
+        Mode::FirstItem => first_item(alloc, dialect, frames, lexeme),
+        Mode::Operator(tree) => after(alloc, dialect, frames, tree, lexeme),
+        Mode::AfterNot(tree) => match lexeme {
+            Lexeme::Keyword(Keyword::In) => infix(alloc, dialect, BinaryOp::NotIn, frames, tree),
+            _ => Err(Stop::Syntax),
+        },
+        Mode::AfterIs(tree) => after_is(alloc, dialect, frames, tree, lexeme),
+        Mode::AfterDot(tree) => match lexeme {
+            Lexeme::Name(name) => Ok(Mode::Operator(attribute(alloc, tree, name)?)),
+            _ => Err(Stop::Syntax),
+        },
+        Mode::AfterName(name) => after_name(alloc, frames, name, lexeme),
+        Mode::AfterPoint(table) => match lexeme {
+            Lexeme::Name(name) => after_point(alloc, frames, table, name.as_str()),
+            _ => Err(Stop::Syntax),
+        },
+        Mode::AfterLookup(kind, table) => match lexeme {
+            Lexeme::Sign(Sign::Open) => Ok(Mode::FirstKey(kind, table)),
+            _ => Err(Stop::Syntax),
+        },
+        Mode::FirstKey(kind, table) => first_key(alloc, frames, kind, table, lexeme),
+        Mode::NextKey(kind, table, keys) => next_key(frames, kind, table, keys, lexeme),
+        Mode::AfterKey(kind, table, keys, name) => {
+            after_key(frames, kind, table, keys, name, lexeme)
+        }
+    }
+}
+
+/// What the end of the tokens makes of what is open.
+#[tactic(auto, unfolding(crate::specs::Steps::finish))]
+pub(crate) fn finish(alloc: Global, frames: &mut Stack, mode: Mode) -> Result<Formula, Stop>
+    ensures { Gives (λ t. t) result (finish frames.old mode) }
+{
+    match mode {
+        Mode::Operator(tree) => {
+            let tree = reduce(alloc, 0, frames, tree)?;
+            match frames.pop() {
+                Some(_) => Err(Stop::Syntax),
+                None => Ok(tree),
+            }
+        }
+        _ => Err(Stop::Syntax),
+    }
+}

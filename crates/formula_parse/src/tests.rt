@@ -1,0 +1,291 @@
+//! `groups_as_python_does`: these texts are Python expressions too, and the expected shapes are those
+//! that Python 3 reads (its module `ast`; a chain of `or` or `and` is taken two at a time).
+//! `reads_each_form` and `refuses_texts` follow the grammar in docs/FORMULAS.md by hand, and
+//! `keeps_the_limits` its bounds. `reads_rules` shows what the other dialect leaves out.
+
+use crate::{Dialect, Formula, Node, ParseFault, parse, read_tree};
+use std::alloc::{AllocError, Global};
+use std::test::Fail;
+
+// Adds what stands at the root.
+fn push_root(out: &mut String, formula: &Formula) -> Result<(), AllocError> {
+    match formula.node() {
+        Node::Number(_) => write!(out, "Number"),
+        Node::Text(_) => write!(out, "Text"),
+        Node::Constant(constant) => write!(out, "{constant:?}"),
+        Node::Dollar(name) => write!(out, "${}", name.as_str()),
+        Node::Binary(op, _, _) => write!(out, "{op:?}"),
+        Node::Prefix(op, _) => write!(out, "{op:?}"),
+        Node::Conditional(_, _, _) => write!(out, "Conditional"),
+        Node::Parentheses(_) => write!(out, "Parentheses"),
+        Node::List(_) => write!(out, "List"),
+        Node::Call(_, _) => write!(out, "Call"),
+        Node::Attribute(_, _) => write!(out, "Attribute"),
+        Node::All(table) => write!(out, "All:{}", table.as_str()),
+        Node::Lookup(kind, table, _) => write!(out, "{kind:?}:{}", table.as_str()),
+    }
+}
+
+fn push_part(out: &mut String, formula: &Formula) -> Result<(), AllocError> {
+    out.push_str(" ")?;
+    push_root(out, formula)
+}
+
+// The root and the roots of its parts.
+fn shape(alloc: Global, formula: &Formula) -> Result<String, AllocError> {
+    let mut out = String::new(alloc);
+    push_root(&mut out, formula)?;
+    match formula.node() {
+        Node::Binary(_, left, right) => {
+            push_part(&mut out, left)?;
+            push_part(&mut out, right)?;
+        }
+        Node::Prefix(_, part) | Node::Parentheses(part) | Node::Attribute(part, _) => {
+            push_part(&mut out, part)?;
+        }
+        Node::Conditional(value, condition, other) => {
+            push_part(&mut out, value)?;
+            push_part(&mut out, condition)?;
+            push_part(&mut out, other)?;
+        }
+        Node::List(items) | Node::Call(_, items) => {
+            for item in items.as_slice() {
+                push_part(&mut out, item)?;
+            }
+        }
+        Node::Lookup(_, _, keys) => {
+            for key in keys.as_slice() {
+                write!(&mut out, " {}=", key.name.as_str())?;
+                push_root(&mut out, &key.value)?;
+            }
+        }
+        _ => {}
+    }
+    Ok(out)
+}
+
+#[test]
+fn groups_as_python_does(rt: HostRuntime) -> Result<(), Fail> {
+    for (text, want) in [
+        ("1 + 2 * 3", "Add Number Multiply"),
+        ("2 * 3 + 1", "Add Multiply Number"),
+        ("10 - 4 - 3", "Subtract Subtract Number"),
+        ("8 // 2 % 3", "Remainder Divide Number"),
+        ("2 * 7 // 4", "Divide Multiply Number"),
+        ("-7 // 2", "Divide Negate Number"),
+        ("-7 % 3", "Remainder Negate Number"),
+        ("--3", "Negate Negate"),
+        ("2 - -3", "Subtract Number Negate"),
+        ("2 * -3", "Multiply Number Negate"),
+        ("1 + 2 < 3 * 4", "Less Add Multiply"),
+        ("1 == 2 - 3", "Equal Number Subtract"),
+        ("not 1 == 2", "Not Equal"),
+        ("not 1 + 1", "Not Add"),
+        ("not not 0", "Not Not"),
+        ("not 0 and 1", "And Not Number"),
+        ("1 or 2 and 0", "Or Number And"),
+        ("0 and 1 or 2", "Or And Number"),
+        ("1 or 2 or 3", "Or Or Number"),
+        ("1 and 2 and 3", "And And Number"),
+        ("not 1 or 2", "Or Not Number"),
+        ("1 in [1] + [2]", "In Number Add"),
+        ("3 not in [1, 2]", "NotIn Number List"),
+        ("1 is not 0", "IsNot Number Number"),
+        ("None is None", "Is Nothing Nothing"),
+        ("1 != 2 and 3 >= 4", "And NotEqual AtLeast"),
+        ("1 <= 2 or 3 > 4", "Or AtMost More"),
+        (
+            "1 if 0 else 2 if 0 else 3",
+            "Conditional Number Number Conditional",
+        ),
+        ("1 or 2 if 3 and 4 else not 5", "Conditional Or And Not"),
+        ("1 if 0 or 1 else 2", "Conditional Number Or Number"),
+        ("-rec.A", "Negate Attribute"),
+        ("rec.A.B", "Attribute Attribute"),
+        ("rec.A + 1", "Add Attribute Number"),
+        ("len('ab') * 2", "Multiply Call Number"),
+        ("-len('a')", "Negate Call"),
+        ("[1, -2, 'a']", "List Number Negate Text"),
+        ("'a' + \"b\"", "Add Text Text"),
+    ] {
+        let got = shape(rt.alloc(), &parse(rt.alloc(), text)?)?;
+        assert_eq!(rt; got.as_str(), want, "at {text:?}");
+    }
+    Ok(())
+}
+
+#[test]
+fn reads_each_form(rt: HostRuntime) -> Result<(), Fail> {
+    for (text, want) in [
+        (" \t\r\n", "Nothing"),
+        ("", "Nothing"),
+        ("  7  ", "Number"),
+        ("007", "Number"),
+        ("$A if $id > 2 else 0", "Conditional $A More Number"),
+        ("$A.B", "Attribute $A"),
+        ("rec.id", "Attribute Rec"),
+        ("(1 + 2) * 3", "Multiply Parentheses Number"),
+        ("((1))", "Parentheses Parentheses"),
+        ("[]", "List"),
+        ("now()", "Call"),
+        ("IFERROR($A // $B, -1)", "Call Divide Negate"),
+        ("P.all", "All:P"),
+        ("all.all.all", "Attribute All:all"),
+        ("P.all.A", "Attribute All:P"),
+        ("P.lookupRecords()", "Records:P"),
+        ("P.lookupOne(id=1)", "One:P id=Number"),
+        ("P.lookupRecords(A=$B, C=1 + 2).A", "Attribute Records:P"),
+        (
+            "P.lookupRecords(Tags=CONTAINS(\"a\"), B=2)",
+            "Records:P Tags=Call B=Number",
+        ),
+        ("P.lookupOne(A=Q.lookupOne(A=1))", "One:P A=One:Q"),
+        ("lookupOne(1)", "Call Number"),
+        ("(1 < 2) < 3", "Less Parentheses Number"),
+        ("1 is (not 0)", "Is Number Parentheses"),
+    ] {
+        let got = shape(rt.alloc(), &parse(rt.alloc(), text)?)?;
+        assert_eq!(rt; got.as_str(), want, "at {text:?}");
+    }
+    Ok(())
+}
+
+#[test]
+fn refuses_texts(rt: HostRuntime) {
+    for text in [
+        "1 + not 1",
+        "- not 1",
+        "1 < not 2",
+        "1 == 1 == 1",
+        "1 < 2 < 3",
+        "1 < 2 == True",
+        "1 if 1",
+        "1 else 2",
+        "if 1 else 2",
+        "1 if 2 if 1 else 0 else 3",
+        "1 not 2",
+        "1 is not not 0",
+        "[1,]",
+        "[,]",
+        "[1 2]",
+        "[1",
+        "1]",
+        "'a' 'b'",
+        "1_000",
+        "1.5",
+        "1e3",
+        "12 13",
+        "$ A",
+        "$$A",
+        "$A$A",
+        "$if",
+        "rec.if",
+        "$None",
+        "rec.rec",
+        "rec.",
+        "A",
+        "id",
+        "user",
+        "true",
+        "id(1)",
+        "id.all",
+        "1 +",
+        ")",
+        "(",
+        "()",
+        "(1",
+        "1)",
+        "1 2",
+        "a = 1",
+        "1 = 1",
+        "2 ** 3",
+        "+1",
+        "lambda",
+        "1,",
+        "'a'[0]",
+        "$A()",
+        "len('ab',)",
+        "len(,)",
+        "if(1)",
+        "(len)('a')",
+        "P.All",
+        "P.lookupRows()",
+        "P.lookupOne",
+        "P.lookupOne(1)",
+        "P.lookupOne(A)",
+        "P.lookupOne(A=1,)",
+        "P.lookupOne(A=)",
+        "P.lookupOne(A=1, A=2)",
+        "P.lookupOne(if=1)",
+        "P.lookupOne(A=1, B=2, A=3)",
+        "$P.lookupOne()",
+        "a.b",
+        "1 2 3 'a",
+    ] {
+        let refused = matches!(&parse(rt.alloc(), text), Err(ParseFault::Syntax { at: _ }));
+        assert!(rt; refused, "at {text:?}");
+    }
+}
+
+// The text that many times.
+fn many(alloc: Global, count: usize, text: &str) -> Result<String, AllocError> {
+    let mut out = String::new(alloc);
+    for _ in 0..count {
+        out.push_str(text)?;
+    }
+    Ok(out)
+}
+
+// A text before, the middle that many times, and a text behind.
+fn around(
+    alloc: Global,
+    front: &str,
+    count: usize,
+    text: &str,
+    back: &str,
+) -> Result<String, AllocError> {
+    let middle = many(alloc, count, text)?;
+    format!(in alloc; "{front}{}{back}", middle.as_str())
+}
+
+#[test]
+fn keeps_the_limits(rt: HostRuntime) -> Result<(), Fail> {
+    let alloc = rt.alloc();
+    for (front, count, text, back, good) in [
+        ("1", 4095, " ", "", true),
+        ("1", 4096, " ", "", false),
+        ("1", 255, "+1", "", true),
+        ("1", 256, "+1", "", false),
+        ("", 255, "-", "1", true),
+        ("", 256, "-", "1", false),
+        ("$", 64, "a", "", true),
+        ("$", 65, "a", "", false),
+        ("$", 64, "é", "", true),
+        ("", 4096, "(", "", false),
+    ] {
+        let whole = around(alloc, front, count, text, back)?;
+        let is_good = parse(alloc, whole.as_str()).is_ok();
+        assert_eq!(rt; is_good, good, "{front:?}, {count} times {text:?}");
+    }
+    Ok(())
+}
+
+#[test]
+fn reads_rules(rt: HostRuntime) -> Result<(), Fail> {
+    let alloc = rt.alloc();
+    for (text, good) in [
+        ("1 in [2, 'a'] and not (3 % 2 == 0)", true),
+        ("1 // 2", false),
+        ("1 if 2 else 3", false),
+        ("$A", false),
+        ("rec", false),
+        ("len('a')", false),
+        ("(1).id", false),
+        ("P.all", false),
+    ] {
+        let is_good = read_tree(alloc, Dialect::Rule, text).is_ok();
+        assert_eq!(rt; is_good, good, "at {text:?}");
+    }
+    assert!(rt; read_tree(alloc, Dialect::Rule, " ")?.is_none());
+    Ok(())
+}

@@ -20,12 +20,16 @@ use Rattle.formula_parse.specs.declared.lexeme.Lexeme.TheVariants.{Number, Text,
 use Rattle.formula_parse.specs.declared.frame.Frame.{Frame}
 use Rattle.formula_parse.specs.declared.frame.Frame.TheVariants.{Left, Prefix, Condition, Otherwise, Parentheses, Items, Arguments, Key}
 use Rattle.formula_parse.specs.declared.frame.Mode.{Mode}
-use Rattle.formula_parse.specs.declared.frame.Mode.TheVariants.{Operand, FirstItem, Operator, AfterNot, AfterIs, AfterDot, AfterName, AfterPoint, AfterLookup, FirstKey, NextKey, AfterKey}
+use Rattle.formula_parse.specs.declared.frame.Mode.TheVariants.{Operand, FirstItem, Operator, AfterNot, AfterIs, AfterDot, AfterName, AfterPoint, AfterLookup, FirstKey, NextKey, AfterKey, AfterSubject, SubjectPoint, UserPoint}
+use Rattle.formula_parse.specs.declared.rule.RuleAtom.{RuleAtom}
+use Rattle.formula_parse.specs.declared.rule.RuleAtom.TheVariants as rule
+use Rattle.formula_parse.specs.declared.rule.Subject.TheVariants as subject
+use Rattle.formula_parse.specs.RuleGrammar.{owner_word, editor_word, viewer_word, user_word, new_rec_word, atom_lexemes}
 use Rattle.formula_parse.specs.Levels.{Group, or_group, and_group, comparison, sum_group, term_group, group_level, group_left, group_right}
 use Rattle.formula_parse.specs.Lexemes.{is_id}
 use Rattle.formula_parse.specs.Grammar.{group_of, prefix_level, prefix_lexeme, constant_lexeme, op_lexemes, all_word, lookup_word, lookup_lexemes, lexemes_of, items_of, more_of, keys_in, more_keys}
-use Rattle.formula_parse.specs.Standing.{OnlyFormula, HasConstant, has_op, level_of, is_among, Stands, AllStand, AllKeysStand, max_height, IsWritten}
-use Rattle.formula_parse.specs.Tree.{Tree, number, text, constant, dollar, binary, prefix, conditional, parentheses, list, call, attribute, every, lookup, Trees, no_trees, one_more, Keys, no_keys, one_key, from_list, to_list, keys_from, keys_to, height_of, heights, key_heights}
+use Rattle.formula_parse.specs.Standing.{OnlyFormula, OnlyRule, HasConstant, has_op, level_of, is_among, Stands, AllStand, AllKeysStand, max_height, IsWritten}
+use Rattle.formula_parse.specs.Tree.{Tree, number, text, constant, dollar, binary, prefix, conditional, parentheses, list, call, attribute, every, lookup, atom, Trees, no_trees, one_more, Keys, no_keys, one_key, from_list, to_list, keys_from, keys_to, height_of, heights, key_heights}
 use Rattle.formula_parse.specs.Machine.{rec_step, if_step, point_step, dollar_step, name_operand, State, ◌>>=◌, is_last, open_left, open_condition, else_step, close_step, close_list_step, comma_step, kept, room, room_in, filled, reduce, after, infix_step, operand_step}
 use Rattle.formula_parse.specs.Steps.{step, finish, run, whole, table_step, has_key}
 
@@ -77,6 +81,40 @@ unfolding all_word lookup_word
 lookup_is look.Records fs n = refl
 lookup_is look.One fs n = refl
 
+-- the words of rules
+owner_is : (d : Dialect) → OnlyRule d → (fs : List Frame) → name_operand d owner_word fs ≡ after fs (atom rule.Owner)
+unfolding owner_word editor_word viewer_word user_word new_rec_word
+owner_is dialect.Formula o fs = absurd o
+owner_is dialect.Rule o fs = refl
+
+editor_is : (d : Dialect) → OnlyRule d → (fs : List Frame) → name_operand d editor_word fs ≡ after fs (atom rule.Editor)
+unfolding owner_word editor_word viewer_word user_word new_rec_word
+editor_is dialect.Formula o fs = absurd o
+editor_is dialect.Rule o fs = refl
+
+viewer_is : (d : Dialect) → OnlyRule d → (fs : List Frame) → name_operand d viewer_word fs ≡ after fs (atom rule.Viewer)
+unfolding owner_word editor_word viewer_word user_word new_rec_word
+viewer_is dialect.Formula o fs = absurd o
+viewer_is dialect.Rule o fs = refl
+
+user_is : (d : Dialect) → OnlyRule d → (fs : List Frame) → name_operand d user_word fs ≡ Some (fs, AfterSubject subject.User)
+unfolding owner_word editor_word viewer_word user_word new_rec_word
+user_is dialect.Formula o fs = absurd o
+user_is dialect.Rule o fs = refl
+
+new_rec_is : (d : Dialect) → OnlyRule d → (fs : List Frame) → name_operand d new_rec_word fs ≡ Some (fs, AfterSubject subject.NewRec)
+unfolding owner_word editor_word viewer_word user_word new_rec_word
+new_rec_is dialect.Formula o fs = absurd o
+new_rec_is dialect.Rule o fs = refl
+
+rule_rec_is : (d : Dialect) → OnlyRule d → (fs : List Frame) → rec_step d fs ≡ Some (fs, AfterSubject subject.Rec)
+rule_rec_is dialect.Formula o fs = absurd o
+rule_rec_is dialect.Rule o fs = refl
+
+user_point_is : (d : Dialect) → OnlyRule d → (n : List ℕ) (fs : List Frame) → point_step d fs (atom (rule.User n)) ≡ Some (fs, UserPoint n)
+user_point_is dialect.Formula o n fs = absurd o
+user_point_is dialect.Rule o n fs = refl
+
 -- the names of keys
 names_push : (ks : List (List ℕ × Tree)) (m : List ℕ) (t : Tree) → map (λ k. k.0) (ks ++ (m, t) ∷ []) ≡ map (λ k. k.0) ks ++ m ∷ []
 names_push [] m t = refl
@@ -118,6 +156,7 @@ module _ (d : Dialect) where
   reduce_opened n (attribute a m) h y fs = refl
   reduce_opened n (every m) h y fs = refl
   reduce_opened n (lookup k m ks) h y fs = refl
+  reduce_opened n (atom a) h y fs = refl
 
   level_right : (g : Group) → group_level g ≤ group_right g
   level_right or_group = omega arith
@@ -141,6 +180,7 @@ module _ (d : Dialect) where
   yields_level n (attribute a m) s h = tt
   yields_level n (every m) s h = tt
   yields_level n (lookup k m ks) s h = tt
+  yields_level n (atom a) s h = tt
 
   next_right : (g h : Group) → group_left g ≤ group_level h → group_level g + 1 ≤ group_right h
   next_right or_group or_group e = omega arith
@@ -203,6 +243,7 @@ module _ (d : Dialect) where
   yields_left g (attribute a m) s h = tt
   yields_left g (every m) s h = tt
   yields_left g (lookup k m ks) s h = tt
+  yields_left g (atom a) s h = tt
 
   and_false : (b : Bool) → (b && false) ≡ false
   and_false true = refl
@@ -282,6 +323,13 @@ module _ (d : Dialect) where
   is_first (call m ts) s h rest fs t = is_token (Name m) ((Mark sign.Open ∷ (items_of ts ++ Mark sign.Close ∷ [])) ++ rest) fs t
   is_first (every m) s h rest fs t = is_token (Name m) ((Mark sign.Point ∷ (Name all_word ∷ [])) ++ rest) fs t
   is_first (lookup k m ks) s h rest fs t = is_token (Name m) ((Mark sign.Point ∷ (Name (lookup_word k) ∷ (Mark sign.Open ∷ (keys_in ks ++ Mark sign.Close ∷ [])))) ++ rest) fs t
+  is_first (atom rule.Owner) s h rest fs t = is_token (Name owner_word) rest fs t
+  is_first (atom rule.Editor) s h rest fs t = is_token (Name editor_word) rest fs t
+  is_first (atom rule.Viewer) s h rest fs t = is_token (Name viewer_word) rest fs t
+  is_first (atom (rule.User m)) s h rest fs t = is_token (Name user_word) ((Mark sign.Point ∷ (Name m ∷ [])) ++ rest) fs t
+  is_first (atom (rule.UserAttribute m p)) s h rest fs t = is_token (Name user_word) ((Mark sign.Point ∷ (Name m ∷ (Mark sign.Point ∷ (Name p ∷ [])))) ++ rest) fs t
+  is_first (atom (rule.Rec m)) s h rest fs t = is_token (Word word.Rec) ((Mark sign.Point ∷ (Name m ∷ [])) ++ rest) fs t
+  is_first (atom (rule.NewRec m)) s h rest fs t = is_token (Name new_rec_word) ((Mark sign.Point ∷ (Name m ∷ [])) ++ rest) fs t
   is_first (attribute a m) s h rest fs t =
       subst (λ ks. IsAfter ks fs t) (sym (append_assoc (lexemes_of a) (Mark sign.Point ∷ (Name m ∷ [])) rest)) (is_first a s.2 (omega arith) _ fs t)
 
@@ -307,6 +355,13 @@ module _ (d : Dialect) where
   first_same (call m ts) rest fs = refl
   first_same (every m) rest fs = refl
   first_same (lookup k m ks) rest fs = refl
+  first_same (atom rule.Owner) rest fs = refl
+  first_same (atom rule.Editor) rest fs = refl
+  first_same (atom rule.Viewer) rest fs = refl
+  first_same (atom (rule.User m)) rest fs = refl
+  first_same (atom (rule.UserAttribute m p)) rest fs = refl
+  first_same (atom (rule.Rec m)) rest fs = refl
+  first_same (atom (rule.NewRec m)) rest fs = refl
   first_same (attribute a m) rest fs = subst (λ ks. SameFirst ks fs) (sym (append_assoc (lexemes_of a) _ rest)) (first_same a _ fs)
 
   op_runs : (o : BinaryOp) (b : Tree) → Stands d b → group_right (group_of o) ≤ level_of b → (rest : List Lexeme) (fs gs : List Frame) (t : Tree) → infix_step d o fs t ≡ Some (gs, Operand)
@@ -352,6 +407,7 @@ module _ (d : Dialect) where
   high_opened (attribute a m) h fs = refl
   high_opened (every m) h fs = refl
   high_opened (lookup k m ks) h fs = refl
+  high_opened (atom a) h fs = refl
 
   high_last : (a : Tree) → 8 ≤ level_of a → last_of a ≡ a
   high_last (binary o a b) h = absurd (omega (arith, group_low (group_of o)))
@@ -368,6 +424,7 @@ module _ (d : Dialect) where
   high_last (attribute a m) h = refl
   high_last (every m) h = refl
   high_last (lookup k m ks) h = refl
+  high_last (atom a) h = refl
 
   from_to : (ts : Trees) → from_list (to_list ts) ≡ ts
   from_to no_trees = refl
@@ -523,6 +580,27 @@ module _ (d : Dialect) where
   not_key : (ks : List (List ℕ × Tree)) (m : List ℕ) (t : Tree) (n : List ℕ) → is_among n (names_of ks m) ≡ false → has_key n (ks ++ (m, t) ∷ []) ≡ false
   not_key ks m t n h = ap (λ (xs : List (List ℕ)). is_among n xs) (names_push ks m t) ∙ h
 
+  -- the atoms of rules
+  asked_runs : OnlyRule d → (n : List ℕ) → 1 ≤ max_height → (fs : List Frame) (rest : List Lexeme)
+      → run d (Name user_word ∷ (Mark sign.Point ∷ (Name n ∷ rest))) fs Operand ≡ run d rest fs (Operator (atom (rule.User n)))
+  unfolding run step
+  asked_runs o n h fs rest =
+      ap (λ (x : Option State). x >>= λ s. run d (Mark sign.Point ∷ (Name n ∷ rest)) s.0 s.1) (user_is d o fs) ∙ after_runs (atom (rule.User n)) h fs rest
+
+  atom_runs : OnlyRule d → (a : RuleAtom) → 1 ≤ max_height → (fs : List Frame) (rest : List Lexeme) → run d (atom_lexemes a ++ rest) fs Operand ≡ run d rest fs (Operator (atom a))
+  unfolding run step
+  atom_runs o rule.Owner h fs rest = ap (λ (x : Option State). x >>= λ s. run d rest s.0 s.1) (owner_is d o fs) ∙ after_runs (atom rule.Owner) h fs rest
+  atom_runs o rule.Editor h fs rest = ap (λ (x : Option State). x >>= λ s. run d rest s.0 s.1) (editor_is d o fs) ∙ after_runs (atom rule.Editor) h fs rest
+  atom_runs o rule.Viewer h fs rest = ap (λ (x : Option State). x >>= λ s. run d rest s.0 s.1) (viewer_is d o fs) ∙ after_runs (atom rule.Viewer) h fs rest
+  atom_runs o (rule.User n) h fs rest = asked_runs o n h fs rest
+  atom_runs o (rule.UserAttribute n m) h fs rest =
+      asked_runs o n h fs (Mark sign.Point ∷ (Name m ∷ rest))
+      ∙ ap (λ (x : Option State). x >>= λ s. run d (Name m ∷ rest) s.0 s.1) (user_point_is d o n fs) ∙ after_runs (atom (rule.UserAttribute n m)) h fs rest
+  atom_runs o (rule.Rec n) h fs rest =
+      ap (λ (x : Option State). x >>= λ s. run d (Mark sign.Point ∷ (Name n ∷ rest)) s.0 s.1) (rule_rec_is d o fs) ∙ after_runs (atom (rule.Rec n)) h fs rest
+  atom_runs o (rule.NewRec n) h fs rest =
+      ap (λ (x : Option State). x >>= λ s. run d (Mark sign.Point ∷ (Name n ∷ rest)) s.0 s.1) (new_rec_is d o fs) ∙ after_runs (atom (rule.NewRec n)) h fs rest
+
   abbrev Reads : Tree → List Frame → List Lexeme → Type 0
   Reads t fs rest = run d (lexemes_of t ++ rest) fs Operand ≡ run d rest (opened t fs) (Operator (last_of t))
 
@@ -573,6 +651,8 @@ module _ (d : Dialect) where
         ∙ keys_run ks k n s.1 (omega arith) fs rest
         ∙ ap (λ (xs : Keys). after fs (lookup k n xs) >>= λ s. run d rest s.0 s.1) (keys_from_to ks)
         ∙ after_runs (lookup k n ks) h fs rest
+
+    runs (atom a) s h fs r rest = atom_runs s a h fs rest
 
     keys_run : (ks : Keys) (k : LookupKind) (n : List ℕ) → AllKeysStand d [] ks → key_heights ks ≤ max_height → (fs : List Frame) (rest : List Lexeme)
         → run d (keys_in ks ++ Mark sign.Close ∷ rest) fs (FirstKey k n) ≡ (after fs (lookup k n (keys_from (keys_to ks))) >>= λ s. run d rest s.0 s.1)

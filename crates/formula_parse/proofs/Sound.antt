@@ -23,14 +23,19 @@ use Rattle.formula_parse.specs.declared.lexeme.Lexeme.TheVariants.{Number, Text,
 use Rattle.formula_parse.specs.declared.frame.Frame.{Frame}
 use Rattle.formula_parse.specs.declared.frame.Frame.TheVariants.{Left, Prefix, Condition, Otherwise, Parentheses, Items, Arguments, Key}
 use Rattle.formula_parse.specs.declared.frame.Mode.{Mode}
-use Rattle.formula_parse.specs.declared.frame.Mode.TheVariants.{Operand, FirstItem, Operator, AfterNot, AfterIs, AfterDot, AfterName, AfterPoint, AfterLookup, FirstKey, NextKey, AfterKey}
+use Rattle.formula_parse.specs.declared.frame.Mode.TheVariants.{Operand, FirstItem, Operator, AfterNot, AfterIs, AfterDot, AfterName, AfterPoint, AfterLookup, FirstKey, NextKey, AfterKey, AfterSubject, SubjectPoint, UserPoint}
+use Rattle.formula_parse.specs.declared.rule.RuleAtom.{RuleAtom}
+use Rattle.formula_parse.specs.declared.rule.RuleAtom.TheVariants as rule
+use Rattle.formula_parse.specs.declared.rule.Subject.{Subject}
+use Rattle.formula_parse.specs.declared.rule.Subject.TheVariants as subject
+use Rattle.formula_parse.specs.RuleGrammar.{owner_word, editor_word, viewer_word, user_word, new_rec_word, atom_lexemes, subject_lexeme, asked}
 use Rattle.formula_parse.specs.Levels.{Group, or_group, and_group, comparison, sum_group, term_group, group_level, group_left, group_right}
 use Rattle.formula_parse.specs.Lexemes.{is_id}
 use Rattle.formula_parse.specs.Grammar.{group_of, prefix_level, prefix_lexeme, constant_lexeme, op_lexemes, all_word, lookup_word, lookup_lexemes, lexemes_of, items_of, more_of, keys_in, more_keys}
-use Rattle.formula_parse.specs.Standing.{OnlyFormula, HasConstant, has_op, level_of, is_among, Stands, AllStand, AllKeysStand, max_height, IsWritten}
-use Rattle.formula_parse.specs.Tree.{Tree, number, text, constant, dollar, binary, prefix, conditional, parentheses, list, call, attribute, every, lookup, Trees, no_trees, one_more, Keys, no_keys, one_key, from_list, to_list, keys_from, keys_to, height_of, heights, key_heights}
-use Rattle.formula_parse.specs.Machine.{rec_step, if_step, point_step, dollar_step, name_operand, State, ◌>>=◌, is_last, open_left, open_condition, else_step, close_step, close_list_step, comma_step, close_empty, close_empty_list, first_step, prefix_step, word_operand, sign_operand, kept, room, room_in, filled, reduce, after, infix_step, operand_step}
-use Rattle.formula_parse.specs.Steps.{word_after, sign_after, after_step, not_step, is_step, dot_step, name_step, table_step, name_point_step, lookup_step, first_key_step, next_key_step, key_step, has_key, step, finish, run, whole}
+use Rattle.formula_parse.specs.Standing.{OnlyFormula, OnlyRule, HasConstant, has_op, level_of, is_among, Stands, AllStand, AllKeysStand, max_height, IsWritten}
+use Rattle.formula_parse.specs.Tree.{Tree, number, text, constant, dollar, binary, prefix, conditional, parentheses, list, call, attribute, every, lookup, atom, Trees, no_trees, one_more, Keys, no_keys, one_key, from_list, to_list, keys_from, keys_to, height_of, heights, key_heights}
+use Rattle.formula_parse.specs.Machine.{rule_name, rec_step, if_step, point_step, dollar_step, name_operand, State, ◌>>=◌, is_last, open_left, open_condition, else_step, close_step, close_list_step, comma_step, close_empty, close_empty_list, first_step, prefix_step, word_operand, sign_operand, kept, room, room_in, filled, reduce, after, infix_step, operand_step}
+use Rattle.formula_parse.specs.Steps.{subject_step, subject_point_step, user_point_step, word_after, sign_after, after_step, not_step, is_step, dot_step, name_step, table_step, name_point_step, lookup_step, first_key_step, next_key_step, key_step, has_key, step, finish, run, whole}
 
 module _ (dia : Dialect) where
   -- the items so far, each with its comma
@@ -71,6 +76,9 @@ module _ (dia : Dialect) where
   shown fs (FirstKey k n) = before fs ++ lookup_lexemes k n
   shown fs (NextKey k n ks) = before fs ++ (lookup_lexemes k n ++ begun_keys ks)
   shown fs (AfterKey k n ks m) = (before fs ++ (lookup_lexemes k n ++ begun_keys ks)) ++ Name m ∷ []
+  shown fs (AfterSubject s) = before fs ++ subject_lexeme s ∷ []
+  shown fs (SubjectPoint s) = (before fs ++ subject_lexeme s ∷ []) ++ Mark sign.Point ∷ []
+  shown fs (UserPoint n) = (before fs ++ lexemes_of (atom (rule.User n))) ++ Mark sign.Point ∷ []
 
   -- a tree that may stand in a place of level r
   record Fits (r : ℕ) (t : Tree) : Type 0 where
@@ -109,6 +117,9 @@ module _ (dia : Dialect) where
   GoodMode (FirstKey k n) = OnlyFormula dia × (is_id n ≡ false)
   GoodMode (NextKey k n ks) = GoodKeys n ks
   GoodMode (AfterKey k n ks m) = GoodKeys n ks × (has_key m ks ≡ false)
+  GoodMode (AfterSubject s) = OnlyRule dia
+  GoodMode (SubjectPoint s) = OnlyRule dia
+  GoodMode (UserPoint n) = OnlyRule dia
   GoodMode _ = Unit {0}
 
   -- where the machine stands after these tokens
@@ -239,9 +250,12 @@ module _ (dia : Dialect) where
   formula_is : (k : Dialect) → k ≡ dia → OnlyFormula k → OnlyFormula dia
   formula_is k e o = subst OnlyFormula e o
 
+  rule_is : (k : Dialect) → k ≡ dia → OnlyRule k → OnlyRule dia
+  rule_is k e o = subst OnlyRule e o
+
   rec_sound : (k : Dialect) → k ≡ dia → (done : List Lexeme) (fs : List Frame) (s : State) → done ≡ before fs → Good fs → rec_step k fs ≡ Some s → Holds (done ++ Word word.Rec ∷ []) s
   rec_sound dialect.Formula k done fs s d g e = after_sound _ fs (constant con.Rec) s (ap (λ x. x ++ Word word.Rec ∷ []) d) g (formula_is dialect.Formula k tt) (omega arith) e
-  rec_sound dialect.Rule k done fs s d g e = none_is s e
+  rec_sound dialect.Rule k done fs s d g e = some_sound _ (fs, AfterSubject subject.Rec) s e (record { tokens = ap (λ x. x ++ Word word.Rec ∷ []) d; frames = g; mode = rule_is dialect.Rule k tt })
 
   dollar_sound : (k : Dialect) → k ≡ dia → (n : List ℕ) (done : List Lexeme) (fs : List Frame) (s : State) → done ≡ before fs → Good fs → dollar_step k n fs ≡ Some s → Holds (done ++ Dollar n ∷ []) s
   dollar_sound dialect.Formula k n done fs s d g e = after_sound _ fs (dollar n) s (ap (λ x. x ++ Dollar n ∷ []) d) g (formula_is dialect.Formula k tt) (omega arith) e
@@ -268,12 +282,31 @@ module _ (dia : Dialect) where
   cond_none true x y e = none_is y e
   cond_none false x y e = (refl, same_Some _ _ e)
 
+  -- a word of rules where an operand is wanted
+  rule_by : OnlyRule dia → (n : List ℕ) (done : List Lexeme) (fs : List Frame) (s : State) → done ≡ before fs → Good fs
+      → (a b c u w : Bool) → bytes_eq n owner_word ≡ a → bytes_eq n editor_word ≡ b → bytes_eq n viewer_word ≡ c → bytes_eq n user_word ≡ u → bytes_eq n new_rec_word ≡ w
+      → cond a (after fs (atom rule.Owner)) (cond b (after fs (atom rule.Editor)) (cond c (after fs (atom rule.Viewer))
+          (cond u (Some (fs, AfterSubject subject.User)) (cond w (Some (fs, AfterSubject subject.NewRec)) None)))) ≡ Some s
+      → Holds (done ++ Name n ∷ []) s
+  rule_by o n done fs s d g true b c u w h1 h2 h3 h4 h5 e =
+      after_sound _ fs (atom rule.Owner) s (ap (λ (v : List ℕ). done ++ Name v ∷ []) ((bytes_decides n owner_word).0 h1) ∙ ap (λ x. x ++ Name owner_word ∷ []) d) g o (omega arith) e
+  rule_by o n done fs s d g false true c u w h1 h2 h3 h4 h5 e =
+      after_sound _ fs (atom rule.Editor) s (ap (λ (v : List ℕ). done ++ Name v ∷ []) ((bytes_decides n editor_word).0 h2) ∙ ap (λ x. x ++ Name editor_word ∷ []) d) g o (omega arith) e
+  rule_by o n done fs s d g false false true u w h1 h2 h3 h4 h5 e =
+      after_sound _ fs (atom rule.Viewer) s (ap (λ (v : List ℕ). done ++ Name v ∷ []) ((bytes_decides n viewer_word).0 h3) ∙ ap (λ x. x ++ Name viewer_word ∷ []) d) g o (omega arith) e
+  rule_by o n done fs s d g false false false true w h1 h2 h3 h4 h5 e =
+      some_sound _ (fs, AfterSubject subject.User) s e (record { tokens = ap (λ (v : List ℕ). done ++ Name v ∷ []) ((bytes_decides n user_word).0 h4) ∙ ap (λ x. x ++ Name user_word ∷ []) d; frames = g; mode = o })
+  rule_by o n done fs s d g false false false false true h1 h2 h3 h4 h5 e =
+      some_sound _ (fs, AfterSubject subject.NewRec) s e (record { tokens = ap (λ (v : List ℕ). done ++ Name v ∷ []) ((bytes_decides n new_rec_word).0 h5) ∙ ap (λ x. x ++ Name new_rec_word ∷ []) d; frames = g; mode = o })
+  rule_by o n done fs s d g false false false false false h1 h2 h3 h4 h5 e = none_is s e
+
   name_operand_sound : (k : Dialect) → k ≡ dia → (n : List ℕ) (done : List Lexeme) (fs : List Frame) (s : State) → done ≡ before fs → Good fs → name_operand k n fs ≡ Some s → Holds (done ++ Name n ∷ []) s
   name_operand_sound dialect.Formula k n done fs s d g e =
       let c = cond_none (is_id n) (let x : State = (fs, AfterName n) in x) s e in
       let hold : Holds (done ++ Name n ∷ []) (fs, AfterName n) = record { tokens = ap (λ x. x ++ Name n ∷ []) d; frames = g; mode = (formula_is dialect.Formula k tt, c.0) } in
       subst (λ x. Holds (done ++ Name n ∷ []) x) c.1 hold
-  name_operand_sound dialect.Rule k n done fs s d g e = none_is s e
+  name_operand_sound dialect.Rule k n done fs s d g e =
+      rule_by (rule_is dialect.Rule k tt) n done fs s d g (bytes_eq n owner_word) (bytes_eq n editor_word) (bytes_eq n viewer_word) (bytes_eq n user_word) (bytes_eq n new_rec_word) refl refl refl refl refl e
 
   operand_sound : (k : Lexeme) (done : List Lexeme) (fs : List Frame) (s : State) → done ≡ before fs → Good fs → operand_step dia k fs ≡ Some s → Holds (done ++ k ∷ []) s
   operand_sound (Number n) done fs s d g e = after_sound _ fs (number n) s (ap (λ x. x ++ Number n ∷ []) d) g tt (omega arith) e
@@ -455,7 +488,8 @@ module _ (dia : Dialect) where
 
   point_sound : (k : Dialect) → k ≡ dia → (t : Tree) (done : List Lexeme) (fs : List Frame) (s : State) → done ≡ before fs ++ lexemes_of t → Good fs → Fits 8 t → point_step k fs t ≡ Some s → Holds (done ++ Mark sign.Point ∷ []) s
   point_sound dialect.Formula k t done fs s d g h e = some_sound _ (fs, AfterDot t) s e (record { tokens = ap (λ x. x ++ Mark sign.Point ∷ []) d; frames = g; mode = (h, formula_is dialect.Formula k tt) })
-  point_sound dialect.Rule k t done fs s d g h e = none_is s e
+  point_sound dialect.Rule k (atom (rule.User n)) done fs s d g h e = some_sound _ (fs, UserPoint n) s e (record { tokens = ap (λ x. x ++ Mark sign.Point ∷ []) d; frames = g; mode = rule_is dialect.Rule k tt })
+  point_sound dialect.Rule k _ done fs s d g h e = none_is s e
 
   -- a token after a tree
   word_after_sound : (k : Keyword) (done : List Lexeme) (fs : List Frame) (t : Tree) (s : State) → done ≡ before fs ++ lexemes_of t → Good fs → Fits 8 t → word_after dia k fs t ≡ Some s
@@ -612,6 +646,28 @@ module _ (dia : Dialect) where
       key_open b p q x y = simp append_assoc
   key_sound l n ks m h i _ done fs s d g e = none_is s e
 
+  subject_sound : OnlyRule dia → (y : Subject) (k : Lexeme) (done : List Lexeme) (fs : List Frame) (s : State) → done ≡ before fs → Good fs → subject_step k fs y ≡ Some s → Holds ((done ++ subject_lexeme y ∷ []) ++ k ∷ []) s
+  subject_sound o y (Mark sign.Point) done fs s d g e =
+      some_sound _ (fs, SubjectPoint y) s e (record { tokens = ap (λ x. (x ++ subject_lexeme y ∷ []) ++ Mark sign.Point ∷ []) d; frames = g; mode = o })
+  subject_sound o y _ done fs s d g e = none_is s e
+
+  asked_written : (b : List Lexeme) (y : Subject) (n : List ℕ) → ((b ++ subject_lexeme y ∷ []) ++ Mark sign.Point ∷ []) ++ Name n ∷ [] ≡ b ++ lexemes_of (atom (asked y n))
+  asked_written b subject.User n = simp append_assoc
+  asked_written b subject.Rec n = simp append_assoc
+  asked_written b subject.NewRec n = simp append_assoc
+
+  subject_point_sound : OnlyRule dia → (y : Subject) (k : Lexeme) (done : List Lexeme) (fs : List Frame) (s : State) → done ≡ before fs → Good fs → subject_point_step k fs y ≡ Some s
+      → Holds (((done ++ subject_lexeme y ∷ []) ++ Mark sign.Point ∷ []) ++ k ∷ []) s
+  subject_point_sound o y (Name n) done fs s d g e =
+      after_sound _ fs (atom (asked y n)) s (ap (λ x. ((x ++ subject_lexeme y ∷ []) ++ Mark sign.Point ∷ []) ++ Name n ∷ []) d ∙ asked_written (before fs) y n) g o (omega arith) e
+  subject_point_sound o y _ done fs s d g e = none_is s e
+
+  user_point_sound : OnlyRule dia → (n : List ℕ) (k : Lexeme) (done : List Lexeme) (fs : List Frame) (s : State) → done ≡ before fs ++ lexemes_of (atom (rule.User n)) → Good fs → user_point_step k fs n ≡ Some s
+      → Holds ((done ++ Mark sign.Point ∷ []) ++ k ∷ []) s
+  user_point_sound o n (Name m) done fs s d g e =
+      after_sound _ fs (atom (rule.UserAttribute n m)) s (ap (λ x. (x ++ Mark sign.Point ∷ []) ++ Name m ∷ []) d ∙ simp append_assoc) g o (omega arith) e
+  user_point_sound o n _ done fs s d g e = none_is s e
+
   step_sound : (k : Lexeme) (fs : List Frame) (m : Mode) (s : State) → Good fs → GoodMode m → step dia k fs m ≡ Some s → Holds (shown fs m ++ k ∷ []) s
   unfolding step
   step_sound k fs Operand s g h e = operand_sound k (before fs) fs s refl g e
@@ -626,6 +682,9 @@ module _ (dia : Dialect) where
   step_sound k fs (FirstKey l n) s g h e = first_key_sound h.0 l n h.1 k (before fs) fs s refl g e
   step_sound k fs (NextKey l n ks) s g h e = next_key_sound l n ks h k (before fs) fs s refl g e
   step_sound k fs (AfterKey l n ks m) s g h e = key_sound l n ks m h.0 h.1 k (before fs) fs s refl g e
+  step_sound k fs (AfterSubject y) s g h e = subject_sound h y k (before fs) fs s refl g e
+  step_sound k fs (SubjectPoint y) s g h e = subject_point_sound h y k (before fs) fs s refl g e
+  step_sound k fs (UserPoint n) s g h e = user_point_sound h n k (before fs ++ lexemes_of (atom (rule.User n))) fs s refl g e
 
   -- the end
   record Ends (ks : List Lexeme) (t : Tree) : Type 0 where

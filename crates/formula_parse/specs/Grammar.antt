@@ -18,7 +18,8 @@ use Rattle.formula_parse.specs.declared.lexeme.Lexeme.{Lexeme}
 use Rattle.formula_parse.specs.declared.lexeme.Lexeme.TheVariants.{Number, Text, Name, Dollar, Keyword as Word, Sign as Mark}
 use Rattle.formula_parse.specs.Levels.{Group, or_group, and_group, comparison, sum_group, term_group, group_level, group_left, group_right}
 use Rattle.formula_parse.specs.Lexemes.{is_id}
-use Rattle.formula_parse.specs.Tree.{Tree, number, text, constant, dollar, binary, prefix, conditional, parentheses, list, call, attribute, every, lookup, Trees, no_trees, one_more, Keys, no_keys, one_key}
+use Rattle.formula_parse.specs.RuleGrammar.{atom_lexemes}
+use Rattle.formula_parse.specs.Tree.{Tree, number, text, constant, dollar, binary, prefix, conditional, parentheses, list, call, attribute, every, lookup, atom, Trees, no_trees, one_more, Keys, no_keys, one_key}
 
 -- the group of an operator
 abbrev pub group_of : BinaryOp → Group
@@ -99,6 +100,7 @@ abbrev mutual
   lexemes_of (attribute a n) = lexemes_of a ++ Mark sign.Point ∷ (Name n ∷ [])
   lexemes_of (every n) = Name n ∷ (Mark sign.Point ∷ (Name all_word ∷ []))
   lexemes_of (lookup k n ks) = lookup_lexemes k n ++ (keys_in ks ++ Mark sign.Close ∷ [])
+  lexemes_of (atom a) = atom_lexemes a
 
   -- with commas between them
   pub items_of : Trees → List Lexeme

@@ -1,11 +1,14 @@
 pub mod Tree
 pub mod TreeSize
 pub mod OperatorCode
+pub mod NameCode
+pub mod RuleCode
 pub mod TreeCode
 pub mod Seen
 pub mod TreeFalls
 pub mod Levels
 pub mod Lexemes
+pub mod RuleGrammar
 pub mod Grammar
 pub mod Standing
 pub mod Spelling

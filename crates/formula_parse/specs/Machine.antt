@@ -21,12 +21,15 @@ use Rattle.formula_parse.specs.declared.lexeme.Lexeme.TheVariants.{Number, Text,
 use Rattle.formula_parse.specs.declared.frame.Frame.{Frame}
 use Rattle.formula_parse.specs.declared.frame.Frame.TheVariants.{Left, Prefix, Condition, Otherwise, Parentheses, Items, Arguments, Key}
 use Rattle.formula_parse.specs.declared.frame.Mode.{Mode}
-use Rattle.formula_parse.specs.declared.frame.Mode.TheVariants.{Operand, FirstItem, Operator, AfterNot, AfterIs, AfterDot, AfterName, AfterPoint, AfterLookup, FirstKey, NextKey, AfterKey}
+use Rattle.formula_parse.specs.declared.frame.Mode.TheVariants.{Operand, FirstItem, Operator, AfterNot, AfterIs, AfterDot, AfterName, AfterPoint, AfterLookup, FirstKey, NextKey, AfterKey, AfterSubject, SubjectPoint, UserPoint}
+use Rattle.formula_parse.specs.declared.rule.RuleAtom.TheVariants as rule
+use Rattle.formula_parse.specs.declared.rule.Subject.TheVariants as subject
+use Rattle.formula_parse.specs.RuleGrammar.{owner_word, editor_word, viewer_word, user_word, new_rec_word}
 use Rattle.formula_parse.specs.Levels.{group_level, group_left, group_right}
 use Rattle.formula_parse.specs.Lexemes.{keyword_of, is_id, is_field}
 use Rattle.formula_parse.specs.Grammar.{group_of, prefix_level, all_word, lookup_word}
 use Rattle.formula_parse.specs.Standing.{has_op, level_of, max_height, is_among}
-use Rattle.formula_parse.specs.Tree.{Tree, number, text, constant, dollar, binary, prefix, conditional, parentheses, list, call, attribute, every, lookup, from_list, keys_from, height_of}
+use Rattle.formula_parse.specs.Tree.{Tree, number, text, constant, dollar, binary, prefix, conditional, parentheses, list, call, attribute, every, lookup, atom, from_list, keys_from, height_of}
 
 -- the next step, where there is one
 infixl 10 ◌>>=◌
@@ -125,7 +128,7 @@ prefix_step o fs = cond (nat_le (room fs) (prefix_level o)) (Some (Prefix o ∷ 
 -- `rec` where an operand is wanted
 abbrev pub rec_step : Dialect → List Frame → Option State
 rec_step dialect.Formula fs = after fs (constant con.Rec)
-rec_step dialect.Rule fs = None
+rec_step dialect.Rule fs = Some (fs, AfterSubject subject.Rec)
 
 -- `$` and a name where an operand is wanted
 abbrev pub dollar_step : Dialect → List ℕ → List Frame → Option State
@@ -148,10 +151,19 @@ sign_operand sign.Open fs = Some (Parentheses ∷ fs, Operand)
 sign_operand sign.OpenList fs = Some (Items [] ∷ fs, FirstItem)
 sign_operand _ fs = None
 
+-- a name where an operand of a rule is wanted
+abbrev pub rule_name : List ℕ → List Frame → Option State
+rule_name n fs =
+    cond (bytes_eq n owner_word) (after fs (atom rule.Owner))
+    (cond (bytes_eq n editor_word) (after fs (atom rule.Editor))
+    (cond (bytes_eq n viewer_word) (after fs (atom rule.Viewer))
+    (cond (bytes_eq n user_word) (Some (fs, AfterSubject subject.User))
+    (cond (bytes_eq n new_rec_word) (Some (fs, AfterSubject subject.NewRec)) None))))
+
 -- a name where an operand is wanted
 abbrev pub name_operand : Dialect → List ℕ → List Frame → Option State
 name_operand dialect.Formula n fs = cond (is_id n) None (Some (fs, AfterName n))
-name_operand dialect.Rule n fs = None
+name_operand dialect.Rule n fs = rule_name n fs
 
 -- a lexeme where an operand is wanted
 abbrev pub operand_step : Dialect → Lexeme → List Frame → Option State
@@ -181,7 +193,8 @@ first_step d k fs = operand_step d k fs
 -- a point behind a tree
 abbrev pub point_step : Dialect → List Frame → Tree → Option State
 point_step dialect.Formula fs t = Some (fs, AfterDot t)
-point_step dialect.Rule fs t = None
+point_step dialect.Rule fs (atom (rule.User n)) = Some (fs, UserPoint n)
+point_step dialect.Rule fs _ = None
 
 -- `if` behind a tree
 abbrev pub if_step : Dialect → List Frame → Tree → Option State

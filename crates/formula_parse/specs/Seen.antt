@@ -3,7 +3,7 @@ use Rattle.std.specs.Prelude.{ℕ, List, map}
 use Rattle.formula_parse.specs.declared.tree.LookupKey.{LookupKey}
 use Rattle.formula_parse.specs.declared.tree.Node.{Node}
 use Rattle.formula_parse.specs.declared.tree.Node.TheVariants as node
-use Rattle.formula_parse.specs.Tree.{Tree, number, text, constant, dollar, binary, prefix, conditional, parentheses, list, call, attribute, every, lookup, from_list, keys_from}
+use Rattle.formula_parse.specs.Tree.{Tree, number, text, constant, dollar, binary, prefix, conditional, parentheses, list, call, attribute, every, lookup, atom, from_list, keys_from}
 
 -- keys as pairs of a name and a tree
 abbrev pub keys_of : List LookupKey → List (List ℕ × Tree)
@@ -24,3 +24,4 @@ tree_of (node.Call n ts) = call n (from_list ts)
 tree_of (node.Attribute a n) = attribute a n
 tree_of (node.All n) = every n
 tree_of (node.Lookup k n ks) = lookup k n (keys_from ks)
+tree_of (node.Rule a) = atom a

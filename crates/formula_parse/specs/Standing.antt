@@ -11,7 +11,7 @@ use Rattle.formula_parse.specs.declared.operator.Dialect.TheVariants as dialect
 use Rattle.formula_parse.specs.Levels.{group_level, group_left, group_right}
 use Rattle.formula_parse.specs.Lexemes.{is_id}
 use Rattle.formula_parse.specs.Grammar.{group_of, prefix_level, lexemes_of}
-use Rattle.formula_parse.specs.Tree.{Tree, number, text, constant, dollar, binary, prefix, conditional, parentheses, list, call, attribute, every, lookup, Trees, no_trees, one_more, Keys, no_keys, one_key, height_of}
+use Rattle.formula_parse.specs.Tree.{Tree, number, text, constant, dollar, binary, prefix, conditional, parentheses, list, call, attribute, every, lookup, atom, Trees, no_trees, one_more, Keys, no_keys, one_key, height_of}
 
 -- the level of a tree
 abbrev pub level_of : Tree → ℕ
@@ -30,6 +30,11 @@ has_op dialect.Rule _ = true
 abbrev pub OnlyFormula : Dialect → Type 0
 OnlyFormula dialect.Formula = Unit {0}
 OnlyFormula dialect.Rule = ⊥
+
+-- the dialect is that of rules
+abbrev pub OnlyRule : Dialect → Type 0
+OnlyRule dialect.Formula = ⊥
+OnlyRule dialect.Rule = Unit {0}
 
 -- the dialect has the constant
 abbrev pub HasConstant : Dialect → Constant → Type 0
@@ -59,6 +64,7 @@ abbrev mutual
   Stands d (attribute a n) = OnlyFormula d × (8 ≤ level_of a) × Stands d a
   Stands d (every n) = OnlyFormula d × (is_id n ≡ false)
   Stands d (lookup k n ks) = OnlyFormula d × AllKeysStand d [] ks × (is_id n ≡ false)
+  Stands d (atom a) = OnlyRule d
 
   -- each of them stands
   pub AllStand : Dialect → Trees → Type 0

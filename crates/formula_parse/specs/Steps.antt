@@ -16,11 +16,14 @@ use Rattle.formula_parse.specs.declared.lexeme.Lexeme.TheVariants.{Number, Text,
 use Rattle.formula_parse.specs.declared.frame.Frame.{Frame}
 use Rattle.formula_parse.specs.declared.frame.Frame.TheVariants.{Arguments, Key}
 use Rattle.formula_parse.specs.declared.frame.Mode.{Mode}
-use Rattle.formula_parse.specs.declared.frame.Mode.TheVariants.{Operand, FirstItem, Operator, AfterNot, AfterIs, AfterDot, AfterName, AfterPoint, AfterLookup, FirstKey, NextKey, AfterKey}
+use Rattle.formula_parse.specs.declared.frame.Mode.TheVariants.{Operand, FirstItem, Operator, AfterNot, AfterIs, AfterDot, AfterName, AfterPoint, AfterLookup, FirstKey, NextKey, AfterKey, AfterSubject, SubjectPoint, UserPoint}
+use Rattle.formula_parse.specs.declared.rule.RuleAtom.TheVariants as rule
+use Rattle.formula_parse.specs.declared.rule.Subject.{Subject}
+use Rattle.formula_parse.specs.RuleGrammar.{asked}
 use Rattle.formula_parse.specs.Lexemes.{keyword_of, is_field}
 use Rattle.formula_parse.specs.Grammar.{all_word, lookup_word}
 use Rattle.formula_parse.specs.Standing.{is_among}
-use Rattle.formula_parse.specs.Tree.{Tree, attribute, every, lookup, keys_from}
+use Rattle.formula_parse.specs.Tree.{Tree, attribute, every, lookup, atom, keys_from}
 use Rattle.formula_parse.specs.Machine.{◌>>=◌, State, reduce, after, infix_step, else_step, close_step, close_list_step, comma_step, operand_step, first_step, point_step, if_step}
 
 -- a keyword behind a tree
@@ -117,6 +120,21 @@ abbrev pub key_step : Lexeme → List Frame → LookupKind → List ℕ → List
 key_step (Mark sign.Assign) fs k n ks m = Some (Key k n ks m ∷ fs, Operand)
 key_step _ fs k n ks m = None
 
+-- a lexeme behind what an atom asks
+abbrev pub subject_step : Lexeme → List Frame → Subject → Option State
+subject_step (Mark sign.Point) fs s = Some (fs, SubjectPoint s)
+subject_step _ fs s = None
+
+-- a lexeme behind what an atom asks and a point
+abbrev pub subject_point_step : Lexeme → List Frame → Subject → Option State
+subject_point_step (Name n) fs s = after fs (atom (asked s n))
+subject_point_step _ fs s = None
+
+-- a lexeme behind an attribute of the user and a point
+abbrev pub user_point_step : Lexeme → List Frame → List ℕ → Option State
+user_point_step (Name m) fs n = after fs (atom (rule.UserAttribute n m))
+user_point_step _ fs n = None
+
 -- the next lexeme
 unfoldable pub step : Dialect → Lexeme → List Frame → Mode → Option State
 step d k fs Operand = operand_step d k fs
@@ -131,6 +149,9 @@ step d k fs (AfterLookup l n) = lookup_step k fs l n
 step d k fs (FirstKey l n) = first_key_step k fs l n
 step d k fs (NextKey l n ks) = next_key_step k fs l n ks
 step d k fs (AfterKey l n ks m) = key_step k fs l n ks m
+step d k fs (AfterSubject s) = subject_step k fs s
+step d k fs (SubjectPoint s) = subject_point_step k fs s
+step d k fs (UserPoint n) = user_point_step k fs n
 
 -- the tree, where nothing is open
 abbrev pub whole : List Frame × Tree → Option Tree

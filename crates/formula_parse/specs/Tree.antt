@@ -4,6 +4,7 @@ use Rattle.formula_parse.specs.declared.operator.BinaryOp.{BinaryOp}
 use Rattle.formula_parse.specs.declared.operator.PrefixOp.{PrefixOp}
 use Rattle.formula_parse.specs.declared.operator.Constant.{Constant}
 use Rattle.formula_parse.specs.declared.operator.LookupKind.{LookupKind}
+use Rattle.formula_parse.specs.declared.rule.RuleAtom.{RuleAtom}
 
 mutual
   -- names and texts are their bytes
@@ -21,6 +22,7 @@ mutual
     attribute : Tree → List ℕ → Tree
     every : List ℕ → Tree
     lookup : LookupKind → List ℕ → Keys → Tree
+    atom : RuleAtom → Tree
 
   -- the items of a list or the arguments of a call
   pub data Trees : Type 0 where
@@ -68,6 +70,7 @@ abbrev mutual
   height_of (attribute a n) = height_of a + 1
   height_of (every n) = 1
   height_of (lookup k n ks) = key_heights ks + 1
+  height_of (atom a) = 1
 
   pub heights : Trees → ℕ
   heights no_trees = 0

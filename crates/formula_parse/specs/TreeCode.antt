@@ -4,24 +4,10 @@ use Rattle.std.specs.Coded.{Coded, code_by, coded_list, coded×, coded_ℕ}
 use Rattle.std.proofs.Common.{ap, ◌∙◌}
 use base.Stored.{Gv, gnil, gnum, gcons, num}
 use denote.Struct.Codes.{itself}
+use Rattle.formula_parse.specs.NameCode.{name_code, name_in, name_back, left_of, right_of}
+use Rattle.formula_parse.specs.RuleCode.{atom_code, atom_in, atom_back}
 use Rattle.formula_parse.specs.OperatorCode.{op_number, op_at, op_back, pre_number, pre_at, pre_back, con_number, con_at, con_back, kind_number, kind_at, kind_back}
-use Rattle.formula_parse.specs.Tree.{Tree, number, text, constant, dollar, binary, prefix, conditional, parentheses, list, call, attribute, every, lookup, Trees, no_trees, one_more, Keys, no_keys, one_key}
-
--- the code of a name
-abbrev name_code : List ℕ → Gv
-name_code [] = gnil
-name_code (n ∷ ns) = gcons (gnum n) (name_code ns)
-
--- the name of a code
-abbrev name_in : Gv → List ℕ
-name_in gnil = []
-name_in (gnum n) = []
-name_in (gcons a b) = num a ∷ name_in b
-
--- which is the one that has it
-name_back : (ns : List ℕ) → name_in (name_code ns) ≡ ns
-name_back [] = refl
-name_back (n ∷ ns) = ap (λ m. n ∷ m) (name_back ns)
+use Rattle.formula_parse.specs.Tree.{Tree, number, text, constant, dollar, binary, prefix, conditional, parentheses, list, call, attribute, every, lookup, atom, Trees, no_trees, one_more, Keys, no_keys, one_key}
 
 -- the names of keys
 abbrev names_code : Keys → Gv
@@ -32,17 +18,6 @@ names_code (one_key n t ks) = gcons (name_code n) (names_code ks)
 abbrev zipped : Gv → Trees → Keys
 zipped (gcons n ns) (one_more t ts) = one_key (name_in n) t (zipped ns ts)
 zipped _ _ = no_keys
-
--- the parts of a pair
-abbrev left_of : Gv → Gv
-left_of gnil = gnil
-left_of (gnum n) = gnil
-left_of (gcons a b) = a
-
-abbrev right_of : Gv → Gv
-right_of gnil = gnil
-right_of (gnum n) = gnil
-right_of (gcons a b) = b
 
 -- a tree's code is what it is, and the codes of its parts
 abbrev mutual
@@ -60,6 +35,7 @@ abbrev mutual
   tree_code (attribute a n) = gcons (gcons (gnum 10) (name_code n)) (gcons (tree_code a) gnil)
   tree_code (every n) = gcons (gcons (gnum 11) (name_code n)) gnil
   tree_code (lookup k n ks) = gcons (gcons (gnum 12) (gcons (gnum (kind_number k)) (gcons (name_code n) (names_code ks)))) (keys_code ks)
+  tree_code (atom a) = gcons (gcons (gnum 13) (atom_code a)) gnil
 
   keys_code : Keys → Gv
   keys_code no_keys = gnil
@@ -93,7 +69,7 @@ made_at tag g ts =
     (cond (nat_eq tag 9) (call (name_in g) ts)
     (cond (nat_eq tag 10) (attribute (first ts) (name_in g))
     (cond (nat_eq tag 11) (every (name_in g))
-    (lookup (kind_at (num (left_of g))) (name_in (left_of (right_of g))) (zipped (right_of (right_of g)) ts)))))))))))))
+    (cond (nat_eq tag 12) (lookup (kind_at (num (left_of g))) (name_in (left_of (right_of g))) (zipped (right_of (right_of g)) ts)) (atom (atom_in g))))))))))))))
 
 -- the tree with that root and those parts
 abbrev made : Gv → Trees → Tree
@@ -129,6 +105,7 @@ mutual
   tree_back (attribute a n) = λ i. attribute (tree_back a i) (name_back n i)
   tree_back (every n) = ap every (name_back n)
   tree_back (lookup k n ks) = λ i. lookup (kind_back k i) (name_back n i) (keys_back ks i)
+  tree_back (atom a) = ap atom (atom_back a)
 
   keys_back : (ks : Keys) → zipped (names_code ks) (trees_in (keys_code ks)) ≡ ks
   keys_back no_keys = refl

@@ -40,3 +40,4 @@ tree_falls (node.Call n ts) = omega (arith, list_size-trees ts)
 tree_falls (node.Attribute a n) = omega arith
 tree_falls (node.All n) = omega arith
 tree_falls (node.Lookup k n ks) = omega (arith, key_list_size-keys ks)
+tree_falls (node.Rule a) = omega arith

@@ -1,6 +1,6 @@
 -- A number for each tree that is larger than that of each of its parts: the measure of walks.
 use Rattle.std.specs.Prelude.{ℕ, ◌+◌, List, [], ◌∷◌}
-use Rattle.formula_parse.specs.Tree.{Tree, number, text, constant, dollar, binary, prefix, conditional, parentheses, list, call, attribute, every, lookup, Trees, no_trees, one_more, Keys, no_keys, one_key}
+use Rattle.formula_parse.specs.Tree.{Tree, number, text, constant, dollar, binary, prefix, conditional, parentheses, list, call, attribute, every, lookup, atom, Trees, no_trees, one_more, Keys, no_keys, one_key}
 
 -- leaves have 0, and each other form more than its parts together
 abbrev mutual
@@ -18,6 +18,7 @@ abbrev mutual
   tree_size (attribute a n) = tree_size a + 1
   tree_size (every n) = 0
   tree_size (lookup k n ks) = keys_size ks + 1
+  tree_size (atom a) = 0
 
   pub trees_size : Trees → ℕ
   trees_size no_trees = 0

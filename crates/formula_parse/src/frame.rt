@@ -13,12 +13,16 @@
 //! | `FirstKey`           | is the name of a key, or ends the keys          |
 //! | `NextKey`            | is the name of a key                            |
 //! | `AfterKey`           | is `=`                                          |
+//! | `AfterSubject`       | is the point behind `user`, `rec` or `newRec`   |
+//! | `SubjectPoint`       | is the name of what is asked for                |
+//! | `UserPoint`          | is the second name behind `user`                |
 
 ghost use Rattle.std.specs.Prelude.{◌≡◌, ℕ, ◌+◌, ◌≤◌, List, [], ◌∷◌, ◌++◌, Bool, Option, Some, None, IfNone, IfSome, OnOk};
 ghost use Rattle.formula_parse.specs.Machine.{room, room_in, is_last};
 ghost use Rattle.formula_parse.specs.Parsed.{taken};
 
 use crate::operator::{BinaryOp, LookupKind, PrefixOp};
+use crate::rule::Subject;
 use crate::tree::{ArgumentList, Formula, LookupKeyList};
 use cell_types::Name;
 use std::alloc::{AllocFailed, Global};
@@ -52,6 +56,9 @@ pub enum Mode {
     FirstKey(LookupKind, Name),
     NextKey(LookupKind, Name, LookupKeyList),
     AfterKey(LookupKind, Name, LookupKeyList, Name),
+    AfterSubject(Subject),
+    SubjectPoint(Subject),
+    UserPoint(Name),
 }
 
 /// The frames, which clauses see innermost first.

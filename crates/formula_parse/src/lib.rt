@@ -16,6 +16,7 @@ mod lexeme;
 mod operator;
 mod parser;
 mod reduce;
+mod rule;
 mod step;
 #[cfg(test)]
 mod tests;
@@ -24,4 +25,5 @@ mod tree;
 pub use fault::ParseFault;
 pub use operator::{BinaryOp, Constant, Dialect, LookupKind, PrefixOp};
 pub use parser::{MAX_TEXT_BYTES, parse, read_tree};
+pub use rule::RuleAtom;
 pub use tree::{ArgumentList, Formula, LookupKey, LookupKeyList, MAX_HEIGHT, Node};

@@ -22,7 +22,8 @@ ghost use Rattle.formula_parse.specs.Levels.{group_level, group_left, group_righ
 pub enum Dialect {
     /// The formulas of columns.
     Formula,
-    /// The formulas of access rules: no conditional, `//`, `$`, call, lookup or attribute.
+    /// The formulas of access rules: no conditional, `//`, `$`, call, lookup or attribute, but what
+    /// a rule asks of the user and of the row.
     Rule,
 }
 

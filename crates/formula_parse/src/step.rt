@@ -1,21 +1,24 @@
 //! The steps of the parser: what the next token makes of what is open.
 
-ghost use Rattle.std.specs.Prelude.{◌≡◌, ℕ, ◌+◌, ◌≤◌, List, [], ◌∷◌, ◌++◌, Bool, true, Option, Some, None, bytes_eq};
+ghost use Rattle.std.specs.Prelude.{◌≡◌, ℕ, ◌+◌, ◌≤◌, List, [], ◌∷◌, ◌++◌, Bool, true, Option, Some, None, bytes_eq, IfOk};
 ghost use Rattle.formula_parse.specs.Tree.{Tree, attribute, height_of, from_list, heights, keys_from, key_heights};
-ghost use Rattle.formula_parse.specs.Machine.{kept, close_step, close_list_step, comma_step, word_operand, sign_operand, name_operand, operand_step, close_empty, close_empty_list, first_step};
+ghost use Rattle.formula_parse.specs.Machine.{kept, rule_name, point_step, close_step, close_list_step, comma_step, word_operand, sign_operand, name_operand, operand_step, close_empty, close_empty_list, first_step};
 ghost use Rattle.formula_parse.specs.Steps.{word_after, sign_after, after_step, is_step, name_step, table_step, first_key_step, next_key_step, key_step, step, finish};
 ghost use Rattle.formula_parse.specs.Grammar.{all_word, lookup_word};
 ghost use Rattle.formula_parse.specs.Parsed.{Gives};
+ghost use Rattle.formula_parse.specs.RuleGrammar.{asked};
+ghost use Rattle.formula_parse.specs.declared.frame.Frame.{Frame};
 
 use crate::fault::Stop;
 use crate::frame::{Frame, Mode, Stack};
 use crate::lexeme::{Keyword, Lexeme, is_id};
 use crate::operator::{BinaryOp, Constant, Dialect, LookupKind, PrefixOp};
 use crate::reduce::{infix, kept, open_condition, open_otherwise, open_prefix, reduce};
+use crate::rule::{RuleAtom, Subject};
 use crate::tree::{ArgumentList, Formula, LookupKey, LookupKeyList, Node};
-use cell_types::Name;
+use cell_types::{CellText, Name};
 use formula_lex::Sign;
-use std::alloc::Global;
+use std::alloc::{AllocError, Global};
 
 // `)` behind a formula that nothing else closes.
 fn close(alloc: Global, frames: &mut Stack, tree: Formula) -> Result<Mode, Stop>
@@ -103,7 +106,7 @@ fn word_operand(
         }
         Keyword::Rec => match dialect {
             Dialect::Formula => Ok(Mode::Operator(kept(alloc, Node::Constant(Constant::Rec), 0)?)),
-            Dialect::Rule => Err(Stop::Syntax),
+            Dialect::Rule => Ok(Mode::AfterSubject(Subject::Rec)),
         },
         _ => Err(Stop::Syntax),
     }
@@ -127,8 +130,36 @@ fn sign_operand(alloc: Global, frames: &mut Stack, sign: Sign) -> Result<Mode, S
     }
 }
 
+// A name where an operand of a rule is wanted.
+#[tactic(auto, unfolding(crate::specs::RuleGrammar::owner_word, crate::specs::RuleGrammar::editor_word, crate::specs::RuleGrammar::viewer_word, crate::specs::RuleGrammar::user_word, crate::specs::RuleGrammar::new_rec_word))]
+fn rule_name(alloc: Global, frames: &mut Stack, word: &str) -> Result<Mode, Stop>
+    ensures { Gives (λ m. (frames.new, m)) result (rule_name word.now frames.old) }
+{
+    if word == "OWNER" {
+        return Ok(Mode::Operator(kept(alloc, Node::Rule(RuleAtom::Owner), 0)?));
+    }
+    if word == "EDITOR" {
+        return Ok(Mode::Operator(kept(alloc, Node::Rule(RuleAtom::Editor), 0)?));
+    }
+    if word == "VIEWER" {
+        return Ok(Mode::Operator(kept(alloc, Node::Rule(RuleAtom::Viewer), 0)?));
+    }
+    if word == "user" {
+        return Ok(Mode::AfterSubject(Subject::User));
+    }
+    if word == "newRec" {
+        return Ok(Mode::AfterSubject(Subject::NewRec));
+    }
+    Err(Stop::Syntax)
+}
+
 // A name where an operand is wanted.
-fn name_operand(dialect: Dialect, frames: &mut Stack, name: Name) -> Result<Mode, Stop>
+fn name_operand(
+    alloc: Global,
+    dialect: Dialect,
+    frames: &mut Stack,
+    name: Name,
+) -> Result<Mode, Stop>
     ensures { Gives (λ m. (frames.new, m)) result (name_operand dialect name frames.old) }
 {
     match dialect {
@@ -138,7 +169,7 @@ fn name_operand(dialect: Dialect, frames: &mut Stack, name: Name) -> Result<Mode
             }
             Ok(Mode::AfterName(name))
         }
-        Dialect::Rule => Err(Stop::Syntax),
+        Dialect::Rule => rule_name(alloc, frames, name.as_str()),
     }
 }
 
@@ -158,7 +189,7 @@ fn operand(
             Dialect::Formula => Ok(Mode::Operator(kept(alloc, Node::Dollar(name), 0)?)),
             Dialect::Rule => Err(Stop::Syntax),
         },
-        Lexeme::Name(name) => name_operand(dialect, frames, name),
+        Lexeme::Name(name) => name_operand(alloc, dialect, frames, name),
         Lexeme::Keyword(keyword) => word_operand(alloc, dialect, frames, keyword),
         Lexeme::Sign(sign) => sign_operand(alloc, frames, sign),
     }
@@ -238,6 +269,19 @@ fn word_after(
     }
 }
 
+// A point behind a formula.
+fn point(alloc: Global, dialect: Dialect, tree: Formula) -> Result<Mode, Stop>
+    ensures { (frames : List Frame) → Gives (λ m. (frames, m)) result (point_step dialect frames tree) }
+{
+    match dialect {
+        Dialect::Formula => Ok(Mode::AfterDot(tree)),
+        Dialect::Rule => match tree.node() {
+            Node::Rule(RuleAtom::User(name)) => Ok(Mode::UserPoint(copy(alloc, name)?)),
+            _ => Err(Stop::Syntax),
+        },
+    }
+}
+
 // A sign behind a formula.
 fn sign_after(
     alloc: Global,
@@ -260,10 +304,7 @@ fn sign_after(
         Sign::Star => infix(alloc, dialect, BinaryOp::Multiply, frames, tree),
         Sign::DoubleSlash => infix(alloc, dialect, BinaryOp::Divide, frames, tree),
         Sign::Percent => infix(alloc, dialect, BinaryOp::Remainder, frames, tree),
-        Sign::Point => match dialect {
-            Dialect::Formula => Ok(Mode::AfterDot(tree)),
-            Dialect::Rule => Err(Stop::Syntax),
-        },
+        Sign::Point => point(alloc, dialect, tree),
         Sign::Close => {
             let tree = reduce(alloc, 0, frames, tree)?;
             close(alloc, frames, tree)
@@ -313,6 +354,25 @@ fn after_is(
             let _operand = infix(alloc, dialect, BinaryOp::Is, frames, tree)?;
             operand(alloc, dialect, frames, lexeme)
         }
+    }
+}
+
+// A copy of a name.
+fn copy(alloc: Global, name: &Name) -> Result<Name, AllocError>
+    ensures { IfOk result (λ made. made ≡ name.now) }
+{
+    let text = CellText::copy_of(alloc, name.as_str())?;
+    Ok(Name::new(text))
+}
+
+// What rule formulas ask for.
+fn asked(subject: Subject, name: Name) -> RuleAtom
+    ensures { result ≡ asked subject name }
+{
+    match subject {
+        Subject::User => RuleAtom::User(name),
+        Subject::Rec => RuleAtom::Rec(name),
+        Subject::NewRec => RuleAtom::NewRec(name),
     }
 }
 
@@ -454,6 +514,23 @@ pub(crate) fn step(
         Mode::AfterKey(kind, table, keys, name) => {
             after_key(frames, kind, table, keys, name, lexeme)
         }
+        Mode::AfterSubject(subject) => match lexeme {
+            Lexeme::Sign(Sign::Point) => Ok(Mode::SubjectPoint(subject)),
+            _ => Err(Stop::Syntax),
+        },
+        Mode::SubjectPoint(subject) => match lexeme {
+            Lexeme::Name(name) => {
+                Ok(Mode::Operator(kept(alloc, Node::Rule(asked(subject, name)), 0)?))
+            }
+            _ => Err(Stop::Syntax),
+        },
+        Mode::UserPoint(first) => match lexeme {
+            Lexeme::Name(name) => {
+                let atom = RuleAtom::UserAttribute(first, name);
+                Ok(Mode::Operator(kept(alloc, Node::Rule(atom), 0)?))
+            }
+            _ => Err(Stop::Syntax),
+        },
     }
 }
 

@@ -7,6 +7,7 @@ ghost use Rattle.formula_parse.specs.Steps.{has_key};
 ghost use Rattle.formula_parse.specs.Seen.{tree_of, keys_of};
 
 use crate::operator::{BinaryOp, Constant, LookupKind, PrefixOp};
+use crate::rule::RuleAtom;
 use cell_types::{CellText, Name};
 use std::alloc::{AllocError, AllocFailed, Global};
 use std::marker::Model;
@@ -49,6 +50,8 @@ pub enum Node {
     All(Name),
     /// `TABLE.lookupRecords(NAME=VALUE)` or `TABLE.lookupOne(NAME=VALUE)`.
     Lookup(LookupKind, Name, LookupKeyList),
+    /// What only rule formulas ask for.
+    Rule(RuleAtom),
 }
 
 /// Formulas in order: the items of a list, or the arguments of a call.

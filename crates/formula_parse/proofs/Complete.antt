@@ -651,7 +651,6 @@ module _ (d : Dialect) where
         ∙ keys_run ks k n s.1 (omega arith) fs rest
         ∙ ap (λ (xs : Keys). after fs (lookup k n xs) >>= λ s. run d rest s.0 s.1) (keys_from_to ks)
         ∙ after_runs (lookup k n ks) h fs rest
-
     runs (atom a) s h fs r rest = atom_runs s a h fs rest
 
     keys_run : (ks : Keys) (k : LookupKind) (n : List ℕ) → AllKeysStand d [] ks → key_heights ks ≤ max_height → (fs : List Frame) (rest : List Lexeme)

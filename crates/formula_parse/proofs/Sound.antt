@@ -286,7 +286,7 @@ module _ (dia : Dialect) where
   rule_by : OnlyRule dia → (n : List ℕ) (done : List Lexeme) (fs : List Frame) (s : State) → done ≡ before fs → Good fs
       → (a b c u w : Bool) → bytes_eq n owner_word ≡ a → bytes_eq n editor_word ≡ b → bytes_eq n viewer_word ≡ c → bytes_eq n user_word ≡ u → bytes_eq n new_rec_word ≡ w
       → cond a (after fs (atom rule.Owner)) (cond b (after fs (atom rule.Editor)) (cond c (after fs (atom rule.Viewer))
-          (cond u (Some (fs, AfterSubject subject.User)) (cond w (Some (fs, AfterSubject subject.NewRec)) None)))) ≡ Some s
+      (cond u (Some (fs, AfterSubject subject.User)) (cond w (Some (fs, AfterSubject subject.NewRec)) None)))) ≡ Some s
       → Holds (done ++ Name n ∷ []) s
   rule_by o n done fs s d g true b c u w h1 h2 h3 h4 h5 e =
       after_sound _ fs (atom rule.Owner) s (ap (λ (v : List ℕ). done ++ Name v ∷ []) ((bytes_decides n owner_word).0 h1) ∙ ap (λ x. x ++ Name owner_word ∷ []) d) g o (omega arith) e

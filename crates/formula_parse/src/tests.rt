@@ -1,11 +1,25 @@
 //! `groups_as_python_does`: these texts are Python expressions too, and the expected shapes are those
 //! that Python 3 reads (its module `ast`; a chain of `or` or `and` is taken two at a time).
 //! `reads_each_form` and `refuses_texts` follow the grammar in docs/FORMULAS.md by hand, and
-//! `keeps_the_limits` its bounds. `reads_rules` shows what the other dialect leaves out.
+//! `keeps_the_limits` its bounds. `reads_rules` shows what the other dialect has and leaves out.
 
-use crate::{Dialect, Formula, Node, ParseFault, parse, read_tree};
+use crate::{Dialect, Formula, Node, ParseFault, RuleAtom, parse, read_tree};
 use std::alloc::{AllocError, Global};
 use std::test::Fail;
+
+fn push_atom(out: &mut String, atom: &RuleAtom) -> Result<(), AllocError> {
+    match atom {
+        RuleAtom::Owner => write!(out, "Owner"),
+        RuleAtom::Editor => write!(out, "Editor"),
+        RuleAtom::Viewer => write!(out, "Viewer"),
+        RuleAtom::User(name) => write!(out, "User:{}", name.as_str()),
+        RuleAtom::UserAttribute(first, name) => {
+            write!(out, "User:{}:{}", first.as_str(), name.as_str())
+        }
+        RuleAtom::Rec(name) => write!(out, "Rec:{}", name.as_str()),
+        RuleAtom::NewRec(name) => write!(out, "NewRec:{}", name.as_str()),
+    }
+}
 
 // Adds what stands at the root.
 fn push_root(out: &mut String, formula: &Formula) -> Result<(), AllocError> {
@@ -23,6 +37,7 @@ fn push_root(out: &mut String, formula: &Formula) -> Result<(), AllocError> {
         Node::Attribute(_, _) => write!(out, "Attribute"),
         Node::All(table) => write!(out, "All:{}", table.as_str()),
         Node::Lookup(kind, table, _) => write!(out, "{kind:?}:{}", table.as_str()),
+        Node::Rule(atom) => push_atom(out, atom),
     }
 }
 
@@ -273,18 +288,43 @@ fn keeps_the_limits(rt: HostRuntime) -> Result<(), Fail> {
 #[test]
 fn reads_rules(rt: HostRuntime) -> Result<(), Fail> {
     let alloc = rt.alloc();
-    for (text, good) in [
-        ("1 in [2, 'a'] and not (3 % 2 == 0)", true),
-        ("1 // 2", false),
-        ("1 if 2 else 3", false),
-        ("$A", false),
-        ("rec", false),
-        ("len('a')", false),
-        ("(1).id", false),
-        ("P.all", false),
+    for (text, want) in [
+        ("1 in [2, 'a'] and not (3 % 2 == 0)", "And In Not"),
+        ("user.Access == OWNER", "Equal User:Access Owner"),
+        ("user.Office.id not in [1, 2]", "NotIn User:Office:id List"),
+        ("rec.A != newRec.A", "NotEqual Rec:A NewRec:A"),
+        ("EDITOR or VIEWER", "Or Editor Viewer"),
+        ("(rec.id)", "Parentheses Rec:id"),
     ] {
-        let is_good = read_tree(alloc, Dialect::Rule, text).is_ok();
-        assert_eq!(rt; is_good, good, "at {text:?}");
+        let Some(tree) = read_tree(alloc, Dialect::Rule, text)? else {
+            return Err("nothing")?;
+        };
+        let got = shape(alloc, &tree)?;
+        assert_eq!(rt; got.as_str(), want, "at {text:?}");
+    }
+    for text in [
+        "1 // 2",
+        "1 if 2 else 3",
+        "$A",
+        "rec",
+        "len('a')",
+        "(1).id",
+        "P.all",
+        "user",
+        "user.",
+        "user.A.B.C",
+        "rec.A.B",
+        "newRec",
+        "OWNER.A",
+        "owner",
+        "user.if",
+        "newRec.A()",
+    ] {
+        let refused = matches!(
+            &read_tree(alloc, Dialect::Rule, text),
+            Err(ParseFault::Syntax { at: _ })
+        );
+        assert!(rt; refused, "at {text:?}");
     }
     assert!(rt; read_tree(alloc, Dialect::Rule, " ")?.is_none());
     Ok(())

@@ -1,0 +1,11 @@
+pub mod JsonLemmas
+pub mod NameLemmas
+pub mod StepLemmas
+pub mod FieldLemmas
+pub mod NumberLemmas
+pub mod ColumnLemmas
+pub mod Exactly
+pub mod RequestLemmas
+pub mod FrameLemmas
+pub mod UserLemmas
+pub mod PlainLemmas

@@ -1,0 +1,7 @@
+use Rattle.std.proofs.Common.{◌≡◌, map, take}
+use Rattle.serde_json.specs.View.{view}
+use Rattle.grist_json.specs.Values.{value_data}
+use Rattle.grist_json.proofs.printed_values.values_value.Given as goal
+
+abbrev pub invariant-loop-value : goal.invariant-loop-value
+invariant-loop-value l = map view l.shown.items ≡ map value_data (take l.value-index l.values)

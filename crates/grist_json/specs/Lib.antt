@@ -1,0 +1,15 @@
+pub mod Json
+pub mod Fields
+pub mod Items
+pub mod Numbers
+pub mod Columns
+pub mod Requests
+pub mod Reading
+pub mod Frames
+pub mod Users
+pub mod Values
+pub mod Actions
+pub mod Replies
+pub mod Lines
+pub mod Laws
+pub mod SessionNames

@@ -1,0 +1,81 @@
+-- The JSON of replies.
+use Rattle.std.specs.Prelude.{ℕ, List, [], codes, Option, Some, None, if◌then◌else◌, ◌==◌}
+use Rattle.serde_json.specs.Data.{Data, null, number, unsigned, string, object, Members, no_members, member}
+use Rattle.doc_model.specs.declared.limit.LimitKind.{LimitKind}
+use Rattle.doc_model.specs.declared.limit.LimitKind.TheVariants as limit
+use Rattle.grist_json.specs.declared.verdict.RetValue.{RetValue}
+use Rattle.grist_json.specs.declared.verdict.RetValue.TheVariants as ret
+use Rattle.grist_json.specs.declared.verdict.Verdict.{Verdict}
+use Rattle.grist_json.specs.declared.verdict.Verdict.TheVariants.{Done, Changes, Bundle, Undone, Refused, Limited, Denied}
+use Rattle.grist_json.specs.Values.{array_of}
+use Rattle.grist_json.specs.Actions.{actions_data}
+
+-- a refusal without more fields, by its code
+abbrev pub refusal_name : ℕ → List ℕ
+refusal_name n =
+    if n == 1 then codes "BadLine" else if n == 2 then codes "LineTooLong" else if n == 3 then codes "NotOpen"
+    else if n == 4 then codes "AlreadyOpen" else if n == 5 then codes "UnknownToken" else if n == 6 then codes "NoSuchTable"
+    else if n == 7 then codes "NoSuchColumn" else if n == 8 then codes "NoSuchRow" else if n == 9 then codes "DuplicateRow"
+    else if n == 10 then codes "MetaTable" else if n == 11 then codes "FormulaColumn" else if n == 12 then codes "BadValue"
+    else if n == 13 then codes "BadRule" else if n == 14 then codes "BadName" else if n == 16 then codes "NoSuchBundle"
+    else if n == 17 then codes "AlreadyUndone" else if n == 18 then codes "UndoStale" else if n == 19 then codes "StoreFault"
+    else if n == 21 then codes "Lagged" else []
+
+-- what is counted, by its name
+abbrev pub limit_name : LimitKind → List ℕ
+limit_name limit.Actions = codes "actions"
+limit_name limit.Sessions = codes "sessions"
+limit_name limit.Tables = codes "tables"
+limit_name limit.Columns = codes "columns"
+limit_name limit.Rows = codes "rows"
+limit_name limit.RowId = codes "rowId"
+limit_name limit.Cells = codes "cells"
+limit_name limit.Weight = codes "weight"
+
+abbrev pub number_data : ℕ → Data
+number_data n = number (unsigned n)
+
+abbrev pub id_data : Option ℕ → Data
+id_data None = null
+id_data (Some n) = number_data n
+
+abbrev pub ids_data : List (Option ℕ) → Data
+ids_data ids = array_of id_data ids
+
+-- what one action made
+abbrev pub ret_data : RetValue → Data
+ret_data ret.Null = null
+ret_data (ret.Id n) = number_data n
+ret_data (ret.Ids ids) = ids_data ids
+ret_data (ret.Name t) = string t
+
+abbrev pub rets_data : List RetValue → Data
+rets_data values = array_of ret_data values
+
+-- {"ok":..}
+abbrev pub ok_data : Data → Data
+ok_data d = object (member (codes "ok") d no_members)
+
+-- {"error":{..}}, with the action where there is one
+abbrev pub error_data : Option ℕ → Members → Data
+error_data None fields = object (member (codes "error") (object fields) no_members)
+error_data (Some action) fields = object (member (codes "error") (object (member (codes "action") (number_data action) fields)) no_members)
+
+abbrev pub refused_data : ℕ → Option ℕ → Data
+refused_data code action = error_data action (member (codes "code") (number_data code) (member (codes "name") (string (refusal_name code)) no_members))
+
+abbrev pub limited_data : LimitKind → ℕ → Option ℕ → Data
+limited_data what bound action = error_data action (member (codes "bound") (number_data bound) (member (codes "code") (number_data 15) (member (codes "name") (string (codes "Limit")) (member (codes "what") (string (limit_name what)) no_members))))
+
+abbrev pub denied_data : ℕ → ℕ → List ℕ → Data
+denied_data action rule memo = error_data (Some action) (member (codes "code") (number_data 20) (member (codes "memo") (string memo) (member (codes "name") (string (codes "Denied")) (member (codes "rule") (number_data rule) no_members))))
+
+-- the reply that tells a verdict
+abbrev pub verdict_data : Verdict → Data
+verdict_data Done = ok_data null
+verdict_data (Changes actions) = ok_data (object (member (codes "actions") (actions_data actions) no_members))
+verdict_data (Bundle n values) = ok_data (object (member (codes "bundle") (number_data n) (member (codes "retValues") (rets_data values) no_members)))
+verdict_data (Undone n) = ok_data (object (member (codes "bundle") (number_data n) no_members))
+verdict_data (Refused code action) = refused_data code action
+verdict_data (Limited what bound action) = limited_data what bound action
+verdict_data (Denied action rule) = denied_data action rule.row rule.memo

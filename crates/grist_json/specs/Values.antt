@@ -1,0 +1,70 @@
+-- The JSON of values.
+use Rattle.std.specs.Prelude.{ℕ, List, codes, map}
+use Rattle.serde_json.specs.Data.{Data, null, boolean, number, unsigned, string, array, Items, no_items, item}
+use Rattle.serde_json.specs.View.{items_of}
+use Rattle.cell_types.specs.declared.value.ErrKind.{ErrKind}
+use Rattle.cell_types.specs.declared.value.ErrKind.TheVariants as kind
+use Rattle.cell_types.specs.declared.value.CellItem.{CellItem}
+use Rattle.cell_types.specs.declared.value.CellItem.TheVariants as one
+use Rattle.cell_types.specs.declared.value.CellValue.{CellValue}
+use Rattle.cell_types.specs.declared.value.CellValue.TheVariants as value
+use Rattle.cell_types.specs.declared.value.RowRef.{RowRef}
+use Rattle.grist_json.specs.Numbers.{int_data}
+
+-- an error by its name
+abbrev pub error_name : ErrKind → List ℕ
+error_name kind.Circular = codes "CircularRefError"
+error_name kind.ZeroDivision = codes "ZeroDivisionError"
+error_name kind.WrongType = codes "TypeError"
+error_name kind.Attribute = codes "AttributeError"
+error_name kind.Key = codes "KeyError"
+error_name kind.Name = codes "NameError"
+error_name kind.Overflow = codes "OverflowError"
+error_name kind.Syntax = codes "SyntaxError"
+
+-- things as an array
+abbrev pub array_of : {X : Type 0} → (X → Data) → List X → Data
+array_of shown xs = array (items_of (map shown xs))
+
+abbrev pub row_data : ℕ → Data
+row_data n = number (unsigned n)
+
+abbrev pub rows_data : List ℕ → Data
+rows_data rows = array_of row_data rows
+
+-- ["R",table,row]
+abbrev pub ref_data : RowRef → Data
+ref_data r = array (item (string (codes "R")) (item (string r.table) (item (row_data r.row) no_items)))
+
+-- an item of a list; a date is ["d",seconds]
+abbrev pub item_data : CellItem → Data
+item_data one.Null = null
+item_data (one.Int n) = int_data n
+item_data (one.Bool b) = boolean b
+item_data (one.Text t) = string t
+item_data (one.Date n) = array (item (string (codes "d")) (item (int_data n) no_items))
+item_data (one.Rec r) = ref_data r
+
+-- ["L",item,..]
+abbrev pub list_data : List CellItem → Data
+list_data items = array (item (string (codes "L")) (items_of (map item_data items)))
+
+-- ["E",name]
+abbrev pub error_data : List ℕ → Data
+error_data name = array (item (string (codes "E")) (item (string name) no_items))
+
+-- a set of rows is ["r",table,[row,..]], and what is censored ["C"]
+abbrev pub value_data : CellValue → Data
+value_data value.Null = null
+value_data (value.Int n) = int_data n
+value_data (value.Bool b) = boolean b
+value_data (value.Text t) = string t
+value_data (value.Date n) = array (item (string (codes "d")) (item (int_data n) no_items))
+value_data (value.Rec r) = ref_data r
+value_data (value.RecSet s) = array (item (string (codes "r")) (item (string s.table) (item (rows_data s.rows) no_items)))
+value_data (value.List items) = list_data items
+value_data (value.Err e) = error_data (error_name e)
+value_data value.Censored = array (item (string (codes "C")) no_items)
+
+abbrev pub values_data : List CellValue → Data
+values_data values = array_of value_data values

@@ -1,0 +1,36 @@
+//! Lines of JSON: what requests, frames and users they spell, and how replies are printed.
+//!
+//! Stands on `doc_model` and `cell_types` (what is read and printed), `serde_json` (the text of JSON)
+//! and `unicode_ident` (characters of names). Used by the core and the program.
+//!
+//! Promises: each reader answers the thing that the bytes spell, and nothing exactly where there is
+//! none; bytes spell at most one thing. Each writer gives the compact text, keys sorted, of the JSON
+//! that stands for its argument, and that text reads back as this JSON.
+//! Not promised: that a line is not too long, which whoever reads lines has to test.
+//! Read first: requests.rt, then frames.rt and replies.rt.
+#![tactic(auto)]
+
+mod columns;
+mod fields;
+mod frames;
+mod items;
+mod json_text;
+mod laws;
+mod line;
+mod numbers;
+mod printed_actions;
+mod printed_replies;
+mod printed_values;
+mod requests;
+mod session_name;
+mod users;
+mod verdict;
+mod writers;
+
+pub use frames::{Frame, read_frame};
+pub use laws::one_reading_law;
+pub use line::Line;
+pub use requests::{ReadFault, read_request};
+pub use users::{UserLine, read_user};
+pub use verdict::{RetIdList, RetValue, RetValueList, Verdict};
+pub use writers::{write_frame, write_reply, write_stream};

@@ -1,0 +1,65 @@
+//! The lines that are printed.
+ghost use Rattle.std.specs.Prelude.{◌≡◌, IfOk};
+ghost use Rattle.serde_json.specs.View.{view};
+ghost use Rattle.grist_json.specs.Json.{IsJson};
+ghost use Rattle.grist_json.specs.Replies.{verdict_data};
+ghost use Rattle.grist_json.specs.Lines.{stream_data, reply_text, stream_text, frame_text};
+
+use crate::Line;
+use crate::printed_actions::actions_value;
+use crate::printed_replies::verdict_value;
+use crate::verdict::Verdict;
+use cell_types::Name;
+use doc_model::ViewActionList;
+use serde_json::{Value, json};
+use std::alloc::{AllocError, Global};
+
+/// Prints the reply that tells a verdict: the compact text of its JSON, keys sorted.
+///
+/// Source: docs/PROTOCOL.md, "replies".
+pub fn write_reply(alloc: Global, verdict: &Verdict) -> Result<Line, AllocError>
+    ensures text { IfOk result (λ l. l ≡ reply_text verdict.now) }
+    ensures spells { IfOk result (λ l. IsJson l (verdict_data verdict.now)) }
+{
+    let value = verdict_value(alloc, verdict)?;
+    Ok(Line::new(value.to_string(alloc)?))
+}
+
+fn stream_value(alloc: Global, number: u64, actions: &ViewActionList) -> Result<Value, AllocError>
+    ensures { IfOk result (λ v. view v ≡ stream_data number actions.now) }
+{
+    let actions = actions_value(alloc, actions.as_slice())?;
+    json!(in alloc; {"actions": (actions), "seq": number})
+}
+
+/// Prints the stream line that tells the changes of a view, under the session's own count.
+///
+/// Source: docs/PROTOCOL.md, "stream lines".
+pub fn write_stream(
+    alloc: Global,
+    number: u64,
+    actions: &ViewActionList,
+) -> Result<Line, AllocError>
+    ensures text { IfOk result (λ l. l ≡ stream_text number actions.now) }
+    ensures spells { IfOk result (λ l. IsJson l (stream_data number actions.now)) }
+{
+    let value = stream_value(alloc, number, actions)?;
+    Ok(Line::new(value.to_string(alloc)?))
+}
+
+/// Prints a line of a session in its frame.
+///
+/// Source: docs/PROTOCOL.md, "frames".
+#[tactic(auto, unfolding(crate::specs::Lines::frame_text))]
+pub fn write_frame(alloc: Global, session: &Name, line: &Line) -> Result<Line, AllocError>
+    ensures text { IfOk result (λ l. l ≡ frame_text line.now session.now) }
+{
+    let name = String::from_str(alloc, session.as_str())?;
+    let name = Value::String(name).to_string(alloc)?;
+    let mut text = String::from_str(alloc, "{\"line\":")?;
+    text.push_str(line.as_str())?;
+    text.push_str(",\"session\":")?;
+    text.push_str(name.as_str())?;
+    text.push_str("}")?;
+    Ok(Line::new(text))
+}

@@ -1,0 +1,9 @@
+pub mod Lists
+pub mod HistoryLemmas
+pub mod ViewLemmas
+pub mod TurnLemmas
+pub mod CallLemmas
+pub mod SeatLemmas
+pub mod DealLemmas
+pub mod GatherLemmas
+pub mod CloseLemmas

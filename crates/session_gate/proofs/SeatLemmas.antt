@@ -14,14 +14,14 @@ use Rattle.session_gate.specs.declared.known.Told.{Told}
 use Rattle.session_gate.specs.declared.known.Known.{Known}
 use Rattle.session_gate.specs.History.{brought, calls_by}
 use Rattle.session_gate.specs.Known.{GateState, parts_of, longer, first_seat, dealt, next_seat, gathered, told_by}
-use Rattle.session_gate.specs.Rule.{IsBelow, IsAsked, IsSeen, Knows, IsLongest, Stands, Kept}
+use Rattle.session_gate.specs.Rule.{IsBelow, IsOwnOrSpent, IsSeen, Knows, IsLongest, Stands, Kept}
 use Rattle.atomic_table.proofs.Lists.{set_here, set_else, at_set, at_longer}
 use Rattle.session_gate.proofs.Lists.{prefix_self, at_below, get_or_at, snoc_at, one_at}
 use Rattle.session_gate.proofs.ViewLemmas.{each_after, not_holder, asked_set, longest_set}
 use Rattle.session_gate.proofs.HistoryLemmas.{entries_brought, calls_brought, brought_alone, none_seen, seen_longer, longer_whole}
 
 module _ {E O : Type 0} where
-  asked_longer : (views : List (Option (Known E O))) (y : Option (Known E O)) (j n : ℕ) → IsAsked views j n → IsAsked (views ++ y ∷ []) j n
+  asked_longer : (views : List (Option (Known E O))) (y : Option (Known E O)) (j n : ℕ) → IsOwnOrSpent views j n → IsOwnOrSpent (views ++ y ∷ []) j n
   asked_longer views y j n asked = ⊎_elim (λ (f : n ≡ j). inl f) (λ (f : get_elem? views n ≡ some None). inr (at_longer views (y ∷ []) n None f)) asked
 
   -- the longer `seen` stays, so whoever has seen the whole history is there still
@@ -95,7 +95,7 @@ module _ {M E O Ev Out : Type 0} (history : M → List E) (opening : M → O) (t
       let y : K = record { number = k.number + 1; room = k.room - 1; parts = k.parts - 1; turn = false; opening = k.opening; seen = k.seen; told = [] } in
       let views' : List (Option K) = set s.views id (Some w) ++ Some y ∷ [] in
       let long : length views' ≡ length s.views + 1 = length-append (set s.views id (Some w)) (Some y ∷ []) ∙ ap (λ (n : ℕ). n + 1) (length-set s.views id (Some w)) in
-      let asked : (j n : ℕ) → IsAsked s.views j n → IsAsked views' j n = (λ j n h. asked_longer (set s.views id (Some w)) (Some y) j n (asked_set s.views id j n k (Some w) at h)) in
+      let asked : (j n : ℕ) → IsOwnOrSpent s.views j n → IsOwnOrSpent views' j n = (λ j n h. asked_longer (set s.views id (Some w)) (Some y) j n (asked_set s.views id j n k (Some w) at h)) in
       let whole = longest_set r.log s.views id k w at (λ e. e) r.longest.0 r.longest.1 r.longest.2 in
       let fresh : calls_by (k.number + 1) r.log ≡ [] = r.others (k.number + 1) (let n = mine.number in omega arith) in
       record {
@@ -149,7 +149,7 @@ module _ {M E O Ev Out : Type 0} (history : M → List E) (opening : M → O) (t
       let his = r.each other l was in
       let inside : other < length views' = at_below views' other (Some l) there in
       let long : length last ≡ length s.views = length-set views' other None ∙ length-set s.views id (Some w) in
-      let asked : (j n : ℕ) → IsAsked s.views j n → IsAsked last j n = (λ j n h. asked_set views' other j n l None there (asked_set s.views id j n k (Some w) at h)) in
+      let asked : (j n : ℕ) → IsOwnOrSpent s.views j n → IsOwnOrSpent last j n = (λ j n h. asked_set views' other j n l None there (asked_set s.views id j n k (Some w) at h)) in
       let gone : get_elem? last other ≡ some None = set_here views' other None inside in
       record {
         log = r.log;
@@ -172,9 +172,9 @@ module _ {M E O Ev Out : Type 0} (history : M → List E) (opening : M → O) (t
               told = λ i t g. ⊎_elim
                   (λ (f : get_elem? (k.told ++ told_by k ∷ []) i ≡ some t). ⊎_elim
                   (λ (e : get_elem? k.told i ≡ some t). let h = mine.told i t e in (asked id t.number h.0, h.1))
-                  (λ (e : (i ≡ length k.told) × (told_by k ≡ t)). subst (λ (z : Told E). IsAsked last id z.number × IsSeen base r.log z.number z.seen) e.1 (inl mine.number, mine.seen))
+                  (λ (e : (i ≡ length k.told) × (told_by k ≡ t)). subst (λ (z : Told E). IsOwnOrSpent last id z.number × IsSeen base r.log z.number z.seen) e.1 (inl mine.number, mine.seen))
                   (snoc_at k.told (told_by k) i t f))
-                  (λ (f : (i ≡ length (k.told ++ told_by k ∷ [])) × (told_by l ≡ t)). subst (λ (z : Told E). IsAsked last id z.number × IsSeen base r.log z.number z.seen) f.1 (inr (ap (get_elem? last) his.number ∙ gone), his.seen))
+                  (λ (f : (i ≡ length (k.told ++ told_by k ∷ [])) × (told_by l ≡ t)). subst (λ (z : Told E). IsOwnOrSpent last id z.number × IsSeen base r.log z.number z.seen) f.1 (inr (ap (get_elem? last) his.number ∙ gone), his.seen))
                   (snoc_at (k.told ++ told_by k ∷ []) (told_by l) i t g);
             }
             (λ j3 l3 ne g. let q = r.each j3 l3 g in record {

@@ -11,7 +11,7 @@ use Rattle.session_gate.specs.declared.known.Made.{Made}
 use Rattle.session_gate.specs.declared.known.Known.{Known}
 use Rattle.session_gate.specs.History.{calls_by}
 use Rattle.session_gate.specs.Known.{parts_of}
-use Rattle.session_gate.specs.Rule.{IsAsked, IsSeen, Knows, IsLongest}
+use Rattle.session_gate.specs.Rule.{IsOwnOrSpent, IsSeen, Knows, IsLongest}
 use Rattle.atomic_table.proofs.Lists.{at_set, set_here, set_else}
 use Rattle.session_gate.proofs.Lists.{at_below, get_or_at}
 use Rattle.session_gate.proofs.HistoryLemmas.{seen_grows}
@@ -31,10 +31,10 @@ module _ {E O : Type 0} where
       let d : false ≡ true = sym rest ∙ (ap (λ (z : Known E O). z.turn) c ∙ turns) in absurd (cc)
 
   -- one of whom another seat was told is not this one, and is asked there still
-  pub asked_apart : (views : List (Option (Known E O))) (id j n : ℕ) (k : Known E O) → get_elem? views id ≡ some (Some k) → j ≢ id → IsAsked views j n → n ≢ id
+  pub asked_apart : (views : List (Option (Known E O))) (id j n : ℕ) (k : Known E O) → get_elem? views id ≡ some (Some k) → j ≢ id → IsOwnOrSpent views j n → n ≢ id
   asked_apart views id j n k at other asked e = ⊎_elim (λ (f : n ≡ j). other (sym f ∙ e)) (λ (f : get_elem? views n ≡ some None). not_spent views id n k at f e) asked
 
-  pub asked_set : (views : List (Option (Known E O))) (id j n : ℕ) (k : Known E O) (w : Option (Known E O)) → get_elem? views id ≡ some (Some k) → IsAsked views j n → IsAsked (set views id w) j n
+  pub asked_set : (views : List (Option (Known E O))) (id j n : ℕ) (k : Known E O) (w : Option (Known E O)) → get_elem? views id ≡ some (Some k) → IsOwnOrSpent views j n → IsOwnOrSpent (set views id w) j n
   asked_set views id j n k w at asked = ⊎_elim (λ (f : n ≡ j). inl f) (λ (f : get_elem? views n ≡ some None). inr (set_else views id n w (not_spent views id n k at f) ∙ f)) asked
 
   pub knows_other : (o : O) (passes : ℕ) (base log log' : List (Made E)) (held : Bool) (holder : ℕ) (held' : Bool) (holder' : ℕ) (views : List (Option (Known E O))) (id : ℕ) (k w : Known E O) (j : ℕ) (k2 : Known E O)

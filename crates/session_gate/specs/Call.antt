@@ -5,10 +5,13 @@ use Rattle.session_gate.specs.History.{entries_of, calls_by, made_by, IsLegal}
 use Rattle.session_gate.specs.Views.{PassView}
 
 module _ {E : Type 0} where
-  -- The pass n had seen `seen`, then `between` came, and its call ends with `after`: its own entry is the last one there and one more of its calls, or the step added none
+  -- The pass n had seen `seen`, then `between` came, and its call ends with `after`: its own entry
+  -- is the last one there and one more of its calls, or the step added none
   abbrev pub Ends : ℕ → List (Made E) → List (Made E) → List (Made E) → Type 0
-  Ends n seen between after = ((after ≡ seen ++ between) × (calls_by n after ≡ calls_by n seen))
-      ⊎ ((e : E) × (after ≡ (seen ++ between) ++ made_by n e ∷ []) × (calls_by n after ≡ calls_by n seen ++ e ∷ []))
+  Ends n seen between after =
+      ((after ≡ seen ++ between) × (calls_by n after ≡ calls_by n seen))
+      ⊎ ((e : E) × (after ≡ (seen ++ between) ++ made_by n e ∷ [])
+      × (calls_by n after ≡ calls_by n seen ++ e ∷ []))
 
 module _ {E O : Type 0} where
   -- the same pass of the same gate, over the same opening
@@ -24,7 +27,8 @@ module _ {E O : Type 0} where
     pub seen : new.seen ≡ old.seen ++ between
 
 module _ {E O Ev Out : Type 0} (answers : O → List E → List E → Ev → Out → Type 0) where
-  -- One call: the machine's answer at that point of the history, which begins with all that the pass had seen and ends with the call, or to which the step added nothing
+  -- One call: the machine's answer at that point of the history, which begins with all that the
+  -- pass had seen and ends with the call, or to which the step added nothing
   pub record IsCall (old new : PassView E O) (event : Ev) (out : Out) : Type 0 where
     pub opening : O
     pub opening_is : old.opening ≡ Some opening
@@ -33,12 +37,14 @@ module _ {E O Ev Out : Type 0} (answers : O → List E → List E → Ev → Out
     pub ends : Ends old.number old.seen between new.seen
     pub answer : answers opening (entries_of (old.seen ++ between)) (entries_of new.seen) event out
 
-module _ {E O Ev Out : Type 0} (takes_event : Ev → Type 0) (answers : O → List E → List E → Ev → Out → Type 0) where
+module _ {E O Ev Out : Type 0} (takes_event : Ev → Type 0)
+    (answers : O → List E → List E → Ev → Out → Type 0) where
   -- the history that the pass has seen is legal
   abbrev pub HasSeenLegal : PassView E O → Type 0
   HasSeenLegal pass = (o : O) → pass.opening ≡ Some o → IsLegal takes_event answers o pass.seen
 
   -- whatever the others added since, the machine takes the event without memory
   abbrev pub IsSureAt : (O → List E → Ev → Type 0) → PassView E O → Ev → Type 0
-  IsSureAt is_sure pass event = (o : O) (between : List (Made E)) → pass.opening ≡ Some o → calls_by pass.number between ≡ []
-      → IsLegal takes_event answers o (pass.seen ++ between) → is_sure o (entries_of (pass.seen ++ between)) event
+  IsSureAt is_sure pass event = (o : O) (between : List (Made E)) → pass.opening ≡ Some o
+      → calls_by pass.number between ≡ [] → IsLegal takes_event answers o (pass.seen ++ between)
+      → is_sure o (entries_of (pass.seen ++ between)) event

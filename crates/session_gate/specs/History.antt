@@ -37,7 +37,8 @@ module _ {E : Type 0} where
   abbrev pub grown : ℕ → List (Made E) → List E → List (Made E)
   grown n seen h = seen ++ map (made_by n) (drop (length seen) h)
 
-module _ {E O Ev Out : Type 0} (takes_event : Ev → Type 0) (answers : O → List E → List E → Ev → Out → Type 0) where
+module _ {E O Ev Out : Type 0} (takes_event : Ev → Type 0)
+    (answers : O → List E → List E → Ev → Out → Type 0) where
   -- some event that the machine takes leads from the first history to the second
   abbrev pub Leads : O → List E → List E → Type 0
   Leads o old new = (event : Ev) × (out : Out) × takes_event event × answers o old new event out

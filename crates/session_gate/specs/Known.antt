@@ -1,4 +1,5 @@
--- What a seat at the gate's table knows, and what its steps make of that. A seat that was handed back knows nothing: its view is None.
+-- What a seat at the gate's table knows, and what its steps make of that.
+-- A seat that was handed back knows nothing: its view is None.
 use Rattle.std.specs.Prelude.{ℕ, ◌+◌, ◌-◌, nat_lt, Bool, true, false, if◌then◌else◌, List, [], ◌∷◌, ◌++◌, map, length, Option, Some, None}
 use Rattle.atomic_table.specs.Table.{Me, State}
 use Rattle.atomic_table.specs.declared.shared.Seat.{Seat}
@@ -62,33 +63,55 @@ module _ {E O : Type 0} where
 
   -- the seat has won the turn, and has seen this
   abbrev pub holding : Known E O → List (Made E) → Known E O
-  holding k seen = record { number = k.number; room = k.room; parts = k.parts; turn = true; opening = k.opening; seen = seen; told = k.told }
+  holding k seen = record k { turn = true; seen = seen }
 
   -- the seat has given the turn up, and has seen this
   abbrev pub resting : Known E O → List (Made E) → Known E O
-  resting k seen = record { number = k.number; room = k.room; parts = k.parts; turn = false; opening = k.opening; seen = seen; told = k.told }
+  resting k seen = record k { turn = false; seen = seen }
 
   -- a pass that makes no more passes
   abbrev pub dealt : Option (Known E O) → Option (Known E O)
   dealt None = None
-  dealt (Some k) = Some (record { number = k.number; room = 0; parts = 1; turn = k.turn; opening = k.opening; seen = k.seen; told = k.told })
+  dealt (Some k) = Some (record k { room = 0; parts = 1 })
 
   -- the pass that it made, which makes the others
   abbrev pub next_seat : Option (Known E O) → Option (Known E O)
   next_seat None = None
-  next_seat (Some k) = Some (record { number = k.number + 1; room = k.room - 1; parts = k.parts - 1; turn = false; opening = k.opening; seen = k.seen; told = [] })
+  next_seat (Some k) =
+      Some (record k {
+        number = k.number + 1;
+        room = k.room - 1;
+        parts = k.parts - 1;
+        turn = false;
+        told = [];
+      })
 
   -- what a pass had seen
   abbrev pub told_by : Known E O → Told E
   told_by k = record { number = k.number; seen = k.seen }
 
-  -- a pass to which another was handed back: the longer `seen` stays, and what both had seen is told
+  -- a pass to which another was handed back: the longer `seen` stays, what both had seen is told
   abbrev pub gathered : Option (Known E O) → Option (Known E O) → Option (Known E O)
   gathered None w = None
   gathered (Some k) None = Some k
-  gathered (Some k) (Some l) = Some (record { number = k.number; room = 0; parts = k.parts + l.parts; turn = k.turn; opening = k.opening; seen = longer k.seen l.seen; told = (k.told ++ told_by k ∷ []) ++ told_by l ∷ [] })
+  gathered (Some k) (Some l) =
+      Some (record k {
+        room = 0;
+        parts = k.parts + l.parts;
+        seen = longer k.seen l.seen;
+        told = (k.told ++ told_by k ∷ []) ++ told_by l ∷ [];
+      })
 
 module _ {M E O : Type 0} (history : M → List E) (opening : M → O) where
   -- the seat that a gate of so many passes begins with
   abbrev pub first_seat : M → ℕ → Option (Known E O)
-  first_seat start passes = Some (record { number = 0; room = passes - 1; parts = passes; turn = false; opening = opening start; seen = map brought (history start); told = [] })
+  first_seat start passes =
+      Some (record {
+        number = 0;
+        room = passes - 1;
+        parts = passes;
+        turn = false;
+        opening = opening start;
+        seen = map brought (history start);
+        told = [];
+      })

@@ -14,7 +14,12 @@ use Rattle.session_gate.specs.Known.{GateSeat, number_of, seen_of, opening_of, t
 module _ {E O : Type 0} where
   -- what a pass of this gate shows that knows this
   abbrev pub pass_at : TableId → Option (Known E O) → PassView E O
-  pass_at gate v = record { gate = gate; number = number_of v; opening = opening_of v; seen = seen_of v }
+  pass_at gate v = record {
+    gate = gate;
+    number = number_of v;
+    opening = opening_of v;
+    seen = seen_of v;
+  }
 
 module _ {M E O : Type 0} where
   -- what the seat shows as a pass
@@ -30,23 +35,28 @@ module _ {M E O : Type 0} where
 
 module _ {E O : Type 0} where
   -- the n-th pass of a gate, which has seen what the machine brought
-  pub record IsNew (gate : TableId) (o : O) (h : List E) (n : ℕ) (pass : PassView E O) : Type 0 where
+  pub record IsNew (gate : TableId) (o : O) (h : List E) (n : ℕ) (pass : PassView E O)
+      : Type 0 where
     pub gate_is : pass.gate ≡ gate
     pub number : pass.number ≡ n
     pub opening : pass.opening ≡ Some o
     pub seen : pass.seen ≡ map brought h
 
   -- the passes that a gate begins with, numbered from 0
-  pub record AreNew (gate : TableId) (o : O) (h : List E) (passes : List (PassView E O)) : Type 0 where
-    pub each : (i : ℕ) (pass : PassView E O) → slice_get passes i ≡ Some pass → IsNew gate o h i pass
+  pub record AreNew (gate : TableId) (o : O) (h : List E) (passes : List (PassView E O))
+      : Type 0 where
+    pub each : (i : ℕ) (pass : PassView E O) → slice_get passes i ≡ Some pass
+        → IsNew gate o h i pass
 
   -- all these are passes of one gate
   pub record AreOf (gate : TableId) (passes : List (PassView E O)) : Type 0 where
-    pub each : (i : ℕ) (pass : PassView E O) → slice_get passes i ≡ Some pass → pass.gate ≡ gate
+    pub each : (i : ℕ) (pass : PassView E O) → slice_get passes i ≡ Some pass
+        → pass.gate ≡ gate
 
 module _ {M E O : Type 0} where
   -- the seat that makes the passes, when i of them are made
-  pub record IsDealer (gate : TableId) (o : O) (h : List E) (passes i : ℕ) (s : GateSeat M E O) : Type 0 where
+  pub record IsDealer (gate : TableId) (o : O) (h : List E) (passes i : ℕ) (s : GateSeat M E O)
+      : Type 0 where
     pub new : IsNew gate o h i (shown s)
     pub carried : length s.me.1 ≡ 0
     pub turn : turn_of s.me.0 ≡ false
@@ -59,13 +69,16 @@ module _ {E O : Type 0} where
   abbrev pub Heard : ℕ → List (Made E) → Option (Known E O) → Type 0
   Heard n seen None = ⊥
   Heard n seen (Some k) = ((k.number ≡ n) × (k.seen ≡ seen))
-      ⊎ ((i : ℕ) × (t : Told E) × (get_elem? k.told i ≡ some t) × (t.number ≡ n) × (t.seen ≡ seen))
+      ⊎ ((i : ℕ) × (t : Told E) × (get_elem? k.told i ≡ some t)
+      × (t.number ≡ n) × (t.seen ≡ seen))
 
 module _ {M E O : Type 0} where
   -- the seat to which all these passes were handed back
-  pub record IsGathered (gate : TableId) (passes : List (PassView E O)) (s : GateSeat M E O) : Type 0 where
+  pub record IsGathered (gate : TableId) (passes : List (PassView E O)) (s : GateSeat M E O)
+      : Type 0 where
     pub table_is : s.table_id ≡ gate
     pub carried : length s.me.1 ≡ 0
     pub turn : turn_of s.me.0 ≡ false
     pub parts : parts_of s.me.0 ≡ length passes
-    pub heard : (i : ℕ) (pass : PassView E O) → slice_get passes i ≡ Some pass → Heard pass.number pass.seen s.me.0
+    pub heard : (i : ℕ) (pass : PassView E O) → slice_get passes i ≡ Some pass
+        → Heard pass.number pass.seen s.me.0

@@ -3,7 +3,7 @@ use Rattle.std.specs.Prelude.{ℕ, List, Option}
 use Rattle.atomic_table.specs.Seated.{TableId}
 use Rattle.session_gate.specs.declared.known.Made.{Made}
 
--- a pass shows its gate, its number, the machine's opening, and the history so far as it has seen it
+-- a pass shows its gate, its number, the machine's opening, and the history as far as it saw it
 pub record PassView (E O : Type 0) : Type 0 where
   pub gate : TableId
   pub number : ℕ

@@ -36,14 +36,16 @@ fn gather<M: Machine>(shared: &GateShared<M>, mut passes: Vec<Pass<M>>) -> GateS
 impl<M: Machine> Gate<M> {
     /// Takes the machine out for good, once all passes are back.
     ///
-    /// Errors: `Unjoined`, exactly where fewer passes are handed in than were made; all comes back as
-    /// it was. More than were made there cannot be.
+    /// Errors: `Unjoined`, exactly where fewer passes are handed in than were made; all comes back
+    /// as it was. There cannot be more than were made.
     /// Memory: none. Cost: one atomic step a pass.
     pub fn close(self, passes: PassList<M>) -> Result<M, Unjoined<M>>
         requires { All (IsPassOf self) passes }
-        ensures ok { IfOk result (λ m. (log : _) × IsWhole M.history M.opening M.takes M.answers self m passes log) }
+        ensures ok { IfOk result (λ m.
+            (log : _) × IsWhole M.history M.opening M.takes M.answers self m passes log) }
         ensures unjoined { IsErr result ↔ (length passes < self.made) }
-        ensures err { IfErr result (λ u. (u.gate ≡ self) × (u.passes ≡ passes) × (u.made ≡ self.made)) }
+        ensures err { IfErr result (λ u.
+            (u.gate ≡ self) × (u.passes ≡ passes) × (u.made ≡ self.made)) }
     {
         if passes.len() < self.made as usize {
             let made = self.made;

@@ -25,8 +25,13 @@ fn open_table<M: Machine>(
     passes: u32,
 ) -> Result<(GateTable<M>, GateSeat<M>), NoGate<M>>
     requires { 0 < passes }
-    ensures sized { IfOk result (λ t. (t.0.shared.table_id.words ≡ 1) × (t.0.shared.table_id.slots ≡ 1) × (t.0.shared.key.passes ≡ passes) × (t.0.shared.key.machine.value ≡ machine)) }
-    ensures seat { IfOk result (λ t. (t.1.table_id ≡ t.0.shared.table_id) × (t.1.me ≡ (first_seat M.history M.opening machine passes, []))) }
+    ensures size { IfOk result (λ t.
+        (t.0.shared.table_id.words ≡ 1) × (t.0.shared.table_id.slots ≡ 1)) }
+    ensures key { IfOk result (λ t.
+        (t.0.shared.key.passes ≡ passes) × (t.0.shared.key.machine.value ≡ machine)) }
+    ensures seat { IfOk result (λ t.
+        (t.1.table_id ≡ t.0.shared.table_id)
+        × (t.1.me ≡ (first_seat M.history M.opening machine passes, []))) }
     ensures err { IfErr result (λ n. n.machine ≡ machine) }
 {
     let word = 2 * machine.entries();
@@ -72,14 +77,17 @@ fn deal<M: Machine>(
     passes: u32,
     list: &mut Vec<Pass<M>>,
 )
-    requires words { (0 < passes) × (0 < shared.now.table_id.words) × (shared.now.key.passes ≡ passes) }
-    requires dealer { IsDealer shared.now.table_id (M.opening shared.now.key.machine.value) (M.history shared.now.key.machine.value) passes 0 seat }
+    requires count { (0 < passes) × (shared.now.key.passes ≡ passes) }
+    requires words { 0 < shared.now.table_id.words }
+    requires dealer { let start = shared.now.key.machine.value in
+        IsDealer shared.now.table_id (M.opening start) (M.history start) passes 0 seat }
     requires room { (list.old.items ≡ []) × (passes ≤ vec_capacity list.old) }
-    ensures each { AreNew shared.now.table_id (M.opening shared.now.key.machine.value) (M.history shared.now.key.machine.value) list.new.items }
+    ensures each { let start = shared.now.key.machine.value in
+        AreNew shared.now.table_id (M.opening start) (M.history start) list.new.items }
     ensures own { All (λ p. p.gate ≡ shared.now.table_id) list.new.items }
     ensures count { vec_len list.new ≡ passes }
 {
-    for i in 0..passes - 1 {
+    for _made in 0..passes - 1 {
         let next = shared.split_seat::<NextPass>(&mut seat);
         add_pass(list, seat);
         seat = next;

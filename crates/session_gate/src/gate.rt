@@ -29,22 +29,28 @@ impl<M: Machine> Model for Gate<M> {
 
     ghost Value = { GateView M };
 
-    ghost view = { λ g. record { id = g.table.shared.table_id; start = g.table.shared.key.machine.value; made = g.made } };
+    ghost view = { λ g. record {
+      id = g.table.shared.table_id;
+      start = g.table.shared.key.machine.value;
+      made = g.made;
+    } };
 
-    ghost invariant = { λ g. (g.table.shared.table_id.words ≡ 1) × (g.table.shared.table_id.slots ≡ 1) × (g.table.shared.key.passes ≡ g.made) × (0 < g.made) };
+    ghost invariant = { λ g.
+        (g.table.shared.table_id.words ≡ 1) × (g.table.shared.table_id.slots ≡ 1)
+        × (g.table.shared.key.passes ≡ g.made) × (0 < g.made) };
 }
 
 impl<M: Machine> Gate<M> {
     /// Waits for a turn, and steps the machine in it.
     ///
-    /// The answer is the machine's at that point of one legal history, which begins with all that the
-    /// pass had seen. The call's own entry, where the step adds one, stands at its end and is one more
-    /// of the pass's calls. After `close` all passes have seen beginnings of the machine's history.
+    /// The answer is the machine's at that point of one legal history, which begins with all that
+    /// the pass had seen. The call's own entry, where the step adds one, stands at its end, one more
+    /// of the pass's calls. `close` shows that all passes saw beginnings of one history.
     ///
     /// It may wait: a thread that finds the turn held sleeps until one is returned and spends no
     /// processor time. That it is ever served, or in which order, is not promised.
-    /// Errors: want of memory in the machine's step; the pass may then have seen more, but no call of
-    /// its own is added.
+    /// Errors: want of memory in the machine's step; the pass may then have seen more, but no call
+    /// of its own is added.
     /// Memory: none but the step's. Cost: the step, and a few atomic steps.
     pub fn call<R: Threads + Wait + Sync>(
         &self,

@@ -35,8 +35,8 @@ pub trait Machine {
     /// The events that it takes without memory, after that opening and history.
     ghost is_sure: { Self.Opening → List Self.Entry → Self.Event → Type 0 };
 
-    /// The answers that it may give: of the opening, the history before and after the step, the event
-    /// and the answer.
+    /// The answers that it may give: of the opening, the history before and after the step, the
+    /// event and the answer.
     ghost answers: { Self.Opening → List Self.Entry → List Self.Entry → Self.Event → Self.Out → Type 0 };
 
     /// Takes one event, and answers it.
@@ -50,7 +50,8 @@ pub trait Machine {
         requires { takes event }
         ensures opening { opening self.new ≡ opening self.old }
         ensures grows { AddsOneOrNone (history self.old) (history self.new) }
-        ensures ok { IfOk result (λ out. answers (opening self.old) (history self.old) (history self.new) event out) }
+        ensures ok { IfOk result (λ out.
+            answers (opening self.old) (history self.old) (history self.new) event out) }
         ensures err { OnErr result (history self.new ≡ history self.old) }
         ensures sure { is_sure (opening self.old) (history self.old) event → IsOk result };
 

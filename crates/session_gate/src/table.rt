@@ -1,7 +1,7 @@
 //! The gate's table: one word, one slot, and the rule and steps that they move by.
 //!
-//! The word is twice the number of entries, and one more while a turn is held. The machine is in the
-//! slot while the word is even, and out with the holder while it is odd.
+//! The word is twice the number of entries, and one more while a turn is held. The machine is in
+//! the slot while the word is even, and out with the holder while it is odd.
 //!
 //! | Kind          | Moves                                             | Here                     |
 //! |---------------|---------------------------------------------------|--------------------------|

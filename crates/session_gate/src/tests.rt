@@ -1,9 +1,9 @@
-// The plan. `interleaved_calls_make_one_history`: two passes in two threads over a counting machine,
-// which counts its steps too, so that a step taken twice, an entry that is lost or counted twice and an
-// older machine written over a newer one would each show; and with ample memory no call answers want of
-// it. `many_calls_from_four_threads`: the same under contention, where threads have to wait.
-// `no_memory_hands_the_machine_back`: the answer for want of memory, where it is refused.
+// The plan. `calls_of_two_threads_make_one_history`: two passes in two threads over a machine that
+// keeps its events and counts its steps, so that a step taken twice, an entry lost or counted twice,
+// and an older machine written over a newer one would each show. Expected, whatever the schedule: each
+// pass's events in their order and no others; with a pass out, `close` asks for it.
 ghost use Rattle.std.specs.Prelude.{◌≡◌, ◌≤◌, ◌+◌, ◌^◌, ◌<◌, ◌++◌, ◌∷◌, [], length, All, vec_len, IfOk};
+ghost use Rattle.std.specs.Thread.{IsSync};
 ghost use Rattle.session_gate.specs.Gate.{IsPassOf};
 
 use super::*;
@@ -39,7 +39,8 @@ impl Machine for Counter {
 
     ghost is_sure = { λ _ _ _. ⊥ };
 
-    ghost answers = { λ _ before after event out. (out ≡ length before) × (after ≡ before ++ event ∷ []) };
+    ghost answers = { λ _ before after event out.
+        (out ≡ length before) × (after ≡ before ++ event ∷ []) };
 
     fn step<R: Threads + Wait + Sync>(&mut self, rt: &R, event: u32) -> Result<u64, AllocError> {
         let _ = rt;
@@ -76,7 +77,7 @@ fn open_gate(alloc: Global, passes: u32) -> Result<(Gate<Counter>, PassList<Coun
     }
 }
 
-// Calls once for each event, and hands the pass back with the numbers that were answered added up.
+// Calls once for each event, and hands the pass back.
 fn call_each<R: Threads + Wait + Sync>(
     rt: &R,
     gate: &Gate<Counter>,
@@ -92,30 +93,63 @@ fn call_each<R: Threads + Wait + Sync>(
     Ok(pass)
 }
 
-#[test]
-fn interleaved_calls_make_one_history(rt: HostRuntime) -> Result<(), Fail> {
-    let (gate, passes) = open_gate(rt.alloc(), 2)?;
-    assert_eq!(rt; passes.len(), 2);
+// Whether the events of this parity stand in the log in this order, and no others of it.
+fn has_in_order(log: &[u32], parity: u32, events: &[u32]) -> bool {
+    log.iter().filter(|&&event| event % 2 == parity).eq(events)
+}
+
+// The machine after two threads have called at a gate round it, each for its own events.
+fn called_by_two<R: Threads + Wait + Sync>(
+    rt: &R,
+    alloc: Global,
+    even: &[u32],
+    odd: &[u32],
+) -> Result<Counter, Fail> {
+    let (gate, passes) = open_gate(alloc, 2)?;
     let mut passes = passes.into_vec();
-    let two = passes.pop().ok_or("two passes")?;
-    let one = passes.pop().ok_or("two passes")?;
-    let (one, two) = join(
-        &rt,
-        || call_each(&rt, &gate, one, &[7, 8]),
-        || call_each(&rt, &gate, two, &[9]),
+    let second = passes.pop().ok_or("two passes")?;
+    let first = passes.pop().ok_or("two passes")?;
+    let (first, second) = join(
+        rt,
+        ||
+            requires { IsSync R.row × IsPassOf gate first }
+        { call_each(rt, &gate, first, even) },
+        ||
+            requires { IsSync R.row × IsPassOf gate second }
+        { call_each(rt, &gate, second, odd) },
     );
-    passes.push(one?)?;
-    let Err(Unjoined { gate, passes, made }) = gate.close(PassList::from(passes)) else {
-        return Err("one pass is out".into());
+    passes.push(first?)?;
+    let Err(
+        Unjoined {
+            gate,
+            passes,
+            made: 2,
+        },
+    ) = gate.close(PassList::from(passes))
+    else {
+        return Err("one pass of two is out".into());
     };
-    assert_eq!(rt; made, 2);
     let mut passes = passes.into_vec();
-    passes.push(two?)?;
-    let Ok(machine) = gate.close(PassList::from(passes)) else {
-        return Err("all passes are back".into());
-    };
-    assert_eq!(rt; machine.steps, 3);
-    let orders: [&[u32]; 3] = [&[9, 7, 8], &[7, 9, 8], &[7, 8, 9]];
-    assert!(rt; orders.iter().any(|&order| machine.log.as_slice() == order));
+    passes.push(second?)?;
+    gate.close(PassList::from(passes))
+        .map_err(|_| "all passes are back".into())
+}
+
+#[test]
+fn calls_of_two_threads_make_one_history(rt: HostRuntime) -> Result<(), Fail> {
+    let mut even = Vec::new(rt.alloc());
+    let mut odd = Vec::new(rt.alloc());
+    for i in 0..200u32 {
+        even.push(2 * i)?;
+        odd.push(2 * i + 1)?;
+    }
+    let cases: [(&[u32], &[u32]); 2] = [(&[4, 2], &[3]), (even.as_slice(), odd.as_slice())];
+    for (even, odd) in cases {
+        let machine = called_by_two(&rt, rt.alloc(), even, odd)?;
+        let log = machine.log.as_slice();
+        assert_eq!(rt; log.len(), even.len().wrapping_add(odd.len()));
+        assert_eq!(rt; machine.steps, log.len() as u64);
+        assert!(rt; has_in_order(log, 0, even) && has_in_order(log, 1, odd));
+    }
     Ok(())
 }

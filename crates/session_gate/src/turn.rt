@@ -14,9 +14,9 @@ use std::thread::Threads;
 
 // Waits for the turn, and takes it. The machine is then out with the seat.
 //
-// A thread that finds the turn held sleeps until one is returned, so it costs no processor time. Each
-// return wakes one sleeper, and whoever wins returns in its turn, so none is left asleep. The kernel
-// compares the low half of the word: it is odd exactly while a turn is held.
+// A thread that finds the turn held sleeps until one is returned, so it costs no processor time.
+// Each return wakes one sleeper, and whoever wins returns in its turn, so none is left asleep. The
+// kernel compares the low half of the word, which is odd exactly while a turn is held.
 fn win<M: Machine, R: Wait>(rt: &R, shared: &GateShared<M>, seat: &mut GateSeat<M>)
     requires table { (seat.old.table_id ≡ shared.now.table_id) × (shared.now.table_id.words ≡ 1) }
     requires idle { IsIdle seat.old }
@@ -44,7 +44,8 @@ fn take_out<M: Machine, R: Wait>(rt: &R, shared: &GateShared<M>, seat: &mut Gate
     requires table { (seat.old.table_id ≡ shared.now.table_id) × (shared.now.table_id.words ≡ 1) }
     requires idle { IsIdle seat.old }
     ensures same { (seat.new.table_id ≡ seat.old.table_id) × (seat.new.id ≡ seat.old.id) }
-    ensures out { (k : _) × (seat.old.me ≡ (Some k, [])) × IsOut M.history M.opening M.takes M.answers k seat.new.me result }
+    ensures out { (k : _) × (seat.old.me ≡ (Some k, []))
+        × IsOut M.history M.opening M.takes M.answers k seat.new.me result }
 {
     win(rt, shared, seat);
     let Some(machine) = shared.exchange(seat, 0, None) else {
@@ -56,9 +57,12 @@ fn take_out<M: Machine, R: Wait>(rt: &R, shared: &GateShared<M>, seat: &mut Gate
 // Hands the machine back, gives the turn up, and wakes one who waits for it.
 fn give_back<M: Machine>(shared: &GateShared<M>, seat: &mut GateSeat<M>, machine: M)
     requires table { (seat.old.table_id ≡ shared.now.table_id) × (shared.now.table_id.words ≡ 1) }
-    requires turn { (k : _) × (seat.old.me ≡ (Some k, (0, None) ∷ [])) × (k.turn ≡ true) × (M.opening machine ≡ k.opening) × IsTurn M.takes M.answers k.opening (entries_of k.seen) (M.history machine) }
+    requires turn { (k : _) × (seat.old.me ≡ (Some k, (0, None) ∷ [])) × (k.turn ≡ true)
+        × (M.opening machine ≡ k.opening)
+        × IsTurn M.takes M.answers k.opening (entries_of k.seen) (M.history machine) }
     ensures same { (seat.new.table_id ≡ seat.old.table_id) × (seat.new.id ≡ seat.old.id) }
-    ensures back { (k : _) → seat.old.me ≡ (Some k, (0, None) ∷ []) → seat.new.me ≡ (Some (resting k (grown k.number k.seen (M.history machine))), []) }
+    ensures back { (k : _) → seat.old.me ≡ (Some k, (0, None) ∷ [])
+        → seat.new.me ≡ (Some (resting k (grown k.number k.seen (M.history machine))), []) }
 {
     let entries = machine.entries();
     let word = 2 * entries;

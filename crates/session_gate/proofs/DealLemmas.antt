@@ -1,8 +1,7 @@
 -- The passes that a gate begins with.
-use Rattle.std.proofs.Common.{◌≡◌, ℕ, ◌+◌, ◌-◌, ◌<◌, ◌≤◌, List, [], ◌∷◌, ◌++◌, false, length, refl, ap, sym, subst, ◌∙◌, ⊎_elim, arith, length-append, slice_get, Some, None, Option}
-use Rattle.atomic_table.specs.Table.{Me, Splits}
+use Rattle.std.proofs.Common.{◌≡◌, ℕ, ◌+◌, ◌-◌, ◌<◌, ◌≤◌, List, [], ◌∷◌, ◌++◌, false, length, refl, ap, sym, subst, ◌∙◌, ⊎_elim, arith, length-append, slice_get, Some, Option}
+use Rattle.atomic_table.specs.Table.{Splits}
 use Rattle.atomic_table.specs.Seated.{TableId}
-use Rattle.atomic_table.specs.declared.shared.Seat.{Seat}
 use Rattle.session_gate.specs.declared.known.Known.{Known}
 use Rattle.session_gate.specs.Known.{GateSeat, Sat, number_of, seen_of, opening_of, turn_of, told_of, room_of, parts_of, dealt, next_seat}
 use Rattle.session_gate.specs.Rule.{Kept}

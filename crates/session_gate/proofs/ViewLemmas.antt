@@ -1,5 +1,5 @@
 -- What the other passes know stays, where the history only grows by this pass.
-use Rattle.std.proofs.Common.{◌≡◌, ◌≢◌, ℕ, Bool, true, false, List, [], set, get_or, refl, ap, sym, subst, ◌∙◌, inl, inr, ⊎_elim, arith, length-set, Some, None, Option}
+use Rattle.std.proofs.Common.{◌≡◌, ◌≢◌, ℕ, Bool, true, false, List, [], set, get_or, ap, sym, subst, ◌∙◌, inl, inr, ⊎_elim, arith, length-set, Some, None, Option}
 use Rattle.std.specs.List.{sum_by}
 use Rattle.std.proofs.lemmas.List.Sums.{sum_by-set}
 use mathlib.Core.List.{IsPrefix}
@@ -11,7 +11,7 @@ use Rattle.session_gate.specs.declared.known.Made.{Made}
 use Rattle.session_gate.specs.declared.known.Known.{Known}
 use Rattle.session_gate.specs.History.{calls_by}
 use Rattle.session_gate.specs.Known.{parts_of}
-use Rattle.session_gate.specs.Rule.{IsOwnOrSpent, IsSeen, Knows, IsLongest}
+use Rattle.session_gate.specs.Rule.{IsOwnOrSpent, Knows, IsLongest}
 use Rattle.atomic_table.proofs.Lists.{at_set, set_here, set_else}
 use Rattle.session_gate.proofs.Lists.{at_below, get_or_at}
 use Rattle.session_gate.proofs.HistoryLemmas.{seen_grows}

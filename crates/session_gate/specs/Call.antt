@@ -1,5 +1,5 @@
 -- What one call tells its pass.
-use Rattle.std.specs.Prelude.{◌≡◌, ℕ, ◌⊎◌, List, [], ◌∷◌, ◌++◌, Option, Some}
+use Rattle.std.specs.Prelude.{◌≡◌, ℕ, ◌⊎◌, List, [], ◌∷◌, ◌++◌, Some}
 use Rattle.session_gate.specs.declared.known.Made.{Made}
 use Rattle.session_gate.specs.History.{entries_of, calls_by, made_by, IsLegal}
 use Rattle.session_gate.specs.Views.{PassView}

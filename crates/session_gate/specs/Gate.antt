@@ -1,5 +1,5 @@
 -- A gate with its passes: when it is made, and when it is closed.
-use Rattle.std.specs.Prelude.{◌≡◌, ℕ, ◌<◌, ◌≤◌, List, map, length, slice_get, Some}
+use Rattle.std.specs.Prelude.{◌≡◌, ℕ, ◌≤◌, List, map, length, slice_get, Some}
 use mathlib.Core.List.{IsPrefix}
 use Rattle.session_gate.specs.declared.known.Made.{Made}
 use Rattle.session_gate.specs.History.{brought, entries_of, IsLegal}

@@ -4,7 +4,6 @@ use Rattle.std.specs.List.{sum_by}
 use mathlib.Core.Option.{some, none}
 use mathlib.Core.List.{IsPrefix}
 use lib.ListN.{get_elem?}
-use Rattle.atomic_table.specs.Table.{State}
 use Rattle.session_gate.specs.declared.known.Made.{Made}
 use Rattle.session_gate.specs.declared.known.Told.{Told}
 use Rattle.session_gate.specs.declared.known.Known.{Known}

@@ -42,8 +42,7 @@ impl Machine for Counter {
     ghost answers = { λ _ before after event out.
         (out ≡ length before) × (after ≡ before ++ event ∷ []) };
 
-    fn step<R: Threads + Wait + Sync>(&mut self, rt: &R, event: u32) -> Result<u64, AllocError> {
-        let _ = rt;
+    fn step<R: Threads + Wait + Sync>(&mut self, _rt: &R, event: u32) -> Result<u64, AllocError> {
         self.steps = self.steps.wrapping_add(1);
         if self.log.len() >= MOST {
             return Err(AllocError);

@@ -1,4 +1,4 @@
-use Rattle.std.proofs.Common.{rules, arith, ◌≡◌, ◌<◌, ◌≤◌, length, refl, sym, ap}
+use Rattle.std.proofs.Common.{rules, arith, ◌≡◌, ◌≤◌, length, refl, sym, ap}
 use Rattle.session_gate.specs.Views.{GateView}
 use Rattle.session_gate.proofs.CloseLemmas.{closes, whole_as}
 use Rattle.session_gate.proofs.gate.Gate.close.Goals as goal

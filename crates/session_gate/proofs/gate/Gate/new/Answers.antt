@@ -1,4 +1,4 @@
-use Rattle.std.proofs.Common.{rules, ◌≡◌, length, refl, sym, ap, subst, List}
+use Rattle.std.proofs.Common.{rules, ◌≡◌, length, refl, sym, subst, List}
 use Rattle.session_gate.specs.Views.{PassView, GateView}
 use Rattle.session_gate.specs.Gate.{AreAllNew}
 use Rattle.session_gate.proofs.DealLemmas.{all_new}

@@ -41,8 +41,8 @@ pub(crate) type GateSeat<M> = Seat<
     Option<Known<<M as Machine>::Entry, <M as Machine>::Opening>>,
 >;
 
-// What the table is told once: the machine as it was brought, for the proof alone, and how many
-// passes there will be.
+/// What the table is told once: the machine as it was brought, for the proof alone, and how many
+/// passes there will be.
 #[derive(Drop)]
 pub struct Start<M> {
     pub machine: Snapshot<M>,

@@ -2,6 +2,7 @@
 // keeps its events and counts its steps, so that a step taken twice, an entry lost or counted twice,
 // and an older machine written over a newer one would each show. Expected, whatever the schedule: each
 // pass's events in their order and no others; with a pass out, `close` asks for it.
+// `numbers_of_one_pass_rise`: a caller that proves something of its own from the clauses of `call`.
 ghost use Rattle.std.specs.Prelude.{◌≡◌, ◌≤◌, ◌+◌, ◌^◌, ◌<◌, ◌++◌, ◌∷◌, [], length, All, vec_len, IfOk};
 ghost use Rattle.std.specs.Thread.{IsSync};
 ghost use Rattle.session_gate.specs.Gate.{IsPassOf};
@@ -92,6 +93,20 @@ fn call_each<R: Threads + Wait + Sync>(
     Ok(pass)
 }
 
+// The second answer is the larger, whoever calls between.
+fn two_numbers<R: Threads + Wait + Sync>(
+    rt: &R,
+    gate: &Gate<Counter>,
+    pass: &mut Pass<Counter>,
+) -> Result<(u64, u64), AllocError>
+    requires { IsPassOf gate.now pass.old }
+    ensures { IfOk result (λ numbers. numbers.0 < numbers.1) }
+{
+    let first = gate.call(rt, pass, 7)?;
+    let second = gate.call(rt, pass, 8)?;
+    Ok((first, second))
+}
+
 // Whether the events of this parity stand in the log in this order, and no others of it.
 fn has_in_order(log: &[u32], parity: u32, events: &[u32]) -> bool {
     log.iter().filter(|&&event| event % 2 == parity).eq(events)
@@ -150,5 +165,14 @@ fn calls_of_two_threads_make_one_history(rt: HostRuntime) -> Result<(), Fail> {
         assert_eq!(rt; machine.steps, log.len() as u64);
         assert!(rt; has_in_order(log, 0, even) && has_in_order(log, 1, odd));
     }
+    Ok(())
+}
+
+#[test]
+fn numbers_of_one_pass_rise(rt: HostRuntime) -> Result<(), Fail> {
+    let (gate, passes) = open_gate(rt.alloc(), 1)?;
+    assert_eq!(rt; passes.len(), 1);
+    let mut pass = passes.into_vec().pop().ok_or("one pass")?;
+    assert_eq!(rt; two_numbers(&rt, &gate, &mut pass)?, (0, 1));
     Ok(())
 }

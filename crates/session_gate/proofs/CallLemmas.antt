@@ -1,6 +1,6 @@
 -- What one call tells its pass, from what its steps tell.
 use Rattle.std.proofs.Common.{◌≡◌, ℕ, ◌<◌, List, [], ◌∷◌, ◌++◌, length, refl, ap, sym, subst, ◌∙◌, inl, inr, ⊎_elim, Some, None, Option, arith, Result, Ok, Err, IfOk, OnErr}
-use Rattle.std.proofs.lemmas.List.{append-nil}
+use Rattle.std.proofs.lemmas.List.{append-nil, nil_from_length}
 use Rattle.atomic_table.specs.Table.{rest}
 use Rattle.atomic_table.specs.Seated.{TableId}
 use Rattle.session_gate.specs.declared.known.Made.{Made}
@@ -10,7 +10,6 @@ use Rattle.session_gate.specs.Known.{GateSeat, Sat, turn_of, parts_of, told_of, 
 use Rattle.session_gate.specs.Steps.{IsWon, IsOut}
 use Rattle.session_gate.specs.Call.{IsSamePass, HasSeenLegal, IsSureAt, Ends, SeesMore, IsCall}
 use Rattle.session_gate.specs.Seats.{pass_at, shown, IsIdle}
-use Rattle.session_gate.proofs.Lists.{none_left}
 use Rattle.session_gate.proofs.HistoryLemmas.{grown_same, grown_more, entries_more, calls-append, calls_own, legal_more}
 
 module _ {E : Type 0} where
@@ -33,10 +32,10 @@ module _ {E O : Type 0} where
 
 module _ {M E O : Type 0} where
   pub idle_is : (s : GateSeat M E O) → IsIdle s → (k : Known E O) × (◌≡◌ {A = Sat M E O} s.me (Some k, []))
-  idle_is s r = let k = some_known s.me.0 (let p = r.parts in omega arith) in (k.0, λ i. (k.1 i, none_left s.me.1 r.carried i))
+  idle_is s r = let k = some_known s.me.0 (let p = r.parts in omega arith) in (k.0, λ i. (k.1 i, nil_from_length s.me.1 r.carried i))
 
   pub untold : (s : GateSeat M E O) (k : Known E O) → IsIdle s → (◌≡◌ {A = Sat M E O} s.me (Some k, [])) → k.told ≡ []
-  untold s k r is = none_left k.told (ap (λ (m : Sat M E O). length (told_of m.0)) (sym is) ∙ r.told)
+  untold s k r is = nil_from_length k.told (ap (λ (m : Sat M E O). length (told_of m.0)) (sym is) ∙ r.told)
 
   -- a pass that has seen more is idle again
   pub idle_again : (s t : GateSeat M E O) (k : Known E O) (seen : List (Made E)) → IsIdle s → (◌≡◌ {A = Sat M E O} s.me (Some k, [])) → (◌≡◌ {A = Sat M E O} t.me (Some (resting k seen), [])) → IsIdle t

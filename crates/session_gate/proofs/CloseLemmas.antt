@@ -20,6 +20,11 @@ use Rattle.session_gate.proofs.ViewLemmas.{not_holder}
 use Rattle.session_gate.proofs.SeatLemmas.{below_more}
 use Rattle.session_gate.proofs.CallLemmas.{some_known}
 
+module _ {M : Type 0} where
+  -- what was at home in the slot is what is taken out of it
+  slot_is : (homes : List (maybe.Option (Option M))) (slots : List (Option M)) (out : Option M) (m : M) → homes ≡ some (Some m) ∷ [] → ((k : ℕ) (y : Option M) → get_elem? homes k ≡ some (some y) → get_elem? slots k ≡ some y) → get_elem? slots 0 ≡ some out → out ≡ Some m
+  slot_is homes slots out m at back got = some-injective out (Some m) (sym got ∙ back 0 (Some m) (ap (λ (hs : List (maybe.Option (Option M))). get_elem? hs 0) at))
+
 module _ {M E O Ev Out : Type 0} (history : M → List E) (opening : M → O) (takes_event : Ev → Type 0) (answers : O → List E → List E → Ev → Out → Type 0) (start : M) (passes : ℕ) where
   abbrev K : Type 0
   K = Known E O
@@ -78,8 +83,7 @@ module _ {M E O Ev Out : Type 0} (history : M → List E) (opening : M → O) (t
       let sum = r.parts in
       let parts : k.0.parts ≡ passes = omega arith in
       let h = home s r seat.id k.0 at_k turn parts r.held refl in
-      let there : get_elem? slots 0 ≡ some (Some h.0) = f.4 0 (Some h.0) (ap (λ (hs : List (maybe.Option (Option M))). get_elem? hs 0) h.1) in
-      let is : out ≡ Some h.0 = some-injective out (Some h.0) (sym got ∙ there) in
+      let is : out ≡ Some h.0 = slot_is s.homes slots out h.0 h.1 f.4 got in
       let few : length s.views ≤ gate.made = (let q = r.few in omega arith) in (
         h.0,
         is,

@@ -1,5 +1,6 @@
 -- Passes that are handed back to one.
 use Rattle.std.proofs.Common.{◌≡◌, ℕ, ◌+◌, ◌<◌, List, [], ◌∷◌, ◌++◌, ◌⊎◌, false, length, refl, ap, sym, subst, ◌∙◌, inl, inr, ⊎_elim, arith, length-append, slice_get, Some, None, Option}
+use Rattle.std.proofs.lemmas.List.{nil_from_length}
 use mathlib.Core.Option.{some}
 use lib.ListN.{get_elem?}
 use Rattle.atomic_table.specs.Table.{Joins}
@@ -12,7 +13,7 @@ use Rattle.session_gate.specs.Known.{GateSeat, Sat, number_of, seen_of, turn_of,
 use Rattle.session_gate.specs.Rule.{Kept}
 use Rattle.session_gate.specs.Views.{PassView}
 use Rattle.session_gate.specs.Seats.{shown, IsIdle, AreOf, Heard, IsGathered}
-use Rattle.session_gate.proofs.Lists.{none_left, snoc_get, get_longer, get_last}
+use Rattle.session_gate.proofs.Lists.{snoc_get, get_longer, get_last}
 use Rattle.session_gate.proofs.CallLemmas.{some_known}
 use Rattle.session_gate.proofs.SeatLemmas.{joins}
 
@@ -110,7 +111,7 @@ module _ {M E O : Type 0} (gate : TableId) where
     carried = d.carried;
     turn = d.turn;
     parts = let p = d.parts in omega arith;
-    heard = λ i p e. ⊎_elim (λ (f : slice_get front i ≡ Some p). absurd (let g = subst (λ (z : List (PassView E O)). slice_get z i ≡ Some p) (none_left front none) f in cc)) (λ h. h) (d.heard i p e);
+    heard = λ i p e. ⊎_elim (λ (f : slice_get front i ≡ Some p). absurd (let g = subst (λ (z : List (PassView E O)). slice_get z i ≡ Some p) (nil_from_length front none) f in cc)) (λ h. h) (d.heard i p e);
   }
 
   pub last_of : (front front' : List (PassView E O)) (u : GateSeat M E O) → AreOf gate front → front ≡ front' ++ shown u ∷ [] → u.table_id ≡ gate
@@ -118,7 +119,7 @@ module _ {M E O : Type 0} (gate : TableId) where
 
 module _ {M E O : Type 0} where
   pub carries_none : (u : GateSeat M E O) → IsIdle u → u.me.1 ≡ []
-  carries_none u idle = none_left u.me.1 idle.carried
+  carries_none u idle = nil_from_length u.me.1 idle.carried
 
 module _ {M E O Ev Out : Type 0} (history : M → List E) (opening : M → O) (takes_event : Ev → Type 0) (answers : O → List E → List E → Ev → Out → Type 0) (start : M) (passes : ℕ) where
   pub join_allowed : (gate : TableId) (all front : List (PassView E O)) (s u : GateSeat M E O) → IsGathering gate all front s → IsIdle u

@@ -1,16 +1,12 @@
 -- Beginnings of one list, and what lists have at a place.
 use Rattle.std.proofs.Common.{◌≡◌, ℕ, zero, suc, ◌<◌, ◌≤◌, ◌⊎◌, inl, inr, ⊎_elim, List, [], ◌∷◌, ◌++◌, length, get_or, refl, ap, sym, subst, ◌∙◌, arith, append_assoc, length-append, All, Some, slice_get}
-use Rattle.std.proofs.lemmas.List.{append-nil}
+use Rattle.std.proofs.lemmas.List.{append-nil, nil_from_length}
 use Rattle.std.proofs.lemmas.Option.{slice_get_within, get_or_from_slice_get, slice_get-get_or}
 use mathlib.Core.List.{IsPrefix}
 use mathlib.Core.Option.{some, some-injective, some-ne-none}
 use lib.ListN.{get_elem?}
 
 module _ {A : Type 0} where
-  pub none_left : (xs : List A) → length xs ≡ 0 → xs ≡ []
-  none_left [] e = refl
-  none_left (x ∷ xs) e = absurd (omega arith)
-
   pub prefix_self : (xs : List A) → IsPrefix xs xs
   prefix_self xs = ([], append-nil xs)
 
@@ -34,7 +30,7 @@ module _ {A : Type 0} where
   -- a beginning that is as long is the whole list
   pub prefix_whole : (xs log : List A) → IsPrefix xs log → length log ≤ length xs → xs ≡ log
   prefix_whole xs log p le =
-      let none : p.0 ≡ [] = none_left p.0 (omega (arith, sym (ap length p.1) ∙ length-append xs p.0)) in
+      let none : p.0 ≡ [] = nil_from_length p.0 (omega (arith, sym (ap length p.1) ∙ length-append xs p.0)) in
       sym (append-nil xs) ∙ (ap (λ (w : List A). xs ++ w) (sym none) ∙ p.1)
 
   pub at_below : (l : List A) (i : ℕ) (a : A) → get_elem? l i ≡ some a → i < length l

@@ -1,5 +1,5 @@
 -- The steps of a call keep the rule: a turn is won or lost, and returned.
-use Rattle.std.proofs.Common.{◌≡◌, ◌≢◌, ℕ, ◌+◌, ◌*◌, ◌%◌, ◌<◌, ◌≤◌, eqb, Bool, true, false, List, [], ◌∷◌, ◌++◌, map, length, set, get_or, refl, ap, sym, subst, ◌∙◌, ⊎_elim, arith, length-set, slice_get, Some, Option}
+use Rattle.std.proofs.Common.{◌≡◌, ◌≢◌, ℕ, ◌+◌, ◌*◌, ◌%◌, ◌<◌, ◌≤◌, eqb, Bool, true, false, List, [], ◌∷◌, ◌++◌, map, length, set, get_or, refl, ap, sym, subst, ◌∙◌, ⊎_elim, arith, length-set, slice_get, Some, None, Option}
 use mathlib.Core.List.{IsPrefix}
 use mathlib.Core.Option.{some, none}
 use mathlib.Core.Option as maybe
@@ -7,7 +7,7 @@ use lib.ListN.{get_elem?}
 use lib.Seq.{set-get_or}
 use Rattle.std.proofs.lemmas.List.{length-map}
 use prog.Atomic.{either}
-use Rattle.atomic_table.specs.Table.{Act, step, keeps, takes, gives, Valid, stepped, carried_after, Allows}
+use Rattle.atomic_table.specs.Table.{Act, step, keeps, takes, gives, Valid, stepped, carried_after, rest, Allows}
 use Rattle.session_gate.specs.declared.known.Made.{Made}
 use Rattle.session_gate.specs.declared.known.Known.{Known}
 use Rattle.session_gate.specs.History.{brought, entries_of, calls_by, IsLegal, IsTurn, Leads, made_by, grown}
@@ -18,6 +18,11 @@ use Rattle.atomic_table.proofs.Lists.{set_here, set_again, exchanged}
 use Rattle.session_gate.proofs.Lists.{prefix_self, prefix_trans, at_below, nothing_at, snoc_get}
 use Rattle.session_gate.proofs.ViewLemmas.{knows_other, each_after, parts_same}
 use Rattle.session_gate.proofs.HistoryLemmas.{none_between, grown_same, grown_more, entries_more, calls_other, legal_more}
+
+module _ {M E O : Type 0} where
+  -- the machine was put into the slot that the seat holds
+  pub slot_in : (k : Known E O) (x : M) (m m' : Sat M E O) → m ≡ (Some k, (0, None) ∷ []) → m' ≡ (m.0, (0, Some x) ∷ rest m.1) → m' ≡ (Some k, (0, Some x) ∷ [])
+  slot_in k x m m' is now = now ∙ ap (λ (z : Sat M E O). (z.0, (0, Some x) ∷ rest z.1)) is
 
 module _ {M E O Ev Out : Type 0} (history : M → List E) (opening : M → O) (takes_event : Ev → Type 0) (answers : O → List E → List E → Ev → Out → Type 0) (start : M) (passes : ℕ) where
   abbrev K : Type 0

@@ -1,5 +1,5 @@
 -- What one call tells its pass, from what its steps tell.
-use Rattle.std.proofs.Common.{◌≡◌, ℕ, ◌<◌, List, [], ◌∷◌, ◌++◌, length, refl, ap, sym, subst, ◌∙◌, inl, inr, ⊎_elim, Some, None, Option, arith, Result, Ok, Err, IfOk, OnErr}
+use Rattle.std.proofs.Common.{◌≡◌, ◌⊎◌, ℕ, ◌<◌, List, [], ◌∷◌, ◌++◌, length, refl, ap, sym, subst, ◌∙◌, inl, inr, ⊎_elim, Some, None, Option, arith, Result, Ok, Err, IfOk, OnErr}
 use Rattle.std.proofs.lemmas.List.{append-nil, nil_from_length}
 use Rattle.atomic_table.specs.Table.{rest}
 use Rattle.atomic_table.specs.Seated.{TableId}
@@ -8,7 +8,7 @@ use Rattle.session_gate.specs.declared.known.Known.{Known}
 use Rattle.session_gate.specs.History.{entries_of, calls_by, IsLegal, AddsOneOrNone, IsTurn, Leads, made_by, grown}
 use Rattle.session_gate.specs.Known.{GateSeat, Sat, turn_of, parts_of, told_of, number_of, opening_of, holding, resting}
 use Rattle.session_gate.specs.Steps.{IsWon, IsOut}
-use Rattle.session_gate.specs.Call.{IsSamePass, HasSeenLegal, IsSureAt, Ends, SeesMore, IsCall}
+use Rattle.session_gate.specs.Call.{IsSamePass, HasSeenLegal, IsSureAt, SeesMore, IsCall}
 use Rattle.session_gate.specs.Seats.{pass_at, shown, IsIdle}
 use Rattle.session_gate.proofs.HistoryLemmas.{grown_same, grown_more, entries_more, calls-append, calls_own, legal_more}
 
@@ -18,9 +18,15 @@ module _ {E : Type 0} where
   entries_grown n seen h step = ⊎_elim (λ (e : h ≡ entries_of seen). ap entries_of (grown_same n seen h e) ∙ sym e)
       (λ (t : (x : E) × (h ≡ entries_of seen ++ x ∷ [])). ap entries_of (grown_more n seen h t.0 t.1) ∙ (entries_more n seen t.0 ∙ sym t.1)) step
 
-  pub grown_ends : (n : ℕ) (seen between : List (Made E)) (h : List E) → calls_by n between ≡ [] → AddsOneOrNone (entries_of (seen ++ between)) h → Ends n seen between (grown n (seen ++ between) h)
+  -- what came between has no calls of the pass, so it has the calls that it had
+  own_apart : (n : ℕ) (seen between : List (Made E)) → calls_by n between ≡ [] → calls_by n (seen ++ between) ≡ calls_by n seen
+  own_apart n seen between none = calls-append n seen between ∙ (ap (λ (ys : List E). calls_by n seen ++ ys) none ∙ append-nil (calls_by n seen))
+
+  grown_ends : (n : ℕ) (seen between : List (Made E)) (h : List E) → calls_by n between ≡ [] → AddsOneOrNone (entries_of (seen ++ between)) h
+      → ((grown n (seen ++ between) h ≡ seen ++ between) × (calls_by n (grown n (seen ++ between) h) ≡ calls_by n seen))
+      ⊎ ((e : E) × (grown n (seen ++ between) h ≡ (seen ++ between) ++ made_by n e ∷ []) × (calls_by n (grown n (seen ++ between) h) ≡ calls_by n seen ++ e ∷ []))
   grown_ends n seen between h none step =
-      let own : calls_by n (seen ++ between) ≡ calls_by n seen = calls-append n seen between ∙ (ap (λ (ys : List E). calls_by n seen ++ ys) none ∙ append-nil (calls_by n seen)) in
+      let own : calls_by n (seen ++ between) ≡ calls_by n seen = own_apart n seen between none in
       ⊎_elim (λ (e : h ≡ entries_of (seen ++ between)). let all = grown_same n (seen ++ between) h e in inl (all, ap (calls_by n) all ∙ own))
       (λ (t : (x : E) × (h ≡ entries_of (seen ++ between) ++ x ∷ [])). let all = grown_more n (seen ++ between) h t.0 t.1 in
       inr (t.0, all, ap (calls_by n) all ∙ (calls_own n (seen ++ between) t.0 ∙ ap (λ (ys : List E). ys ++ t.0 ∷ []) own))) step
@@ -130,6 +136,7 @@ module _ {M E O Ev Out : Type 0} (history : M → List E) (opening : M → O) (t
         between = d.between;
         apart = d.apart;
         seen = grown_same k.number (k.seen ++ d.between) (history y) (same ∙ d.history_is);
+        own = ap (calls_by k.number) (grown_same k.number (k.seen ++ d.between) (history y) (same ∙ d.history_is)) ∙ own_apart k.number k.seen d.between d.apart;
       }
 
   pub tells_ok : {X : Type 0} (s t : GateSeat M E O) (k : K) (m : P) (x y : M) (event : Ev) (r : Result Out X) (d : IsOut history opening takes_event answers k m x) → ◌≡◌ {A = P} s.me (Some k, []) → AddsOneOrNone (history x) (history y)

@@ -1,19 +1,14 @@
 -- What one call tells its pass.
-use Rattle.std.specs.Prelude.{◌≡◌, ℕ, ◌⊎◌, List, [], ◌∷◌, ◌++◌, Some}
+use Rattle.std.specs.Prelude.{◌≡◌, ◌⊎◌, List, [], ◌∷◌, ◌++◌, Some}
 use Rattle.session_gate.specs.declared.known.Made.{Made}
 use Rattle.session_gate.specs.History.{entries_of, calls_by, made_by, IsLegal}
 use Rattle.session_gate.specs.Views.{PassView}
 
-module _ {E : Type 0} where
-  -- The pass n had seen `seen`, then `between` came, and its call ends with `after`: its own entry
-  -- is the last one there and one more of its calls, or the step added none
-  abbrev pub Ends : ℕ → List (Made E) → List (Made E) → List (Made E) → Type 0
-  Ends n seen between after =
-      ((after ≡ seen ++ between) × (calls_by n after ≡ calls_by n seen))
-      ⊎ ((e : E) × (after ≡ (seen ++ between) ++ made_by n e ∷ [])
-      × (calls_by n after ≡ calls_by n seen ++ e ∷ []))
-
 module _ {E O : Type 0} where
+  -- the calls of the pass itself, in its order
+  abbrev pub own_calls : PassView E O → List E
+  own_calls pass = calls_by pass.number pass.seen
+
   -- the same pass of the same gate, over the same opening
   pub record IsSamePass (old new : PassView E O) : Type 0 where
     pub gate : new.gate ≡ old.gate
@@ -25,6 +20,15 @@ module _ {E O : Type 0} where
     pub between : List (Made E)
     pub apart : calls_by old.number between ≡ []
     pub seen : new.seen ≡ old.seen ++ between
+    pub own : own_calls new ≡ own_calls old
+
+  -- The others' entries `between` came, and then the call: its own entry is the last one that the
+  -- pass has seen, and one more of its calls, or the step added none
+  abbrev pub EndsWithCall : PassView E O → List (Made E) → PassView E O → Type 0
+  EndsWithCall old between new =
+      ((new.seen ≡ old.seen ++ between) × (own_calls new ≡ own_calls old))
+      ⊎ ((e : E) × (new.seen ≡ (old.seen ++ between) ++ made_by old.number e ∷ [])
+      × (own_calls new ≡ own_calls old ++ e ∷ []))
 
 module _ {E O Ev Out : Type 0} (answers : O → List E → List E → Ev → Out → Type 0) where
   -- One call: the machine's answer at that point of the history, which begins with all that the
@@ -34,7 +38,7 @@ module _ {E O Ev Out : Type 0} (answers : O → List E → List E → Ev → Out
     pub opening_is : old.opening ≡ Some opening
     pub between : List (Made E)
     pub apart : calls_by old.number between ≡ []
-    pub ends : Ends old.number old.seen between new.seen
+    pub ends : EndsWithCall old between new
     pub answer : answers opening (entries_of (old.seen ++ between)) (entries_of new.seen) event out
 
 module _ {E O Ev Out : Type 0} (takes_event : Ev → Type 0)

@@ -1,5 +1,5 @@
 //! The right to call, and a list of such rights.
-ghost use Rattle.std.specs.Prelude.{◌≡◌, length};
+ghost use Rattle.std.specs.Prelude.{◌≡◌, ◌↔◌, length, IsTrue};
 ghost use Rattle.session_gate.specs.Seats.{shown, IsIdle};
 
 use crate::machine::Machine;
@@ -85,5 +85,12 @@ impl<M: Machine> PassList<M> {
         ensures { result ≡ length self.now }
     {
         self.passes.len()
+    }
+
+    /// Whether there is no pass.
+    pub fn is_empty(&self) -> bool
+        ensures { IsTrue result ↔ (length self.now ≡ 0) }
+    {
+        self.passes.is_empty()
     }
 }

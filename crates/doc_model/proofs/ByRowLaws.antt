@@ -1,12 +1,16 @@
 -- Lists of things with ids in the order of their rows, and things changed under their ids.
-use Rattle.std.proofs.Common.{ℕ, Bool, true, false, cond, not, ◌||◌, List, [], ◌∷◌, map, filter, ◌≡◌, ◌<◌, ◌≤◌, refl, sym, ap, subst, ◌∙◌, Option, Some, None, eqb, ltb, arith, option_map, is_some}
+use Rattle.std.proofs.Common.{ℕ, suc, Bool, true, false, cond, not, ◌||◌, List, [], ◌∷◌, map, filter, ◌≡◌, ◌<◌, ◌≤◌, refl, sym, ap, subst, ◌∙◌, Option, Some, None, eqb, ltb, arith, option_map, is_some}
 use Rattle.std.proofs.lemmas.Bool.{false≢true, true≢false, both_ways, ltb-true, ltb-false, lt-ltb, le-ltb, and_parts}
 use Rattle.std.proofs.lemmas.Slice.Eq.{bytes_eq-Decides}
 use Rattle.std.specs.List.{AllByRecursion}
 use Rattle.std.specs.Str.{bytes_eq}
+use Rattle.std.specs.Prelude.{insert, ◌+◌}
+use Rattle.doc_model.specs.declared.column.ColDef.{ColDef}
 use Rattle.doc_model.specs.ByIds.{find_id, has_id, AreDistinct, with_id, without_id}
 use Rattle.doc_model.specs.Rows.{has, is_once, IsAscending}
+use Rattle.doc_model.specs.Column.{column_row}
 use Rattle.doc_model.specs.Document.{put_by_row, by_row}
+use Rattle.doc_model.specs.Places.{column_place}
 use Rattle.doc_model.proofs.Choices.{cond_true, cond_false, each_weaker, filter_all, not_true, or_swap}
 use Rattle.doc_model.proofs.ByIdsLaws.{has_id-find, find-without_id, bytes_itself, bytes_apart, has_apart, apart_has}
 use Rattle.doc_model.proofs.RowsLaws.{number_itself}
@@ -347,3 +351,13 @@ with_id-put_by_row id row f x (y ∷ ys) same fresh =
           ∙ ap (λ zs. y ∷ zs) (with_id-put_by_row id row f x ys same (has_apart id (id x) ys apart.1))
     ]
     ∙ ap (λ n. cond (ltb n (row y)) (f x ∷ y ∷ ys) (y ∷ put_by_row row (f x) ys)) (sym same)
+
+-- a column goes to its place
+pub put_by_row-column_place : (d : ColDef) (cs : List ColDef) → put_by_row column_row d cs ≡ insert cs (column_place d.row cs) d
+put_by_row-column_place d [] = refl
+put_by_row-column_place d (e ∷ cs) =
+    let next : suc (column_place d.row cs) ≡ column_place d.row cs + 1 = omega arith in
+    elim (ltb d.row e.row) as (λ b. cond b (d ∷ e ∷ cs) (e ∷ put_by_row column_row d cs) ≡ insert (e ∷ cs) (cond b 0 (column_place d.row cs + 1)) d) [
+      | true ↦ refl
+      | false ↦ ap (λ xs. e ∷ xs) (put_by_row-column_place d cs) ∙ ap (λ n. insert (e ∷ cs) n d) next
+    ]

@@ -20,3 +20,9 @@ pub mod TableSteps
 pub mod ColumnSteps
 pub mod InverseLaws
 pub mod FitsLaws
+pub mod NewDocumentLaws
+pub mod Traps
+pub mod TotalsLaws
+pub mod WeightLaws
+pub mod CountSteps
+pub mod SchemaCounts

@@ -1,5 +1,5 @@
 -- The tests of equality tell equality.
-use Rattle.std.proofs.Common.{ℕ, Bool, true, false, ◌&&◌, List, [], ◌∷◌, ◌≡◌, refl, sym, ap, subst, ◌∙◌, Option, Some, None}
+use Rattle.std.proofs.Common.{ℕ, true, ◌&&◌, List, [], ◌∷◌, ◌≡◌, refl, ap, subst, ◌∙◌, Option, Some, None}
 use Rattle.std.proofs.lemmas.Bool.{false≢true, and_parts, eqb-true, eq-eqb}
 use Rattle.std.proofs.lemmas.Bool.Decides.{Decides-int_eq}
 use Rattle.std.proofs.lemmas.Slice.Eq.{bytes_eq-Decides}
@@ -148,7 +148,7 @@ text_itself (Some a) = bytes_itself a
 column_same : (a b : ViewCol) → same_column a b ≡ true → a ≡ b
 column_same a b e =
     let four : (bytes_eq a.id b.id ≡ true) × (same_type a.ty b.ty ≡ true) × (beq a.is_formula b.is_formula ≡ true) × (same_text a.formula b.formula ≡ true)
-      = parts_4 (bytes_eq a.id b.id) (same_type a.ty b.ty) (beq a.is_formula b.is_formula) (same_text a.formula b.formula) e in
+    = parts_4 (bytes_eq a.id b.id) (same_type a.ty b.ty) (beq a.is_formula b.is_formula) (same_text a.formula b.formula) e in
     ap (λ x. let c : ViewCol = record { id = x; ty = a.ty; is_formula = a.is_formula; formula = a.formula } in c) (bytes_same a.id b.id four.0)
     ∙ ap (λ x. let c : ViewCol = record { id = b.id; ty = x; is_formula = a.is_formula; formula = a.formula } in c) (type_same a.ty b.ty four.1)
     ∙ ap (λ x. let c : ViewCol = record { id = b.id; ty = b.ty; is_formula = x; formula = a.formula } in c) ((booleans_Decides a.is_formula b.is_formula).0 four.2)
@@ -157,10 +157,10 @@ column_same a b e =
 column_itself : (a : ViewCol) → same_column a a ≡ true
 column_itself a =
     both_true ((bytes_eq a.id a.id && same_type a.ty a.ty) && beq a.is_formula a.is_formula) (same_text a.formula a.formula)
-      (both_true (bytes_eq a.id a.id && same_type a.ty a.ty) (beq a.is_formula a.is_formula)
-        (both_true (bytes_eq a.id a.id) (same_type a.ty a.ty) (bytes_itself a.id) (type_itself a.ty))
-        ((booleans_Decides a.is_formula a.is_formula).1 refl))
-      (text_itself a.formula)
+    (both_true (bytes_eq a.id a.id && same_type a.ty a.ty) (beq a.is_formula a.is_formula)
+    (both_true (bytes_eq a.id a.id) (same_type a.ty a.ty) (bytes_itself a.id) (type_itself a.ty))
+    ((booleans_Decides a.is_formula a.is_formula).1 refl))
+    (text_itself a.formula)
 
 pub same_column-Decides : (a b : ViewCol) → Decides (same_column a b) (a ≡ b)
 same_column-Decides a b = (column_same a b, λ e. subst (λ c. same_column a c ≡ true) e (column_itself a))

@@ -109,7 +109,7 @@ columns_metadata : is_metadata_id columns_id ≡ true
 unfolding tables_id columns_id
 columns_metadata = refl
 
-resources_metadata : is_metadata_id resources_id ≡ true
+pub resources_metadata : is_metadata_id resources_id ≡ true
 unfolding tables_id columns_id resources_id rules_id
 resources_metadata = refl
 

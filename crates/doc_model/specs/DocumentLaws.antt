@@ -22,7 +22,8 @@ NewDocumentLaw = IsWhole new_document
 abbrev pub KeptLaw : Type 0
 KeptLaw = (s : Document) (a : DocAction) → IsWhole s → valid s a ≡ true → IsWhole (apply s a)
 
--- the inverse of a valid action, each of its actions valid at its place, gives the document before it
+-- the inverse of a valid action gives the document before it, and each of its actions is valid at
+-- its place
 abbrev pub InverseLaw : Type 0
 InverseLaw =
     (s : Document) (a : DocAction) → IsWhole s → valid s a ≡ true

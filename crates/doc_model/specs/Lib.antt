@@ -8,11 +8,14 @@ pub mod Document
 pub mod Schema
 pub mod Sound
 pub mod NewDocument
+pub mod Places
 pub mod Valid
 pub mod Apply
 pub mod Inverse
 pub mod Readers
+pub mod Counts
 pub mod DocumentLaws
+pub mod CountLaws
 pub mod Same
 pub mod ViewEdits
 pub mod Changes

@@ -52,7 +52,8 @@ edit_fits (update rows ks) g =
 
 -- whether the table of this id is there and the edit fits it
 abbrev pub fits_table : List ℕ → Edit → List ViewTable → Bool
-fits_table t e v = elim (find_id shown_table_id t v) [ None ↦ false | Some s ↦ edit_fits e (grid s) ]
+fits_table t e v =
+    elim (find_id shown_table_id t v) [ None ↦ false | Some s ↦ edit_fits e (grid s) ]
 
 -- whether an action names what is there and adds what is not
 abbrev pub fits : ViewAction → List ViewTable → Bool

@@ -1,5 +1,5 @@
 -- What a document tells of its tables, columns, rows and cells.
-use Rattle.std.specs.Prelude.{ℕ, Bool, cond, ◌&&◌, List, Option, Some, None, slice_get}
+use Rattle.std.specs.Prelude.{ℕ, cond, ◌&&◌, List, Option, Some, None, slice_get}
 use Rattle.std.specs.Option.{option_map}
 use Rattle.cell_types.specs.declared.value.CellValue.{CellValue}
 use Rattle.doc_model.specs.declared.column.ColDef.{ColDef}
@@ -7,7 +7,7 @@ use Rattle.doc_model.specs.ByIds.{find_id, has_id}
 use Rattle.doc_model.specs.Rows.{has}
 use Rattle.doc_model.specs.Grid.{Grid, cell}
 use Rattle.doc_model.specs.Column.{column_id}
-use Rattle.doc_model.specs.Document.{Table, Document, table_id}
+use Rattle.doc_model.specs.Document.{Document, table_id}
 
 -- what the table of this id tells, where it is there
 abbrev pub of_table : {X : Type 0} → Document → List ℕ → (Grid ColDef → Option X) → Option X
@@ -28,4 +28,5 @@ rows_at s table = of_table s table (λ g. Some g.rows)
 -- the cell of a table at a column and a row
 abbrev pub cell_at : Document → List ℕ → List ℕ → ℕ → Option CellValue
 cell_at s table column row = of_table s table (λ g.
-    cond (has_id column_id g.columns column && has g.rows row) (Some (cell column_id g column row)) None)
+    cond (has_id column_id g.columns column && has g.rows row)
+    (Some (cell column_id g column row)) None)

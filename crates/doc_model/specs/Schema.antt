@@ -103,7 +103,7 @@ columns_grid plain = record {
 abbrev pub metadata_table : List ℕ → Grid ColDef → Table
 metadata_table id g = record { id = id; row = 0; grid = g }
 
--- the document of these rows of the access tables and these tables, whose schema tables describe them
+-- the document of these access tables and these plain tables, whose schema tables describe them
 abbrev pub with_schema : Grid ColDef → Grid ColDef → List Table → Document
 with_schema resources rules plain =
     metadata_table tables_id (tables_grid plain) ∷ metadata_table columns_id (columns_grid plain)
@@ -125,12 +125,13 @@ abbrev pub plain_tables : Document → List Table
 plain_tables (a ∷ b ∷ c ∷ d ∷ s) = s
 plain_tables _ = []
 
--- the schema tables describe the plain tables and nothing else, no row describes two columns, tables
--- and columns stand in the order of their rows, and the access tables have their columns
+-- the schema tables describe the plain tables and nothing else, no row describes two columns,
+-- tables and columns stand in the order of their rows, and the access tables have their columns
 pub record SchemaAgrees (s : Document) : Type 0 where
   pub schema : s ≡ with_schema (resources s) (rules s) (plain_tables s)
   pub once : is_once (map described_row (all_columns (plain_tables s))) ≡ true
   pub tables_ascend : IsAscending (map table_row (plain_tables s))
-  pub columns_ascend : AllByRecursion (λ t. IsAscending (map column_row t.grid.columns)) (plain_tables s)
+  pub columns_ascend :
+      AllByRecursion (λ t. IsAscending (map column_row t.grid.columns)) (plain_tables s)
   pub resources_have : (resources s).columns ≡ resources_columns
   pub rules_have : (rules s).columns ≡ rules_columns

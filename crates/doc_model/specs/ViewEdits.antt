@@ -61,7 +61,8 @@ whole w rows = map (λ (d : ViewCol). column_of shown_id w rows d.id) w.columns
 
 -- whether a column of this id is there and is another one
 abbrev pub differs : List ViewCol → ViewCol → Bool
-differs columns d = elim (find_id shown_id d.id columns) [ None ↦ false | Some e ↦ not (same_column e d) ]
+differs columns d =
+    elim (find_id shown_id d.id columns) [ None ↦ false | Some e ↦ not (same_column e d) ]
 
 -- columns removed, added and modified, and then rows removed and added
 abbrev pub shape_edits : Grid ViewCol → Grid ViewCol → List Edit
@@ -76,13 +77,15 @@ shape_edits g w =
 
 -- the rows in which a column's cells differ
 abbrev pub differing : Grid ViewCol → Grid ViewCol → ViewCol → List ℕ
-differing h w d = filter (λ r. not (same_value (cell shown_id h d.id r) (cell shown_id w d.id r))) w.rows
+differing h w d =
+    filter (λ r. not (same_value (cell shown_id h d.id r) (cell shown_id w d.id r))) w.rows
 
 -- one update for each column, over the cells that differ
 abbrev pub cell_edits : Grid ViewCol → Grid ViewCol → List ViewCol → List Edit
 cell_edits h w [] = []
 cell_edits h w (d ∷ ds) =
-    if_any (differing h w d) (update (differing h w d) (column_of shown_id w (differing h w d) d.id ∷ []))
+    if_any (differing h w d)
+    (update (differing h w d) (column_of shown_id w (differing h w d) d.id ∷ []))
     ++ cell_edits h w ds
 
 -- the edits that lead from g to w: its shape first, and then the cells that still differ

@@ -52,8 +52,8 @@ pub enum DocAction {
     },
 }
 
-/// A document action of a bundle. A direct one is checked against the rules, an indirect one follows
-/// from it and is not.
+/// A document action of a bundle. A direct one is checked against the rules, an indirect one
+/// follows from it and is not.
 #[derive(Clone, Debug, Drop)]
 pub struct Step {
     pub action: DocAction,

@@ -1,7 +1,13 @@
 //! Laws of the definitions, each proved as the contract of a function that does nothing.
 
-ghost use Rattle.doc_model.specs.DocumentLaws.{InverseAllLaw, InverseLaw, KeptLaw};
-ghost use Rattle.doc_model.specs.ViewLaws.{NoChangesLaw, PatchLaw};
+ghost use Rattle.doc_model.specs.CountLaws.{CountsLaw};
+ghost use Rattle.doc_model.specs.DocumentLaws.{InverseAllLaw, InverseLaw, KeptLaw, NewDocumentLaw};
+ghost use Rattle.doc_model.specs.ViewLaws.{ChangesFitLaw, NoChangesLaw, PatchLaw};
+
+/// The new document is sound and agrees with its schema.
+pub fn new_document_law()
+    ensures { NewDocumentLaw }
+{}
 
 /// A valid action leaves a sound document sound and in agreement with its schema.
 pub fn kept_law()
@@ -19,6 +25,12 @@ pub fn inverse_all_law()
     ensures { InverseAllLaw }
 {}
 
+/// The counted sums after a valid action and what it took away are the sums before it and what it
+/// brought.
+pub fn counts_law()
+    ensures { CountsLaw }
+{}
+
 /// Patching a view with the changes to another view gives the other.
 pub fn patch_law()
     ensures { PatchLaw }
@@ -27,4 +39,9 @@ pub fn patch_law()
 /// The list of changes is empty exactly where the two views are equal.
 pub fn no_changes_law()
     ensures { NoChangesLaw }
+{}
+
+/// Each of the changes that lead from a view to another fits where it stands.
+pub fn changes_fit_law()
+    ensures { ChangesFitLaw }
 {}

@@ -2,9 +2,11 @@
 //!
 //! Stands on `cell_types` (values, names, texts and lists). Used by every crate above it.
 //!
-//! Promises: the types of documents, actions, requests, views and histories, each seen as the plain
-//! record or list of what it holds.
-//! Read first: action.rt, then request.rt and view.rt.
+//! Promises: the definitions in specs/ of documents, their soundness and their schema, of validity,
+//! effect and inverse of document actions, of views, their changes and patches, and of what limits
+//! count; and in laws.rt the laws over them. `DocTables` and `DocCells` say what a store answers.
+//! Not promised: that a store or an action meets the definitions; the crates above promise it.
+//! Read first: specs/Document.antt, Valid.antt, Apply.antt, Inverse.antt, then Changes.antt.
 #![tactic(auto)]
 
 mod action;
@@ -13,7 +15,10 @@ mod entry;
 pub mod laws;
 mod limit;
 mod request;
+mod rows;
 mod tables;
+#[cfg(test)]
+mod tests;
 mod user;
 mod user_action;
 mod view;
@@ -21,8 +26,12 @@ mod view;
 pub use action::{DocAction, DocActionList, Step, StepList};
 pub use column::{CellColumn, CellRowList, ColDef, ColDefList, ColInfo, ColumnList};
 pub use entry::{Entry, EntryList};
-pub use limit::{LimitKind, Refusal, RuleRef};
+pub use limit::{
+    LAST_ROW_ID, LimitKind, MAX_ACTIONS, MAX_CELLS, MAX_COLUMNS, MAX_ROWS, MAX_SESSIONS,
+    MAX_TABLES, MAX_WEIGHT_BYTES, Refusal, RuleRef,
+};
 pub use request::Request;
+pub use rows::{all_rows_in, are_rows_once, no_row_in, place_of_column};
 pub use tables::{DocCells, DocTables};
 pub use user::{User, UserList};
 pub use user_action::{

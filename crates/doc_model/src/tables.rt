@@ -8,8 +8,8 @@ use std::alloc::AllocError;
 
 /// A document, however it is kept: its tables with their base cells.
 ///
-/// Places count from 0, in the order of the document: the four metadata tables, and then the others in
-/// the order of their metadata rows; columns in the order of theirs.
+/// Places count from 0, in the order of the document: the four metadata tables, and then the others
+/// in the order of their metadata rows; columns in the order of theirs.
 pub trait DocTables: Drop {
     ghost use Rattle.doc_model.specs.Document.{Document};
     ghost use Rattle.doc_model.specs.Valid.{valid};

@@ -2,8 +2,8 @@
 
 use cell_types::{CellText, Sequence, ValueList};
 
-/// What a user asks of a document. Texts and ids are as they were written: nothing of them is checked
-/// yet. `single` says that the form for one record was used.
+/// What a user asks of a document. Texts and ids are as they were written: nothing of them is
+/// checked yet. `single` says that the form for one record was used.
 #[derive(Clone, Debug, Drop)]
 pub enum UserAction {
     Add {

@@ -1,7 +1,7 @@
 -- A reader that is exact on JSON is exact on bytes.
 use Rattle.std.proofs.Common.{◌≡◌, ℕ, List, Option, Some, None, Result, Ok, Err, IfOk, IfSome, IfNone, option_and_then, sym, ◌∙◌, ap, refl}
 use Rattle.serde_json.specs.Data.{Data}
-use Rattle.grist_json.specs.Json.{json_at, IsJson, SpellsBy}
+use Rattle.grist_json.specs.Json.{json_at, SpellsBy}
 use Rattle.grist_json.proofs.StepLemmas.{some_same}
 
 module _ {X : Type 0} (from : Data → Option X) (stands : X → Data → Type 0) where

@@ -1,14 +1,12 @@
 -- A frame is read exactly from the JSON that is one.
-use Rattle.std.proofs.Common.{◌≡◌, ℕ, List, codes, Bool, true, false, cond, Option, Some, None, unwrap_or, refl, sym, ap, ◌∙◌, subst, inl, inr, ◌⊎◌, option_and_then}
-use Rattle.serde_json.specs.Data.{Data, object, string, Members, member, no_members}
+use Rattle.std.proofs.Common.{◌≡◌, ℕ, List, codes, true, Option, Some, None, unwrap_or, refl, sym, ap, ◌∙◌, subst, inl, inr}
+use Rattle.serde_json.specs.Data.{Data, object, string, member}
 use Rattle.serde_json.specs.Find.{as_object}
 use Rattle.cell_types.specs.NameRule.{is_name}
 use Rattle.doc_model.specs.declared.request.Request.{Request}
 use Rattle.doc_model.specs.declared.request.Request.TheVariants.{Bad}
 use Rattle.grist_json.specs.declared.frames.Frame.{Frame}
 use Rattle.grist_json.specs.Fields.{field, field_text, is_done}
-use Rattle.grist_json.specs.Json.{json_at, SpellsBy}
-use Rattle.grist_json.specs.Requests.{IsRequest}
 use Rattle.grist_json.specs.Reading.{request_from}
 use Rattle.grist_json.specs.Frames.{frame_data, Asks, IsFrame, SpellsFrame, request_or_bad, frame_from, frame_at}
 use Rattle.grist_json.proofs.StepLemmas.{bind_some, guard_then, guard_some, none≢some}

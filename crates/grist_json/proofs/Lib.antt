@@ -9,3 +9,4 @@ pub mod RequestLemmas
 pub mod FrameLemmas
 pub mod UserLemmas
 pub mod PlainLemmas
+pub mod PrintLemmas

@@ -1,7 +1,6 @@
 -- Whole numbers are read exactly from the JSON that they are.
-use Rattle.std.proofs.Common.{◌≡◌, ℕ, ◌^◌, ℤ, pos, negsuc, true, false, nat_lt, Option, Some, None, refl, sym, ap, ◌∙◌, subst}
+use Rattle.std.proofs.Common.{◌≡◌, ◌^◌, ℤ, pos, negsuc, true, nat_lt, Some, refl, subst}
 use Rattle.serde_json.specs.Data.{Num, unsigned, negative, float, Data, null, boolean, number, string, array, object}
-use Rattle.serde_json.specs.Find.{of_integer}
 use Rattle.grist_json.specs.Numbers.{int_data, is_int, int_from, is_id, id_from, int_of_num, id_of_num}
 use Rattle.grist_json.proofs.StepLemmas.{guard_some, some_same}
 

@@ -1,13 +1,12 @@
 -- A request is read exactly from the JSON that spells it.
-use Rattle.std.proofs.Common.{◌≡◌, ℕ, List, [], ◌∷◌, codes, subst, Bool, true, false, ◌⊎◌, inl, inr, Option, Some, None, is_some, refl, sym, ap, ◌∙◌}
+use Rattle.std.proofs.Common.{◌≡◌, ℕ, List, [], ◌∷◌, codes, subst, ◌⊎◌, inl, inr, Some, None, is_some, sym, ap, ◌∙◌}
 use Rattle.std.specs.Str.{bytes_eq}
-use Rattle.serde_json.specs.Data.{Data, null, string, array, object, no_items, item, Members, member, no_members}
+use Rattle.serde_json.specs.Data.{Data, null, string, array, object, no_items, item, Members, member}
 use Rattle.serde_json.specs.Find.{as_object, as_array, as_null}
 use Rattle.doc_model.specs.declared.user_action.UserAction.{UserAction}
 use Rattle.doc_model.specs.declared.user_action.UserColumn.{UserColumn}
 use Rattle.doc_model.specs.declared.request.Request.{Request}
 use Rattle.doc_model.specs.declared.request.Request.TheVariants.{Bad, TooLong, Open, Apply, Undo, Sync, Fetch, Close, Gone}
-use Rattle.grist_json.specs.Json.{◌>>=◌}
 use Rattle.grist_json.specs.Fields.{field, field_text, is_done}
 use Rattle.grist_json.specs.Items.{first_item, item_text, is_last}
 use Rattle.grist_json.specs.Columns.{AreColumns, columns_from}

@@ -1,15 +1,14 @@
 -- A user is read exactly from the JSON that is one.
 use Rattle.std.proofs.Common.{◌≡◌, ℕ, ℤ, List, codes, Bool, true, false, cond, Option, Some, None, refl, sym, ap, ◌∙◌, subst}
 use Rattle.std.proofs.lemmas.Bool.{false≢true}
-use Rattle.serde_json.specs.Data.{Data, object, string, Members, member, no_members}
+use Rattle.serde_json.specs.Data.{Data, object, string, member, no_members}
 use Rattle.serde_json.specs.Find.{as_object}
 use Rattle.doc_model.specs.declared.user.User.{User}
-use Rattle.grist_json.specs.declared.users.UserLine.{UserLine}
 use Rattle.grist_json.specs.declared.users.UserLine.TheVariants as line
 use Rattle.grist_json.specs.Json.{json_at, IsJson}
 use Rattle.grist_json.specs.Fields.{field, field_text, is_done}
 use Rattle.grist_json.specs.Numbers.{int_data, is_id, id_from}
-use Rattle.grist_json.specs.Users.{fits, user_data, IsUser, SpellsUser, has_user, IsUserLine, Tells, user_fields, user_from, user_or_bad, line_or_other, user_at}
+use Rattle.grist_json.specs.Users.{fits, user_data, IsUser, SpellsUser, has_user, Tells, user_fields, user_from, user_or_bad, line_or_other, user_at}
 use Rattle.grist_json.proofs.StepLemmas.{bind_some, guard_then, guard_some, some_same, none≢some}
 use Rattle.grist_json.proofs.FieldLemmas.{object_takes, field_takes, field_text_takes, done_takes}
 use Rattle.grist_json.proofs.NumberLemmas.{id_takes, id_again}

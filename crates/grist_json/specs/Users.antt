@@ -1,5 +1,5 @@
 -- Which JSON is a user, and how it is read.
-use Rattle.std.specs.Prelude.{◌≡◌, ℕ, ℤ, List, codes, Bool, true, ◌&&◌, nat_lt, nat_le, length, Option, Some, None, is_some, option_and_then, if◌then◌else◌}
+use Rattle.std.specs.Prelude.{◌≡◌, ℕ, List, codes, Bool, true, ◌&&◌, nat_lt, nat_le, length, Option, Some, None, is_some, option_and_then, if◌then◌else◌}
 use Rattle.std.specs.Str.{bytes_eq}
 use Rattle.serde_json.specs.Data.{Data, object, string, member, no_members}
 use Rattle.serde_json.specs.Find.{as_object, get_member}

@@ -1,6 +1,6 @@
 -- The JSON of values.
 use Rattle.std.specs.Prelude.{ℕ, List, codes, map}
-use Rattle.serde_json.specs.Data.{Data, null, boolean, number, unsigned, string, array, Items, no_items, item}
+use Rattle.serde_json.specs.Data.{Data, null, boolean, number, unsigned, string, array, no_items, item}
 use Rattle.serde_json.specs.View.{items_of}
 use Rattle.cell_types.specs.declared.value.ErrKind.{ErrKind}
 use Rattle.cell_types.specs.declared.value.ErrKind.TheVariants as kind

@@ -23,12 +23,14 @@ mod printed_replies;
 mod printed_values;
 mod requests;
 mod session_name;
+#[cfg(test)]
+mod tests;
 mod users;
 mod verdict;
 mod writers;
 
 pub use frames::{Frame, read_frame};
-pub use laws::one_reading_law;
+pub use laws::{frame_law, one_reading_law};
 pub use line::Line;
 pub use requests::{ReadFault, read_request};
 pub use users::{UserLine, read_user};

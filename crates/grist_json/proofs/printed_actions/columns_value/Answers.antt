@@ -1,10 +1,9 @@
-use Rattle.std.proofs.Common.{◌≡◌, ◌∙◌, ◌+◌, List, fold, take, sym, ap, arith}
+use Rattle.std.proofs.Common.{◌≡◌, ◌∙◌, fold, take, sym, ap, arith}
 use Rattle.std.proofs.lemmas.Grind.{common_steps}
 use Rattle.std.proofs.lemmas.List.Sums.{fold_more}
-use Rattle.serde_json.specs.Data.{Data, Members, no_members, object, put}
-use Rattle.serde_json.specs.View.{view, members_view}
+use Rattle.serde_json.specs.Data.{no_members, object}
+use Rattle.serde_json.specs.View.{members_view}
 use Rattle.serde_json.proofs.Views.{members_view-insert_entry, view-Object}
-use Rattle.doc_model.specs.declared.column.CellColumn.{CellColumn}
 use Rattle.grist_json.specs.Values.{values_data}
 use Rattle.grist_json.specs.Actions.{put_column}
 use Rattle.grist_json.proofs.PlainLemmas.{put_same}

@@ -1,4 +1,4 @@
-use Rattle.std.proofs.Common.{sym, ◌∙◌, ◌≡◌}
+use Rattle.std.proofs.Common.{sym, ◌∙◌}
 use Rattle.grist_json.proofs.RequestLemmas.{request_found, request_none}
 use Rattle.grist_json.proofs.requests.read_request.Goals as goal
 

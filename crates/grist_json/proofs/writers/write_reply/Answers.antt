@@ -1,6 +1,4 @@
-use Rattle.std.proofs.Common.{◌≡◌, ◌≤◌, ◌∙◌, false, string_bytes, ap, arith}
-use Rattle.serde_json.specs.View.{view}
-use Rattle.serde_json.specs.Written.{has_float, compact_text}
+use Rattle.std.proofs.Common.{arith}
 use Rattle.grist_json.specs.Replies.{verdict_data}
 use Rattle.grist_json.specs.Lines.{reply_text}
 use Rattle.grist_json.proofs.JsonLemmas.{json_at_read}

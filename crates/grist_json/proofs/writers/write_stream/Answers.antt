@@ -1,6 +1,5 @@
-use Rattle.std.proofs.Common.{◌≡◌, ◌≤◌, ◌∙◌, false, string_bytes, ap, arith}
-use Rattle.serde_json.specs.View.{view}
-use Rattle.serde_json.specs.Written.{has_float, compact_text}
+use Rattle.std.proofs.Common.{◌∙◌, ap, arith}
+use Rattle.serde_json.specs.Written.{compact_text}
 use Rattle.grist_json.specs.Lines.{stream_data, stream_text}
 use Rattle.grist_json.proofs.JsonLemmas.{json_at_read}
 use Rattle.grist_json.proofs.PlainLemmas.{stream_flat}

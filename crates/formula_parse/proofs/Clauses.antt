@@ -1,5 +1,5 @@
 -- What the clauses of `read_tree` and `parse` say.
-use Rattle.std.specs.Prelude.{ℕ, ◌≡◌, ◌≤◌, ◌<◌, ◌⊎◌, List, [], length, Option, Some, None, refl}
+use Rattle.std.specs.Prelude.{ℕ, ◌≡◌, ◌≤◌, ◌<◌, List, [], length, Option, Some, None, refl}
 use Rattle.std.proofs.Common.{arith, sym, ◌∙◌, subst, ap, inl, inr}
 use Rattle.std.proofs.lemmas.Option.{none-some, same_Some}
 use Rattle.formula_lex.specs.declared.token.Token.{Token}
@@ -10,8 +10,8 @@ use Rattle.formula_parse.specs.declared.operator.Constant.TheVariants as con
 use Rattle.formula_parse.specs.declared.operator.Dialect.{Dialect}
 use Rattle.formula_parse.specs.declared.operator.Dialect.TheVariants as dialect
 use Rattle.formula_parse.specs.Tree.{Tree, constant}
-use Rattle.formula_parse.specs.Spelling.{SpellsTree, SpellsSome, SpellsIn, SpellsFormula, max_bytes, FitsFault}
-use Rattle.formula_parse.specs.Steps.{read, finish, tree_from}
+use Rattle.formula_parse.specs.Spelling.{SpellsSome, SpellsIn, SpellsFormula, max_bytes, FitsFault}
+use Rattle.formula_parse.specs.Runs.{read, finish, tree_from}
 use Rattle.formula_parse.specs.Parsed.{StopsWithin}
 use Rattle.formula_parse.proofs.WordLemmas.{tree_spelled, spelled_tree}
 

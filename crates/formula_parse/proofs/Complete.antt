@@ -1,5 +1,5 @@
 -- What the grammar spells the machine reads.
-use Rattle.std.specs.Prelude.{ℕ, suc, ◌+◌, max, ◌≤◌, Bool, true, false, ◌&&◌, nat_le, cond, List, [], ◌∷◌, ◌++◌, ◌≡◌, Option, Some, None, refl, map}
+use Rattle.std.specs.Prelude.{ℕ, suc, ◌+◌, ◌≤◌, Bool, true, false, ◌&&◌, nat_le, cond, List, [], ◌∷◌, ◌++◌, ◌≡◌, Option, Some, None, refl, map}
 use Rattle.std.proofs.Common.{arith, ap, sym, ◌∙◌, append_assoc, append-nil, subst}
 use Rattle.std.proofs.lemmas.Bool.{le-leb}
 use borrow.Author.Tests.{lt-leb}
@@ -19,8 +19,7 @@ use Rattle.formula_parse.specs.declared.lexeme.Lexeme.{Lexeme}
 use Rattle.formula_parse.specs.declared.lexeme.Lexeme.TheVariants.{Number, Text, Name, Dollar, Keyword as Word, Sign as Mark}
 use Rattle.formula_parse.specs.declared.frame.Frame.{Frame}
 use Rattle.formula_parse.specs.declared.frame.Frame.TheVariants.{Left, Prefix, Condition, Otherwise, Parentheses, Items, Arguments, Key}
-use Rattle.formula_parse.specs.declared.frame.Mode.{Mode}
-use Rattle.formula_parse.specs.declared.frame.Mode.TheVariants.{Operand, FirstItem, Operator, AfterNot, AfterIs, AfterDot, AfterName, AfterPoint, AfterLookup, FirstKey, NextKey, AfterKey, AfterSubject, SubjectPoint, UserPoint}
+use Rattle.formula_parse.specs.declared.frame.Mode.TheVariants.{Operand, FirstItem, Operator, AfterIs, AfterDot, AfterName, AfterLookup, FirstKey, NextKey, AfterSubject, UserPoint}
 use Rattle.formula_parse.specs.declared.rule.RuleAtom.{RuleAtom}
 use Rattle.formula_parse.specs.declared.rule.RuleAtom.TheVariants as rule
 use Rattle.formula_parse.specs.declared.rule.Subject.TheVariants as subject
@@ -28,10 +27,12 @@ use Rattle.formula_parse.specs.RuleGrammar.{owner_word, editor_word, viewer_word
 use Rattle.formula_parse.specs.Levels.{Group, or_group, and_group, comparison, sum_group, term_group, group_level, group_left, group_right}
 use Rattle.formula_parse.specs.Lexemes.{is_id}
 use Rattle.formula_parse.specs.Grammar.{group_of, prefix_level, prefix_lexeme, constant_lexeme, op_lexemes, all_word, lookup_word, lookup_lexemes, lexemes_of, items_of, more_of, keys_in, more_keys}
-use Rattle.formula_parse.specs.Standing.{OnlyFormula, OnlyRule, HasConstant, has_op, level_of, is_among, Stands, AllStand, AllKeysStand, max_height, IsWritten}
+use Rattle.formula_parse.specs.Standing.{OnlyFormula, OnlyRule, HasConstant, has_op, level_of, is_among, Stands, AllStand, AllKeysStand, max_height, IsWritten, has_key}
 use Rattle.formula_parse.specs.Tree.{Tree, number, text, constant, dollar, binary, prefix, conditional, parentheses, list, call, attribute, every, lookup, atom, Trees, no_trees, one_more, Keys, no_keys, one_key, from_list, to_list, keys_from, keys_to, height_of, heights, key_heights}
-use Rattle.formula_parse.specs.Machine.{rec_step, if_step, point_step, dollar_step, name_operand, State, ◌>>=◌, is_last, open_left, open_condition, else_step, close_step, close_list_step, comma_step, kept, room, room_in, filled, reduce, after, infix_step, operand_step}
-use Rattle.formula_parse.specs.Steps.{step, finish, run, whole, table_step, has_key}
+use Rattle.formula_parse.specs.Machine.{State, ◌>>=◌, is_last, open_left, open_condition, else_step, close_step, close_list_step, comma_step, kept, room, room_in, filled, reduce, after, infix_step}
+use Rattle.formula_parse.specs.Operands.{rec_step, if_step, point_step, dollar_step, name_operand, operand_step}
+use Rattle.formula_parse.specs.Steps.{table_step}
+use Rattle.formula_parse.specs.Runs.{step, finish, run, whole}
 
 -- the frames that a tree leaves open, and the tree in the innermost one
 abbrev pub opened : Tree → List Frame → List Frame

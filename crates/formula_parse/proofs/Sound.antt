@@ -1,5 +1,5 @@
 -- What the machine reads is written as the tree.
-use Rattle.std.specs.Prelude.{ℕ, suc, ◌+◌, max, ◌≤◌, Bool, true, false, ◌&&◌, nat_le, cond, List, [], ◌∷◌, ◌++◌, ◌≡◌, Option, Some, None, ◌⊎◌, refl, map, bytes_eq}
+use Rattle.std.specs.Prelude.{ℕ, ◌+◌, ◌≤◌, Bool, true, false, ◌&&◌, nat_le, cond, List, [], ◌∷◌, ◌++◌, ◌≡◌, Option, Some, None, ◌⊎◌, refl, map, bytes_eq}
 use Rattle.std.proofs.Common.{arith, ap, sym, ◌∙◌, append_assoc, append-nil, subst, inl, inr}
 use Rattle.std.proofs.lemmas.Bool.{leb-true}
 use Rattle.std.proofs.lemmas.Option.{cond_some, none-some, same_Some}
@@ -10,7 +10,6 @@ use Rattle.formula_parse.specs.declared.operator.BinaryOp.{BinaryOp}
 use Rattle.formula_parse.specs.declared.operator.BinaryOp.TheVariants as op
 use Rattle.formula_parse.specs.declared.operator.PrefixOp.{PrefixOp}
 use Rattle.formula_parse.specs.declared.operator.PrefixOp.TheVariants as pre
-use Rattle.formula_parse.specs.declared.operator.Constant.{Constant}
 use Rattle.formula_parse.specs.declared.operator.Constant.TheVariants as con
 use Rattle.formula_parse.specs.declared.operator.LookupKind.{LookupKind}
 use Rattle.formula_parse.specs.declared.operator.LookupKind.TheVariants as look
@@ -24,18 +23,19 @@ use Rattle.formula_parse.specs.declared.frame.Frame.{Frame}
 use Rattle.formula_parse.specs.declared.frame.Frame.TheVariants.{Left, Prefix, Condition, Otherwise, Parentheses, Items, Arguments, Key}
 use Rattle.formula_parse.specs.declared.frame.Mode.{Mode}
 use Rattle.formula_parse.specs.declared.frame.Mode.TheVariants.{Operand, FirstItem, Operator, AfterNot, AfterIs, AfterDot, AfterName, AfterPoint, AfterLookup, FirstKey, NextKey, AfterKey, AfterSubject, SubjectPoint, UserPoint}
-use Rattle.formula_parse.specs.declared.rule.RuleAtom.{RuleAtom}
 use Rattle.formula_parse.specs.declared.rule.RuleAtom.TheVariants as rule
 use Rattle.formula_parse.specs.declared.rule.Subject.{Subject}
 use Rattle.formula_parse.specs.declared.rule.Subject.TheVariants as subject
-use Rattle.formula_parse.specs.RuleGrammar.{owner_word, editor_word, viewer_word, user_word, new_rec_word, atom_lexemes, subject_lexeme, asked}
+use Rattle.formula_parse.specs.RuleGrammar.{owner_word, editor_word, viewer_word, user_word, new_rec_word, subject_lexeme, asked}
 use Rattle.formula_parse.specs.Levels.{Group, or_group, and_group, comparison, sum_group, term_group, group_level, group_left, group_right}
 use Rattle.formula_parse.specs.Lexemes.{is_id}
-use Rattle.formula_parse.specs.Grammar.{group_of, prefix_level, prefix_lexeme, constant_lexeme, op_lexemes, all_word, lookup_word, lookup_lexemes, lexemes_of, items_of, more_of, keys_in, more_keys}
-use Rattle.formula_parse.specs.Standing.{OnlyFormula, OnlyRule, HasConstant, has_op, level_of, is_among, Stands, AllStand, AllKeysStand, max_height, IsWritten}
-use Rattle.formula_parse.specs.Tree.{Tree, number, text, constant, dollar, binary, prefix, conditional, parentheses, list, call, attribute, every, lookup, atom, Trees, no_trees, one_more, Keys, no_keys, one_key, from_list, to_list, keys_from, keys_to, height_of, heights, key_heights}
-use Rattle.formula_parse.specs.Machine.{rule_name, rec_step, if_step, point_step, dollar_step, name_operand, State, ◌>>=◌, is_last, open_left, open_condition, else_step, close_step, close_list_step, comma_step, close_empty, close_empty_list, first_step, prefix_step, word_operand, sign_operand, kept, room, room_in, filled, reduce, after, infix_step, operand_step}
-use Rattle.formula_parse.specs.Steps.{subject_step, subject_point_step, user_point_step, word_after, sign_after, after_step, not_step, is_step, dot_step, name_step, table_step, name_point_step, lookup_step, first_key_step, next_key_step, key_step, has_key, step, finish, run, whole}
+use Rattle.formula_parse.specs.Grammar.{group_of, prefix_level, prefix_lexeme, op_lexemes, all_word, lookup_word, lookup_lexemes, lexemes_of, items_of, more_of, keys_in, more_keys}
+use Rattle.formula_parse.specs.Standing.{OnlyFormula, OnlyRule, has_op, level_of, is_among, Stands, AllStand, AllKeysStand, max_height, IsWritten, has_key}
+use Rattle.formula_parse.specs.Tree.{Tree, number, text, constant, dollar, binary, prefix, conditional, parentheses, list, call, attribute, every, lookup, atom, no_trees, no_keys, from_list, keys_from, height_of}
+use Rattle.formula_parse.specs.Machine.{State, ◌>>=◌, open_left, open_condition, else_step, close_step, close_list_step, comma_step, prefix_step, kept, room, filled, reduce, after, infix_step}
+use Rattle.formula_parse.specs.Operands.{rec_step, if_step, point_step, dollar_step, name_operand, close_empty, close_empty_list, first_step, word_operand, sign_operand, operand_step}
+use Rattle.formula_parse.specs.Steps.{subject_step, subject_point_step, user_point_step, word_after, sign_after, after_step, not_step, is_step, dot_step, name_step, name_point_step, lookup_step, first_key_step, next_key_step, key_step}
+use Rattle.formula_parse.specs.Runs.{step, finish, run, whole}
 
 module _ (dia : Dialect) where
   -- the items so far, each with its comma

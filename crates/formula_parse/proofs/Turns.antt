@@ -1,6 +1,6 @@
 -- The machine over the tokens from a place on.
-use Rattle.std.specs.Prelude.{ℕ, zero, suc, ◌+◌, ◌≤◌, ◌<◌, ◌≡◌, List, [], ◌∷◌, length, drop, get_or, Option, Some, None, refl}
-use Rattle.std.proofs.Common.{arith, ap, sym, ◌∙◌, drop-cons, add-one, subst}
+use Rattle.std.specs.Prelude.{ℕ, zero, suc, ◌+◌, ◌≤◌, ◌<◌, ◌≡◌, List, [], ◌∷◌, length, drop, get_or, Option, Some, refl}
+use Rattle.std.proofs.Common.{arith, ap, sym, ◌∙◌, drop-cons, add-one}
 use Rattle.formula_lex.specs.declared.token.Token.{Token}
 use Rattle.formula_lex.specs.Places.{IsInOrder}
 use Rattle.formula_parse.specs.declared.operator.Dialect.{Dialect}
@@ -10,7 +10,7 @@ use Rattle.formula_parse.specs.declared.fault.ParseFault.{ParseFault}
 use Rattle.formula_parse.specs.declared.fault.ParseFault.TheVariants.{Syntax, NoMemory}
 use Rattle.formula_parse.specs.Tree.{Tree}
 use Rattle.formula_parse.specs.Machine.{State, ◌>>=◌}
-use Rattle.formula_parse.specs.Steps.{token_step, read, finish}
+use Rattle.formula_parse.specs.Runs.{token_step, read, finish}
 use Rattle.formula_parse.specs.Parsed.{StopsWithin}
 
 in_order_end : (ts : List Token) (at end : ℕ) → IsInOrder at ts end → at ≤ end

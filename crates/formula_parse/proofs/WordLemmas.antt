@@ -1,8 +1,8 @@
 -- What the grammar sees in tokens, and how it is written.
-use Rattle.std.specs.Prelude.{ℕ, Bool, true, false, not, ◌&&◌, cond, List, [], ◌∷◌, ◌≡◌, Option, Some, None, bytes_eq, codes, map, refl}
+use Rattle.std.specs.Prelude.{ℕ, Bool, true, false, cond, List, [], ◌∷◌, ◌≡◌, Option, Some, None, bytes_eq, map, refl}
 use Rattle.std.specs.Cmp.Lexicographic.{bytes_decides}
 use Rattle.std.proofs.Common.{ap, sym, ◌∙◌, subst}
-use Rattle.std.proofs.lemmas.Option.{none-some, same_Some, cond_some}
+use Rattle.std.proofs.lemmas.Option.{none-some, same_Some}
 use Rattle.cell_types.specs.NameRule.{is_reserved, reserved_words}
 use Rattle.formula_lex.specs.declared.token.Token.{Token}
 use Rattle.formula_lex.specs.declared.token.TokenKind.{TokenKind}
@@ -15,13 +15,13 @@ use Rattle.formula_parse.specs.declared.lexeme.Lexeme.TheVariants.{Number, Text,
 use Rattle.formula_parse.specs.declared.frame.Frame.{Frame}
 use Rattle.formula_parse.specs.declared.frame.Mode.{Mode}
 use Rattle.formula_parse.specs.declared.frame.Mode.TheVariants.{Operand}
-use Rattle.formula_parse.specs.Lexemes.{keyword_text, keyword_of, id_word, is_id, is_short, is_field, kind_of, IsAllowed, AllAllowed}
+use Rattle.formula_parse.specs.Lexemes.{keyword_text, keyword_of, id_word, is_field, kind_of, IsAllowed, AllAllowed}
 use Rattle.formula_parse.specs.Grammar.{lexemes_of}
 use Rattle.formula_parse.specs.Standing.{IsWritten}
 use Rattle.formula_parse.specs.Spelling.{SpellsTree}
 use Rattle.formula_parse.specs.Tree.{Tree}
 use Rattle.formula_parse.specs.Machine.{◌>>=◌, State}
-use Rattle.formula_parse.specs.Steps.{step, finish, run, kept_name, word_lexeme, lexeme_of, token_step, read, tree_from}
+use Rattle.formula_parse.specs.Runs.{step, run, word_lexeme, lexeme_of, token_step, read, tree_from}
 use Rattle.formula_parse.proofs.Sound.{read_written}
 use Rattle.formula_parse.proofs.Complete.{read_again}
 

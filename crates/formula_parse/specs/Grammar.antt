@@ -1,7 +1,5 @@
 -- The grammar: how a tree is written, and which trees stand where.
-use Rattle.std.specs.Prelude.{ℕ, ◌≤◌, List, [], ◌∷◌, ◌++◌, ◌≡◌, Bool, true, false, codes, bytes_eq, map}
-use Rattle.std.specs.List.{list_any}
-use Rattle.formula_lex.specs.declared.token.Sign.{Sign}
+use Rattle.std.specs.Prelude.{ℕ, List, [], ◌∷◌, ◌++◌, codes}
 use Rattle.formula_lex.specs.declared.token.Sign.TheVariants as sign
 use Rattle.formula_parse.specs.declared.operator.BinaryOp.{BinaryOp}
 use Rattle.formula_parse.specs.declared.operator.BinaryOp.TheVariants as op
@@ -11,13 +9,10 @@ use Rattle.formula_parse.specs.declared.operator.Constant.{Constant}
 use Rattle.formula_parse.specs.declared.operator.Constant.TheVariants as con
 use Rattle.formula_parse.specs.declared.operator.LookupKind.{LookupKind}
 use Rattle.formula_parse.specs.declared.operator.LookupKind.TheVariants as look
-use Rattle.formula_parse.specs.declared.operator.Dialect.{Dialect}
-use Rattle.formula_parse.specs.declared.operator.Dialect.TheVariants as dialect
 use Rattle.formula_parse.specs.declared.lexeme.Keyword.TheVariants as word
 use Rattle.formula_parse.specs.declared.lexeme.Lexeme.{Lexeme}
 use Rattle.formula_parse.specs.declared.lexeme.Lexeme.TheVariants.{Number, Text, Name, Dollar, Keyword as Word, Sign as Mark}
-use Rattle.formula_parse.specs.Levels.{Group, or_group, and_group, comparison, sum_group, term_group, group_level, group_left, group_right}
-use Rattle.formula_parse.specs.Lexemes.{is_id}
+use Rattle.formula_parse.specs.Levels.{Group, or_group, and_group, comparison, sum_group, term_group}
 use Rattle.formula_parse.specs.RuleGrammar.{atom_lexemes}
 use Rattle.formula_parse.specs.Tree.{Tree, number, text, constant, dollar, binary, prefix, conditional, parentheses, list, call, attribute, every, lookup, atom, Trees, no_trees, one_more, Keys, no_keys, one_key}
 

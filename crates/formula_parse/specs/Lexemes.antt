@@ -1,5 +1,5 @@
 -- Which words the grammar tells apart, and how what it sees is written in tokens.
-use Rattle.std.specs.Prelude.{ℕ, ◌≤◌, Bool, true, false, not, ◌&&◌, ◌||◌, cond, nat_le, nat_lt, List, [], ◌∷◌, ◌≡◌, length, Option, Some, None, codes, bytes_eq}
+use Rattle.std.specs.Prelude.{ℕ, Bool, true, not, ◌&&◌, cond, nat_le, nat_lt, List, [], ◌∷◌, ◌≡◌, length, Option, Some, None, codes, bytes_eq}
 use Rattle.std.specs.Str.{chars}
 use Rattle.cell_types.specs.NameRule.{is_reserved}
 use Rattle.formula_lex.specs.declared.token.TokenKind.{TokenKind}

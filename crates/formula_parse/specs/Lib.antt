@@ -13,5 +13,7 @@ pub mod Grammar
 pub mod Standing
 pub mod Spelling
 pub mod Machine
+pub mod Operands
 pub mod Steps
+pub mod Runs
 pub mod Parsed

@@ -1,5 +1,5 @@
 -- Which texts spell a formula.
-use Rattle.std.specs.Prelude.{ℕ, ◌≤◌, List, [], ◌∷◌, ◌≡◌, ◌⊎◌, Option, Some, None, length, map}
+use Rattle.std.specs.Prelude.{ℕ, ◌≤◌, List, [], ◌≡◌, ◌⊎◌, Option, Some, None, length, map}
 use Rattle.formula_lex.specs.declared.token.Token.{Token}
 use Rattle.formula_lex.specs.Spelling.{SpellsText}
 use Rattle.formula_parse.specs.declared.fault.ParseFault.{ParseFault}
@@ -12,7 +12,7 @@ use Rattle.formula_parse.specs.Grammar.{lexemes_of}
 use Rattle.formula_parse.specs.Standing.{Stands, max_height}
 use Rattle.formula_parse.specs.Tree.{Tree, constant, height_of}
 
--- the tokens are those of the tree, its names are allowed, and it is of the grammar and not too high
+-- the tokens are those of the tree, its names are allowed, it is of the grammar and not too high
 pub record SpellsTree (d : Dialect) (t : Tree) (tokens : List Token) : Type 0 where
   pub written : map (λ token. token.kind) tokens ≡ map (λ k. kind_of k) (lexemes_of t)
   pub allowed : AllAllowed (lexemes_of t)

@@ -45,7 +45,11 @@ HasConstant d _ = Unit {0}
 abbrev pub is_among : List ℕ → List (List ℕ) → Bool
 is_among n names = list_any (λ m. bytes_eq m n) names
 
--- each part stands at a level that its place takes; functions and tables have names that are not `id`
+-- one of the keys has the name
+abbrev pub has_key : List ℕ → List (List ℕ × Tree) → Bool
+has_key m ks = is_among m (map (λ k. k.0) ks)
+
+-- each part stands at a level that its place takes; no function and no table is named `id`
 abbrev mutual
   pub Stands : Dialect → Tree → Type 0
   Stands d (number n) = Unit {0}

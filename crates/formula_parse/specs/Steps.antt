@@ -1,10 +1,7 @@
--- The parser as a machine, continued: the steps behind a tree, those of names and lookups, and whole runs.
-use Rattle.std.specs.Prelude.{ℕ, ◌+◌, Bool, true, false, ◌&&◌, cond, List, [], ◌∷◌, ◌++◌, Option, Some, None, bytes_eq, map}
+-- The steps of the machine behind a tree, behind a name, and in lookups and atoms.
+use Rattle.std.specs.Prelude.{ℕ, cond, List, [], ◌∷◌, Option, Some, None, bytes_eq}
 use Rattle.formula_lex.specs.declared.token.Sign.{Sign}
 use Rattle.formula_lex.specs.declared.token.Sign.TheVariants as sign
-use Rattle.formula_lex.specs.declared.token.Token.{Token}
-use Rattle.formula_lex.specs.declared.token.TokenKind.{TokenKind}
-use Rattle.formula_lex.specs.declared.token.TokenKind.TheVariants as kind
 use Rattle.formula_parse.specs.declared.operator.BinaryOp.TheVariants as op
 use Rattle.formula_parse.specs.declared.operator.LookupKind.{LookupKind}
 use Rattle.formula_parse.specs.declared.operator.LookupKind.TheVariants as look
@@ -12,19 +9,18 @@ use Rattle.formula_parse.specs.declared.operator.Dialect.{Dialect}
 use Rattle.formula_parse.specs.declared.lexeme.Keyword.{Keyword}
 use Rattle.formula_parse.specs.declared.lexeme.Keyword.TheVariants as word
 use Rattle.formula_parse.specs.declared.lexeme.Lexeme.{Lexeme}
-use Rattle.formula_parse.specs.declared.lexeme.Lexeme.TheVariants.{Number, Text, Name, Dollar, Keyword as Word, Sign as Mark}
+use Rattle.formula_parse.specs.declared.lexeme.Lexeme.TheVariants.{Name, Keyword as Word, Sign as Mark}
 use Rattle.formula_parse.specs.declared.frame.Frame.{Frame}
 use Rattle.formula_parse.specs.declared.frame.Frame.TheVariants.{Arguments, Key}
-use Rattle.formula_parse.specs.declared.frame.Mode.{Mode}
-use Rattle.formula_parse.specs.declared.frame.Mode.TheVariants.{Operand, FirstItem, Operator, AfterNot, AfterIs, AfterDot, AfterName, AfterPoint, AfterLookup, FirstKey, NextKey, AfterKey, AfterSubject, SubjectPoint, UserPoint}
+use Rattle.formula_parse.specs.declared.frame.Mode.TheVariants.{Operand, FirstItem, AfterNot, AfterIs, AfterPoint, AfterLookup, FirstKey, AfterKey, SubjectPoint}
 use Rattle.formula_parse.specs.declared.rule.RuleAtom.TheVariants as rule
-use Rattle.formula_parse.specs.declared.rule.Subject.{Subject}
 use Rattle.formula_parse.specs.RuleGrammar.{asked}
-use Rattle.formula_parse.specs.Lexemes.{keyword_of, is_field}
 use Rattle.formula_parse.specs.Grammar.{all_word, lookup_word}
-use Rattle.formula_parse.specs.Standing.{is_among}
+use Rattle.formula_parse.specs.Standing.{has_key}
 use Rattle.formula_parse.specs.Tree.{Tree, attribute, every, lookup, atom, keys_from}
-use Rattle.formula_parse.specs.Machine.{◌>>=◌, State, reduce, after, infix_step, else_step, close_step, close_list_step, comma_step, operand_step, first_step, point_step, if_step}
+use Rattle.formula_parse.specs.declared.rule.Subject.{Subject}
+use Rattle.formula_parse.specs.Machine.{◌>>=◌, State, reduce, after, infix_step, else_step, close_step, close_list_step, comma_step}
+use Rattle.formula_parse.specs.Operands.{operand_step, point_step, if_step}
 
 -- a keyword behind a tree
 abbrev pub word_after : Dialect → Keyword → List Frame → Tree → Option State
@@ -106,17 +102,15 @@ first_key_step (Mark sign.Close) fs k n = after fs (lookup k n (keys_from []))
 first_key_step (Name m) fs k n = Some (fs, AfterKey k n [] m)
 first_key_step _ fs k n = None
 
--- one of the keys has the name
-abbrev pub has_key : List ℕ → List (List ℕ × Tree) → Bool
-has_key m ks = is_among m (map (λ k. k.0) ks)
-
 -- a lexeme where a further key is wanted
-abbrev pub next_key_step : Lexeme → List Frame → LookupKind → List ℕ → List (List ℕ × Tree) → Option State
+abbrev pub next_key_step : Lexeme → List Frame → LookupKind → List ℕ → List (List ℕ × Tree)
+    → Option State
 next_key_step (Name m) fs k n ks = cond (has_key m ks) None (Some (fs, AfterKey k n ks m))
 next_key_step _ fs k n ks = None
 
 -- a lexeme behind the name of a key
-abbrev pub key_step : Lexeme → List Frame → LookupKind → List ℕ → List (List ℕ × Tree) → List ℕ → Option State
+abbrev pub key_step : Lexeme → List Frame → LookupKind → List ℕ → List (List ℕ × Tree) → List ℕ
+    → Option State
 key_step (Mark sign.Assign) fs k n ks m = Some (Key k n ks m ∷ fs, Operand)
 key_step _ fs k n ks m = None
 
@@ -134,66 +128,3 @@ subject_point_step _ fs s = None
 abbrev pub user_point_step : Lexeme → List Frame → List ℕ → Option State
 user_point_step (Name m) fs n = after fs (atom (rule.UserAttribute n m))
 user_point_step _ fs n = None
-
--- the next lexeme
-unfoldable pub step : Dialect → Lexeme → List Frame → Mode → Option State
-step d k fs Operand = operand_step d k fs
-step d k fs FirstItem = first_step d k fs
-step d k fs (Operator t) = after_step d k fs t
-step d k fs (AfterNot t) = not_step d k fs t
-step d k fs (AfterIs t) = is_step d k fs t
-step d k fs (AfterDot t) = dot_step k fs t
-step d k fs (AfterName n) = name_step k fs n
-step d k fs (AfterPoint n) = name_point_step k fs n
-step d k fs (AfterLookup l n) = lookup_step k fs l n
-step d k fs (FirstKey l n) = first_key_step k fs l n
-step d k fs (NextKey l n ks) = next_key_step k fs l n ks
-step d k fs (AfterKey l n ks m) = key_step k fs l n ks m
-step d k fs (AfterSubject s) = subject_step k fs s
-step d k fs (SubjectPoint s) = subject_point_step k fs s
-step d k fs (UserPoint n) = user_point_step k fs n
-
--- the tree, where nothing is open
-abbrev pub whole : List Frame × Tree → Option Tree
-whole ([], t) = Some t
-whole (_ ∷ _, t) = None
-
--- the tree at the end
-unfoldable pub finish : List Frame → Mode → Option Tree
-finish fs (Operator t) = reduce 0 fs t >>= whole
-finish fs _ = None
-
--- the tree that the lexemes lead to
-unfoldable pub run : Dialect → List Lexeme → List Frame → Mode → Option Tree
-run d [] fs m = finish fs m
-run d (k ∷ ks) fs m = step d k fs m >>= λ s. run d ks s.0 s.1
-
--- a name that is allowed
-abbrev pub kept_name : List ℕ → Option (List ℕ)
-kept_name n = cond (is_field n) (Some n) None
-
--- a word, and the keyword that it is
-abbrev pub word_lexeme : List ℕ → Option Keyword → Option Lexeme
-word_lexeme n (Some k) = Some (Word k)
-word_lexeme n None = kept_name n >>= λ m. Some (Name m)
-
--- what the grammar sees in a token
-unfoldable pub lexeme_of : TokenKind → Option Lexeme
-lexeme_of (kind.Number n) = Some (Number n)
-lexeme_of (kind.Text s) = Some (Text s)
-lexeme_of (kind.Name n) = word_lexeme n (keyword_of n)
-lexeme_of (kind.Dollar n) = kept_name n >>= λ m. Some (Dollar m)
-lexeme_of (kind.Sign s) = Some (Mark s)
-
--- the next token
-abbrev pub token_step : Dialect → Token → List Frame → Mode → Option State
-token_step d token fs m = lexeme_of token.kind >>= λ k. step d k fs m
-
--- the tree that the tokens lead to
-unfoldable pub read : Dialect → List Token → List Frame → Mode → Option Tree
-read d [] fs m = finish fs m
-read d (k ∷ ks) fs m = token_step d k fs m >>= λ s. read d ks s.0 s.1
-
--- the same from the start
-unfoldable pub tree_from : Dialect → List Token → Option Tree
-tree_from d ks = read d ks [] Operand

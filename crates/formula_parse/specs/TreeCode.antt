@@ -1,7 +1,7 @@
 -- What tells trees apart: each tree as a tree of numbers, and back.
-use Rattle.std.specs.Prelude.{ℕ, zero, suc, ◌≡◌, List, [], ◌∷◌, refl, get_or, nat_eq, cond}
+use Rattle.std.specs.Prelude.{ℕ, ◌≡◌, List, refl, nat_eq, cond}
 use Rattle.std.specs.Coded.{Coded, code_by, coded_list, coded×, coded_ℕ}
-use Rattle.std.proofs.Common.{ap, ◌∙◌}
+use Rattle.std.proofs.Common.{ap}
 use base.Stored.{Gv, gnil, gnum, gcons, num}
 use denote.Struct.Codes.{itself}
 use Rattle.formula_parse.specs.NameCode.{name_code, name_in, name_back, left_of, right_of}

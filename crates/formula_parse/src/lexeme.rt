@@ -1,9 +1,9 @@
-//! What the grammar tells apart in tokens: a word is a keyword, or a name that is allowed, or nothing.
+//! What the grammar tells apart in tokens: a word is a keyword, an allowed name, or nothing.
 
 ghost use Rattle.std.specs.Prelude.{◌≡◌, Bool, Option, Some, None, cond, bytes_eq};
 ghost use Rattle.cell_types.specs.NameRule.{is_reserved};
 ghost use Rattle.formula_parse.specs.Lexemes.{keyword_of, is_id, is_field};
-ghost use Rattle.formula_parse.specs.Steps.{lexeme_of, kept_name};
+ghost use Rattle.formula_parse.specs.Runs.{lexeme_of, kept_name};
 ghost use Rattle.formula_parse.specs.Parsed.{Gives};
 
 use crate::fault::Stop;
@@ -116,7 +116,7 @@ fn kept_name(alloc: Global, word: &TokenText) -> Result<Name, Stop>
 }
 
 /// What the grammar sees in a token.
-#[tactic(auto, unfolding(crate::specs::Steps::lexeme_of))]
+#[tactic(auto, unfolding(crate::specs::Runs::lexeme_of))]
 pub(crate) fn lexeme_of(alloc: Global, kind: &TokenKind) -> Result<Lexeme, Stop>
     ensures { Gives (λ lexeme. lexeme) result (lexeme_of kind.now) }
 {

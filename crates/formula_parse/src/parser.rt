@@ -4,7 +4,7 @@ ghost use Rattle.std.specs.Prelude.{◌≡◌, ◌≤◌, ℕ, List, [], Option,
 ghost use Rattle.formula_lex.specs.Places.{IsInOrder};
 ghost use Rattle.formula_parse.specs.Parsed.{Gives, GivesWithin};
 ghost use Rattle.formula_parse.specs.Spelling.{SpellsIn, SpellsFormula, FitsFault};
-ghost use Rattle.formula_parse.specs.Steps.{token_step, finish, tree_from};
+ghost use Rattle.formula_parse.specs.Runs.{token_step, finish, tree_from};
 ghost use Rattle.formula_parse.specs.Tree.{Tree};
 ghost use Rattle.formula_parse.specs.declared.operator.Dialect.TheVariants as dialects;
 
@@ -42,7 +42,8 @@ fn token_step(
     mode: Mode,
     token: &Token,
 ) -> Result<Mode, ParseFault>
-    ensures { GivesWithin token.now.from (λ m. (frames.new, m)) result (token_step dialect token.now frames.old mode) }
+    ensures { GivesWithin token.now.from (λ m. (frames.new, m)) result
+        (token_step dialect token.now frames.old mode) }
 {
     match token_stop(alloc, dialect, frames, mode, token) {
         Ok(next) => Ok(next),

@@ -3,7 +3,8 @@
 ghost use Rattle.std.specs.Prelude.{◌≡◌, ℕ, ◌+◌, ◌≤◌, List, [], ◌∷◌, ◌++◌, Bool, true, Option, Some, None};
 ghost use Rattle.formula_parse.specs.Tree.{Tree, height_of};
 ghost use Rattle.formula_parse.specs.Seen.{tree_of};
-ghost use Rattle.formula_parse.specs.Machine.{kept, is_last, filled, reduce, infix_step, if_step, else_step, prefix_step};
+ghost use Rattle.formula_parse.specs.Machine.{kept, is_last, filled, reduce, infix_step, else_step, prefix_step};
+ghost use Rattle.formula_parse.specs.Operands.{if_step};
 ghost use Rattle.formula_parse.specs.Parsed.{Gives};
 ghost use Rattle.formula_parse.specs.declared.operator.Dialect.TheVariants as dialects;
 

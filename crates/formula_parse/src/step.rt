@@ -2,8 +2,10 @@
 
 ghost use Rattle.std.specs.Prelude.{◌≡◌, ℕ, ◌+◌, ◌≤◌, List, [], ◌∷◌, ◌++◌, Bool, true, Option, Some, None, bytes_eq, IfOk};
 ghost use Rattle.formula_parse.specs.Tree.{Tree, attribute, height_of, from_list, heights, keys_from, key_heights};
-ghost use Rattle.formula_parse.specs.Machine.{kept, rule_name, point_step, close_step, close_list_step, comma_step, word_operand, sign_operand, name_operand, operand_step, close_empty, close_empty_list, first_step};
-ghost use Rattle.formula_parse.specs.Steps.{word_after, sign_after, after_step, is_step, name_step, table_step, first_key_step, next_key_step, key_step, step, finish};
+ghost use Rattle.formula_parse.specs.Machine.{kept, close_step, close_list_step, comma_step};
+ghost use Rattle.formula_parse.specs.Operands.{rule_name, point_step, word_operand, sign_operand, name_operand, operand_step, close_empty, close_empty_list, first_step};
+ghost use Rattle.formula_parse.specs.Steps.{word_after, sign_after, after_step, is_step, name_step, table_step, first_key_step, next_key_step, key_step};
+ghost use Rattle.formula_parse.specs.Runs.{step, finish};
 ghost use Rattle.formula_parse.specs.Grammar.{all_word, lookup_word};
 ghost use Rattle.formula_parse.specs.Parsed.{Gives};
 ghost use Rattle.formula_parse.specs.RuleGrammar.{asked};
@@ -271,7 +273,7 @@ fn word_after(
 
 // A point behind a formula.
 fn point(alloc: Global, dialect: Dialect, tree: Formula) -> Result<Mode, Stop>
-    ensures { (frames : List Frame) → Gives (λ m. (frames, m)) result (point_step dialect frames tree) }
+    ensures { (fs : List Frame) → Gives (λ m. (fs, m)) result (point_step dialect fs tree) }
 {
     match dialect {
         Dialect::Formula => Ok(Mode::AfterDot(tree)),
@@ -477,7 +479,7 @@ fn after_key(
 }
 
 /// What the next token makes of what is open.
-#[tactic(auto, unfolding(crate::specs::Steps::step))]
+#[tactic(auto, unfolding(crate::specs::Runs::step))]
 pub(crate) fn step(
     alloc: Global,
     dialect: Dialect,
@@ -535,7 +537,7 @@ pub(crate) fn step(
 }
 
 /// What the end of the tokens makes of what is open.
-#[tactic(auto, unfolding(crate::specs::Steps::finish))]
+#[tactic(auto, unfolding(crate::specs::Runs::finish))]
 pub(crate) fn finish(alloc: Global, frames: &mut Stack, mode: Mode) -> Result<Formula, Stop>
     ensures { Gives (λ t. t) result (finish frames.old mode) }
 {

@@ -1,5 +1,5 @@
-//! `groups_as_python_does`: these texts are Python expressions too, and the expected shapes are those
-//! that Python 3 reads (its module `ast`; a chain of `or` or `and` is taken two at a time).
+//! `groups_as_python_does`: these texts are Python expressions too, and the expected shapes are
+//! those that Python 3 reads (its module `ast`; a chain of `or` or `and` is taken two at a time).
 //! `reads_each_form` and `refuses_texts` follow the grammar in docs/FORMULAS.md by hand, and
 //! `keeps_the_limits` its bounds. `reads_rules` shows what the other dialect has and leaves out.
 

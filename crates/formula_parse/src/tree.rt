@@ -2,8 +2,7 @@
 
 ghost use Rattle.std.specs.Prelude.{◌≡◌, ℕ, List, [], ◌∷◌, ◌++◌, Bool, true, IfOk, OnOk, OnErr, IsTrue, ◌↔◌};
 ghost use Rattle.formula_parse.specs.Tree.{height_of, heights, from_list, key_heights, keys_from};
-ghost use Rattle.formula_parse.specs.Standing.{level_of};
-ghost use Rattle.formula_parse.specs.Steps.{has_key};
+ghost use Rattle.formula_parse.specs.Standing.{level_of, has_key};
 ghost use Rattle.formula_parse.specs.Seen.{tree_of, keys_of};
 
 use crate::operator::{BinaryOp, Constant, LookupKind, PrefixOp};

@@ -1,7 +1,7 @@
-use Rattle.std.proofs.Common.{◌≡◌, ◌≤◌, List, [], length, arith, ap, sym, ◌∙◌, subst, Bool, true, false}
+use Rattle.std.proofs.Common.{◌≡◌, List, length, arith, ap, sym, ◌∙◌, subst, Bool, true, false}
 use Rattle.std.proofs.lemmas.Result.{err_from_is_err_and}
 use Rattle.formula_lex.specs.declared.token.Token.{Token}
-use Rattle.formula_parse.specs.Steps.{tree_from}
+use Rattle.formula_parse.specs.Runs.{tree_from}
 use Rattle.formula_parse.specs.Parsed.{StopsWithin}
 use Rattle.formula_parse.proofs.Clauses.{too_long, is_short, none_spelled, none_only, some_spelled, some_only, stops}
 use Rattle.formula_parse.proofs.parser.read_tree.Goals as goal

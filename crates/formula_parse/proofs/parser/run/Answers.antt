@@ -3,7 +3,7 @@ use Rattle.std.proofs.lemmas.Result.{err_from_is_err_and}
 use Rattle.formula_parse.specs.declared.frame.Frame.{Frame}
 use Rattle.formula_parse.specs.declared.frame.Mode.TheVariants.{Operand}
 use Rattle.formula_parse.specs.Tree.{Tree}
-use Rattle.formula_parse.specs.Steps.{read, finish, tree_from}
+use Rattle.formula_parse.specs.Runs.{read, finish, tree_from}
 use Rattle.formula_parse.specs.Parsed.{GivesWithin}
 use Rattle.formula_parse.proofs.Turns.{read_next, read_stops, read_ends}
 use Rattle.formula_parse.proofs.parser.run.Goals as goal

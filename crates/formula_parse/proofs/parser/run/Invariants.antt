@@ -1,5 +1,5 @@
 use Rattle.std.proofs.Common.{◌≡◌, drop}
-use Rattle.formula_parse.specs.Steps.{read, tree_from}
+use Rattle.formula_parse.specs.Runs.{read, tree_from}
 use Rattle.formula_parse.proofs.parser.run.Given as goal
 
 abbrev pub invariant-loop-token : goal.invariant-loop-token

@@ -1,6 +1,6 @@
 use Rattle.std.proofs.Common.{◌≡◌, drop}
 use Rattle.formula_parse.specs.Seen.{keys_of}
-use Rattle.formula_parse.specs.Steps.{has_key}
+use Rattle.formula_parse.specs.Standing.{has_key}
 use Rattle.formula_parse.proofs.tree.LookupKeyList.has.Given as goal
 
 abbrev pub invariant-loop-key : goal.invariant-loop-key

@@ -26,3 +26,4 @@ pub mod TotalsLaws
 pub mod WeightLaws
 pub mod CountSteps
 pub mod SchemaCounts
+pub mod AddedRow

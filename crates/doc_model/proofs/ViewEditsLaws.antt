@@ -307,17 +307,17 @@ after-edits g w s t =
     ] refl)
 
 -- each column of a table is there, and is the same
-none_gone : (g : Grid ViewCol) → IsShown g → AllByRecursion (λ d. not (has_id shown_id g.columns d.id) ≡ false) g.columns
+pub none_gone : (g : Grid ViewCol) → IsShown g → AllByRecursion (λ d. not (has_id shown_id g.columns d.id) ≡ false) g.columns
 none_gone g s = each_found shown_id (λ d. not (has_id shown_id g.columns d.id) ≡ false) g.columns s.is_grid.distinct (λ d found. ap not (has_found shown_id d.id g.columns d found))
 
-none_other : (g : Grid ViewCol) → IsShown g → AllByRecursion (λ d. differs g.columns d ≡ false) g.columns
+pub none_other : (g : Grid ViewCol) → IsShown g → AllByRecursion (λ d. differs g.columns d ≡ false) g.columns
 none_other g s = each_found shown_id (λ d. differs g.columns d ≡ false) g.columns s.is_grid.distinct (λ d found.
     ap (λ o. elim o as (λ _. Bool) [ None ↦ false | Some e ↦ not (same_column e d) ]) found ∙ ap not ((same_column-Decides d d).1 refl))
 
 no_row : (rows : List ℕ) → without rows rows ≡ []
 no_row rows = filter_none (λ r. not (has rows r)) rows (each_has (λ r. not (has rows r) ≡ false) rows (λ r here. ap not here))
 
-no_cells : (g : Grid ViewCol) (ds : List ViewCol) → cell_edits g g ds ≡ []
+pub no_cells : (g : Grid ViewCol) (ds : List ViewCol) → cell_edits g g ds ≡ []
 no_cells g [] = refl
 no_cells g (d ∷ ds) =
     ap (λ rows. if_any rows (update rows (column_of shown_id g rows d.id ∷ [])) ++ cell_edits g g ds)

@@ -27,7 +27,7 @@ all_digits [] h = tt
 all_digits (c ∷ cs) h = let p = and_parts _ _ h in (digit_small c p.0, all_digits cs p.1)
 
 -- a text of the form has no plus
-no_plus : (text : List ℕ) → list_all is_digit (unsigned_part text) ≡ true → without_leading_sign text ≡ unsigned_part text
+pub no_plus : (text : List ℕ) → list_all is_digit (unsigned_part text) ≡ true → without_leading_sign text ≡ unsigned_part text
 no_plus [] h = refl
 no_plus (c ∷ cs) h =
     elim (nat_eq c 45) as (λ b. list_all is_digit (if b then cs else c ∷ cs) ≡ true → cond b cs (without_leading_plus (c ∷ cs)) ≡ (if b then cs else c ∷ cs)) [

@@ -1,5 +1,7 @@
 pub mod BaseValue
+pub mod ColumnRange
 pub mod Conversion
+pub mod ConversionLaws
 pub mod Decimal
 pub mod Item
 pub mod NameLength

@@ -14,6 +14,7 @@ mod cell;
 mod column_type;
 mod conversion;
 mod decimal;
+mod laws;
 mod name;
 mod reference;
 mod same;
@@ -27,6 +28,7 @@ pub use cell::{CellId, CellIdList, CellOld, CellOldList, KeyItem, KeyList, Read,
 pub use column_type::ColType;
 pub use conversion::{convert, copy_of, default_of};
 pub use decimal::decimal_value;
+pub use laws::{decimal_reads_back_law, default_fits_law, range_law, twice_is_once_law};
 pub use name::{Name, NameList};
 pub use same::Same;
 pub use sequence::Sequence;

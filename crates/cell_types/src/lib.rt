@@ -19,6 +19,8 @@ mod name;
 mod reference;
 mod same;
 mod sequence;
+#[cfg(test)]
+mod tests;
 mod text;
 mod value;
 mod value_text;

@@ -1,0 +1,16 @@
+pub mod Numbers
+pub mod Outside
+pub mod Places
+pub mod Added
+pub mod Answering
+pub mod Bundling
+pub mod HeldLaws
+pub mod Inside
+pub mod Keeping
+pub mod JudgeLaws
+pub mod Prepared
+pub mod Readied
+pub mod RecordCells
+pub mod SessionLaws
+pub mod Spots
+pub mod ToldLaws

@@ -1,0 +1,13 @@
+use Rattle.std.proofs.Common.{◌∷◌, [], ap, sym, ◌∙◌}
+use Rattle.std.proofs.lemmas.Result.{IfOk-weaker}
+use Rattle.grist_json.specs.Lines.{reply_text}
+use Rattle.bundle_core.proofs.Outside.{answers_by, miss_unknown}
+use Rattle.bundle_core.proofs.desk.open.Goals as goal
+
+pub returns-in-None-clause-ok : goal.returns-in-None-clause-ok
+returns-in-None-clause-ok c =
+    IfOk-weaker c.reply_alone.result _ _ (λ v p. answers_by _ _ _ _ _ _ _ _ (p ∙ ap (λ x. reply_text x ∷ []) c.refused.ensures)
+    (miss_unknown c.args.users.now c.args.rows.now c.args.sessions.now.items c.args.place c.args.entry.now c.requires.misses c.args.token.now c.requires.asks (sym c.in-None.ensures))) c.reply_alone.ensures
+
+pub open_for-requires-clause-known : goal.open_for-requires-clause-known
+open_for-requires-clause-known c = sym c.in-Some.ensures

@@ -1,0 +1,5 @@
+use Rattle.bundle_core.proofs.Prepared.{Preparing}
+use Rattle.bundle_core.proofs.turns.prepare_all.Given as goal
+
+abbrev pub invariant-loop-session : goal.invariant-loop-session
+invariant-loop-session l = Preparing l.actions l.session-index l.initial.sessions l.sessions

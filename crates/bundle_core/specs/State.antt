@@ -1,0 +1,176 @@
+-- A document with its open sessions, and what one entry of a history makes of it.
+use Rattle.std.specs.Prelude.{ℕ, ◌+◌, Bool, true, false, List, [], ◌∷◌, map, length, nat_le, Option, Some, None, if◌then◌else◌, find}
+use Rattle.std.specs.Option.{option_map}
+use Rattle.std.specs.Str.{bytes_eq}
+use Rattle.doc_model.specs.declared.entry.Entry.{Entry}
+use Rattle.doc_model.specs.declared.user.User.{User}
+use Rattle.doc_model.specs.declared.limit.LimitKind.TheVariants as limit
+use Rattle.doc_model.specs.declared.request.Request.{Request}
+use Rattle.doc_model.specs.declared.request.Request.TheVariants as request
+use Rattle.doc_model.specs.ByIds.{find_id, place, without_id}
+use Rattle.doc_model.specs.Document.{Document}
+use Rattle.grist_json.specs.declared.verdict.Verdict.{Verdict}
+use Rattle.grist_json.specs.declared.verdict.Verdict.TheVariants as verdict
+use Rattle.bundle_core.specs.Judgement.{Judgement, accepted, refused, judge}
+use Rattle.bundle_core.specs.Mailbox.{Mailbox, Outcome, quiet, shows_view, says, Turn, due, own}
+use Rattle.bundle_core.specs.View.{view}
+
+-- who has a session open, and how many of its bundles were accepted
+pub record Holder : Type 0 where
+  pub user : User
+  pub bundles : ℕ
+
+-- a session that is open
+pub record Open : Type 0 where
+  pub session : List ℕ
+  pub holder : Holder
+  pub mailbox : Mailbox
+
+abbrev pub session_name : Open → List ℕ
+session_name o = o.session
+
+-- the document, how many records were kept since the opening, and the open sessions by name
+pub record State : Type 0 where
+  pub document : Document
+  pub added : ℕ
+  pub open_sessions : List Open
+
+-- nobody has opened the document yet
+abbrev pub opening : Document → State
+opening s = record { document = s; added = 0; open_sessions = [] }
+
+-- what an entry comes to: its outcome, the document after it, whether it was an accepted bundle, and
+-- who has the session open after it
+pub record Verdicts : Type 0 where
+  pub outcome : Outcome
+  pub document : Document
+  pub is_bundle : Bool
+  pub holder : Option Holder
+
+-- nothing changes, and this is the answer
+abbrev pub answered : Document → Option Holder → Verdict → Verdicts
+answered s h v = record { outcome = says v; document = s; is_bundle = false; holder = h }
+
+abbrev pub refusal : ℕ → Verdict
+refusal code = verdict.Refused code None
+
+-- the first user with the token
+abbrev pub user_of : List User → List ℕ → Option User
+user_of users token = find (λ (u : User). bytes_eq u.token token) users
+
+-- how many sessions may be open
+abbrev pub session_bound : ℕ
+session_bound = 1024
+
+-- a session that is not open asks for the document by a token
+abbrev pub opened : List User → State → List ℕ → Verdicts
+opened users st token =
+    elim (user_of users token) [
+      | None ↦ answered st.document None (refusal 5)
+      | Some user ↦
+          if nat_le session_bound (length st.open_sessions)
+          then answered st.document None (verdict.Limited limit.Sessions session_bound None)
+          else record {
+            outcome = shows_view;
+            document = st.document;
+            is_bundle = false;
+            holder = Some (record { user = user; bundles = 0 });
+          }
+    ]
+
+-- a request of a session that is not open
+abbrev pub from_outside : List User → State → Request → Verdicts
+from_outside users st request.Bad = answered st.document None (refusal 1)
+from_outside users st request.TooLong = answered st.document None (refusal 2)
+from_outside users st (request.Open token) = opened users st token
+from_outside users st request.Gone =
+    record { outcome = quiet; document = st.document; is_bundle = false; holder = None }
+from_outside users st r = answered st.document None (refusal 3)
+
+-- a bundle of an open session: accepted, it counts; the keeper's failure leaves everything
+abbrev pub bundle_of : Holder → Document → Bool → Judgement → Verdicts
+bundle_of h s kept (refused v) = answered s (Some h) v
+bundle_of h s false (accepted after values) = answered s (Some h) (refusal 19)
+bundle_of h s true (accepted after values) = record {
+  outcome = says (verdict.Bundle (h.bundles + 1) values);
+  document = after;
+  is_bundle = true;
+  holder = Some (record { user = h.user; bundles = h.bundles + 1 });
+}
+
+-- a request of a session that is open and does not lag; what is not built yet is no request
+abbrev pub from_inside : State → Holder → Bool → Request → Verdicts
+from_inside st h kept request.Bad = answered st.document (Some h) (refusal 1)
+from_inside st h kept request.TooLong = answered st.document (Some h) (refusal 2)
+from_inside st h kept (request.Open token) = answered st.document (Some h) (refusal 4)
+from_inside st h kept (request.Apply actions) = bundle_of h st.document kept (judge st.document actions)
+from_inside st h kept (request.Undo bundle) = answered st.document (Some h) (refusal 1)
+from_inside st h kept request.Sync = answered st.document (Some h) verdict.Done
+from_inside st h kept (request.Fetch table) = answered st.document (Some h) (refusal 1)
+from_inside st h kept request.Close = answered st.document None verdict.Done
+from_inside st h kept request.Gone =
+    record { outcome = quiet; document = st.document; is_bundle = false; holder = None }
+
+-- a request of a session that lags: whatever it is, it is told so, and the session is closed
+abbrev pub from_behind : State → Request → Verdicts
+from_behind st request.Gone =
+    record { outcome = quiet; document = st.document; is_bundle = false; holder = None }
+from_behind st r = answered st.document None (refusal 21)
+
+abbrev pub session_of : List ℕ → State → Option Open
+session_of name st = find_id session_name name st.open_sessions
+
+-- what an entry comes to, by whether its session is open and lags
+abbrev pub verdicts : List User → State → Entry → Verdicts
+verdicts users st e =
+    elim (session_of e.session st) [
+      | None ↦ from_outside users st e.request
+      | Some o ↦
+          if o.mailbox.lagging
+          then from_behind st e.request
+          else from_inside st o.holder e.kept e.request
+    ]
+
+-- another session's mailbox after an accepted bundle
+abbrev pub posted_to : Document → Open → Open
+posted_to s o =
+    record { session = o.session; holder = o.holder; mailbox = due (view o.holder.user s) o.mailbox }
+
+-- the other open sessions are posted the changes of a bundle
+abbrev pub posted_all : Verdicts → List Open → List Open
+posted_all v os = if v.is_bundle then map (posted_to v.document) os else os
+
+-- the session as it is after its own turn
+abbrev pub with_session : List ℕ → Option Holder → Option Mailbox → List Open → List Open
+with_session name (Some h) (Some m) os =
+    place session_name (record { session = name; holder = h; mailbox = m }) os
+with_session name _ _ os = without_id session_name name os
+
+abbrev pub mailbox_of : List ℕ → State → Option Mailbox
+mailbox_of name st = option_map (λ (o : Open). o.mailbox) (session_of name st)
+
+-- the turn of the entry's own session
+abbrev pub turn_of : State → Entry → Verdicts → Turn
+turn_of st e v =
+    own (mailbox_of e.session st) e.request v.outcome (option_map (λ (h : Holder). view h.user v.document) v.holder)
+
+-- the state after an entry that came to this
+abbrev pub after_turn : State → Entry → Verdicts → State
+after_turn st e v = record {
+  document = v.document;
+  added = if v.is_bundle then st.added + 1 else st.added;
+  open_sessions = with_session e.session v.holder (turn_of st e v).mailbox (posted_all v st.open_sessions);
+}
+
+-- the state after an entry
+abbrev pub step : List User → State → Entry → State
+step users st e = after_turn st e (verdicts users st e)
+
+-- the lines that are given at an entry, to its session
+abbrev pub given : List User → State → Entry → List (List ℕ)
+given users st e = (turn_of st e (verdicts users st e)).lines
+
+-- the state after a history
+abbrev pub run : List User → State → List Entry → State
+run users st [] = st
+run users st (e ∷ es) = run users (step users st e) es

@@ -1,0 +1,217 @@
+//! A session that is open: who holds it, and the lines that wait for it.
+
+ghost use Rattle.std.specs.Prelude.{◌≡◌, ◌<◌, ◌≤◌, ◌+◌, ◌^◌, [], ◌∷◌, ◌++◌, length, option_to_list, None, false, IfOk, OnOk, IsTrue, ◌↔◌};
+ghost use Rattle.bundle_core.specs.Mailbox.{is_full};
+ghost use Rattle.bundle_core.specs.SessionState.{IsReady, IsPrepared, IsEmptied, MayPost, posted_state};
+
+use cell_types::Name;
+use doc_model::{User, ViewActionList};
+use grist_json::{Line, write_stream};
+use std::alloc::{AllocError, Global};
+use std::marker::Model;
+use std::mem;
+
+/// How many lines may wait for a session.
+pub const MAX_WAITING_LINES: usize = 4_096;
+
+/// How many bytes may wait for a session.
+pub const MAX_WAITING_BYTES: u64 = 4_194_304;
+
+/// A session that is open.
+///
+/// A line is posted in two steps, so that want of memory changes nothing: `prepare` makes the line and
+/// the room for it, and `post`, which cannot fail, puts it behind those that wait.
+#[derive(Drop)]
+pub(crate) struct OpenSession {
+    name: Name,
+    user: User,
+    bundles: u64,
+    made: u64,
+    waiting: Vec<Line>,
+    bytes: u64,
+    lagging: bool,
+    ready: Option<Line>,
+}
+
+impl Model for OpenSession {
+    ghost use Rattle.std.specs.Prelude.{◌≡◌, ◌-◌, sum_by, length, vec_capacity, vec_len};
+    ghost use Rattle.bundle_core.specs.SessionState.{SessionState};
+
+    ghost Value = { SessionState };
+
+    ghost view = { λ s. record {
+      session = s.name;
+      holder = record { user = s.user; bundles = s.bundles };
+      made = s.made;
+      waiting = s.waiting.items;
+      lagging = s.lagging;
+      ready = s.ready;
+      room = vec_capacity s.waiting - vec_len s.waiting;
+    } };
+
+    ghost invariant = { λ s. s.bytes ≡ sum_by length s.waiting.items };
+}
+
+impl OpenSession {
+    /// A session that has just been opened.
+    pub fn new(alloc: Global, name: Name, user: User) -> Self
+        ensures session { result.session ≡ name }
+        ensures user { result.holder.user ≡ user }
+        ensures bundles { result.holder.bundles ≡ 0 }
+        ensures made { result.made ≡ 0 }
+        ensures waiting { result.waiting ≡ [] }
+        ensures lagging { result.lagging ≡ false }
+    {
+        OpenSession {
+            name,
+            user,
+            bundles: 0,
+            made: 0,
+            waiting: Vec::new(alloc),
+            bytes: 0,
+            lagging: false,
+            ready: None,
+        }
+    }
+
+    /// A session that has just been opened by that name for that user.
+    pub fn of(alloc: Global, name: &Name, user: &User) -> Result<Self, AllocError>
+        ensures session { IfOk result (λ s. s.session ≡ name.now) }
+        ensures user { IfOk result (λ s. s.holder.user ≡ user.now) }
+        ensures bundles { IfOk result (λ s. s.holder.bundles ≡ 0) }
+        ensures made { IfOk result (λ s. s.made ≡ 0) }
+        ensures waiting { IfOk result (λ s. s.waiting ≡ []) }
+        ensures lagging { IfOk result (λ s. s.lagging ≡ false) }
+    {
+        Ok(OpenSession::new(alloc, copy_name(name)?, copy_user(user)?))
+    }
+
+    pub fn name(&self) -> &Name
+        ensures { result.now ≡ self.now.session }
+    {
+        &self.name
+    }
+
+    pub fn user(&self) -> &User
+        ensures { result.now ≡ self.now.holder.user }
+    {
+        &self.user
+    }
+
+    /// How many of its bundles were accepted.
+    pub fn bundles(&self) -> u64
+        ensures { result ≡ self.now.holder.bundles }
+    {
+        self.bundles
+    }
+
+    pub fn is_lagging(&self) -> bool
+        ensures { result ≡ self.now.lagging }
+    {
+        self.lagging
+    }
+
+    pub fn is_full(&self) -> bool
+        ensures { result ≡ is_full self.now.waiting }
+    {
+        self.waiting.len() >= MAX_WAITING_LINES || self.bytes >= MAX_WAITING_BYTES
+    }
+
+    /// Makes room for lines. Nothing else changes, whatever the answer.
+    pub fn make_room(&mut self, lines: usize) -> Result<(), AllocError>
+        ensures prepared { IsPrepared self.old self.new }
+        ensures ready { self.new.ready ≡ self.old.ready }
+        ensures ok { OnOk result (lines ≤ self.new.room) }
+    {
+        self.waiting.reserve(lines)
+    }
+
+    /// Makes ready the line that tells the actions, unless the session lags. Nothing that can be seen
+    /// changes, whatever the answer.
+    pub fn prepare(&mut self, alloc: Global, actions: &ViewActionList) -> Result<(), AllocError>
+        requires few { self.old.made < 2 ^ 63 }
+        ensures prepared { IsPrepared self.old self.new }
+        ensures ok { OnOk result (IsReady actions.now self.new) }
+    {
+        self.make_room(1)?;
+        self.ready = None;
+        if !self.lagging {
+            self.ready = Some(write_stream(alloc, self.made + 1, actions)?);
+        }
+        Ok(())
+    }
+
+    /// Puts the line that was made ready behind those that wait. Where too much waits, and where there
+    /// is none, the session lags from now on.
+    pub fn post(&mut self)
+        requires { MayPost self.old }
+        ensures { self.new ≡ posted_state self.old }
+    {
+        match self.ready.take() {
+            Some(line) if !self.is_full() => {
+                self.bytes += line.as_str().len() as u64;
+                self.waiting.push_reserved(line);
+                self.made += 1;
+            }
+            _ => self.lagging = true,
+        }
+    }
+
+    /// Gives the lines that wait, and then the reply.
+    pub fn give(&mut self, alloc: Global, reply: Line) -> Vec<Line>
+        requires { 0 < self.old.room }
+        ensures lines { result.items ≡ self.old.waiting ++ reply ∷ [] }
+        ensures emptied { IsEmptied self.old self.new }
+        ensures made { self.new.made ≡ self.old.made }
+        ensures bundles { self.new.holder.bundles ≡ self.old.holder.bundles }
+    {
+        let mut lines = mem::replace(&mut self.waiting, Vec::new(alloc));
+        self.bytes = 0;
+        lines.push_reserved(reply);
+        lines
+    }
+
+    /// Gives the lines that wait, the line of the session's own bundle that was made ready, and then the
+    /// reply, and counts the bundle.
+    pub fn give_bundle(&mut self, alloc: Global, reply: Line) -> Vec<Line>
+        requires room { 1 < self.old.room }
+        requires few { self.old.made < 2 ^ 63 }
+        requires few_bundles { self.old.holder.bundles < 2 ^ 63 }
+        ensures lines { result.items ≡ self.old.waiting ++ option_to_list self.old.ready ++ reply ∷ [] }
+        ensures emptied { IsEmptied self.old self.new }
+        ensures made { self.new.made ≡ self.old.made + length (option_to_list self.old.ready) }
+        ensures bundles { self.new.holder.bundles ≡ self.old.holder.bundles + 1 }
+    {
+        let mut lines = mem::replace(&mut self.waiting, Vec::new(alloc));
+        self.bytes = 0;
+        if let Some(line) = self.ready.take() {
+            lines.push_reserved(line);
+            self.made += 1;
+        }
+        self.bundles += 1;
+        lines.push_reserved(reply);
+        lines
+    }
+
+    /// The lines that wait, and then the reply: the last that the session is given.
+    pub fn leave(self, reply: Line) -> Vec<Line>
+        requires { 0 < self.room }
+        ensures { result.items ≡ self.waiting ++ reply ∷ [] }
+    {
+        let mut lines = self.waiting;
+        lines.push_reserved(reply);
+        lines
+    }
+}
+
+fn copy_name(name: &Name) -> Result<Name, AllocError>
+    ensures { IfOk result (λ n. n ≡ name.now) }
+{
+    name.clone()
+}
+
+fn copy_user(user: &User) -> Result<User, AllocError>
+    ensures { IfOk result (λ u. u ≡ user.now) }
+{
+    user.clone()
+}

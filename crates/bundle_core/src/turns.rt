@@ -1,0 +1,85 @@
+//! The turns of open sessions, over the list of them: what each is given, and how it stands after it.
+
+ghost use Rattle.std.specs.Prelude.{◌≡◌, ◌<◌, ◌^◌, [], ◌∷◌, ◌++◌, length, map, get_or, IfOk, OnOk, OnErr};
+ghost use Rattle.std.specs.List.{AllByRecursion};
+ghost use Rattle.grist_json.specs.Lines.{reply_text};
+ghost use Rattle.bundle_core.specs.Desk.{AreSame, Leaves, Stays};
+ghost use Rattle.bundle_core.specs.SessionState.{SessionState, IsReady, MayPost, posted_state};
+
+use crate::session::OpenSession;
+use doc_model::ViewActionList;
+use grist_json::{Line, Verdict, write_reply};
+use std::alloc::{AllocError, Global};
+
+/// A reply alone, to a session that is not open.
+pub(crate) fn reply_alone(alloc: Global, verdict: &Verdict) -> Result<Vec<Line>, AllocError>
+    ensures { IfOk result (λ v. v.items ≡ reply_text verdict.now ∷ []) }
+{
+    let mut lines = Vec::new(alloc);
+    lines.push(write_reply(alloc, verdict)?)?;
+    Ok(lines)
+}
+
+/// Gives the session of that place what waits and the reply, and closes it. At want of memory the
+/// sessions are the same.
+pub(crate) fn leave(
+    alloc: Global,
+    sessions: &mut Vec<OpenSession>,
+    place: usize,
+    verdict: &Verdict,
+) -> Result<Vec<Line>, AllocError>
+    requires { place < length sessions.old.items }
+    ensures ok { IfOk result (λ v. Leaves sessions.old.items sessions.new.items place (reply_text verdict.now) v.items) }
+    ensures err { OnErr result (AreSame sessions.old.items sessions.new.items) }
+{
+    let reply = write_reply(alloc, verdict)?;
+    let session = &mut sessions[place];
+    session.make_room(1)?;
+    let session = sessions.remove(place);
+    Ok(session.leave(reply))
+}
+
+/// Gives the session of that place what waits and the reply. At want of memory the sessions are the
+/// same.
+pub(crate) fn stay(
+    alloc: Global,
+    sessions: &mut Vec<OpenSession>,
+    place: usize,
+    verdict: &Verdict,
+) -> Result<Vec<Line>, AllocError>
+    requires { place < length sessions.old.items }
+    ensures ok { IfOk result (λ v. Stays sessions.old.items sessions.new.items place (reply_text verdict.now) v.items) }
+    ensures err { OnErr result (AreSame sessions.old.items sessions.new.items) }
+{
+    let reply = write_reply(alloc, verdict)?;
+    let session = &mut sessions[place];
+    session.make_room(1)?;
+    Ok(session.give(alloc, reply))
+}
+
+/// Makes ready the line that tells the actions, for each session. At want of memory the sessions are
+/// the same.
+pub(crate) fn prepare_all(
+    alloc: Global,
+    sessions: &mut [OpenSession],
+    actions: &ViewActionList,
+) -> Result<(), AllocError>
+    requires { AllByRecursion (λ x. x.made < 2 ^ 63) sessions.old }
+    ensures same { AreSame sessions.old sessions.new }
+    ensures ready { OnOk result (AllByRecursion (IsReady actions.now) sessions.new) }
+{
+    for session in sessions.iter_mut() {
+        session.prepare(alloc, actions)?;
+    }
+    Ok(())
+}
+
+/// Posts each session the line that was made ready for it.
+pub(crate) fn post_all(sessions: &mut [OpenSession])
+    requires { AllByRecursion MayPost sessions.old }
+    ensures { sessions.new ≡ map posted_state sessions.old }
+{
+    for session in sessions.iter_mut() {
+        session.post();
+    }
+}

@@ -159,7 +159,7 @@ found_made : (n : ℕ) (o : Option Open) → FoundBelow n o → MadeFew n (optio
 found_made n None h = tt
 found_made n (Some o) h = h.made
 
-without_good : (n : ℕ) (name : List ℕ) (os : List Open) → IsGood n os → IsGood n (without_id session_name name os)
+pub without_good : (n : ℕ) (name : List ℕ) (os : List Open) → IsGood n os → IsGood n (without_id session_name name os)
 without_good n name os g = record {
   by_name = IsByIds-filter session_name _ os g.by_name;
   below = each_filter (IsBelow n) _ os g.below;

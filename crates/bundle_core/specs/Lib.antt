@@ -1,12 +1,14 @@
+pub mod Core
 pub mod Desk
 pub mod Frames
 pub mod Held
 pub mod Judgement
 pub mod Known
 pub mod Mailbox
-pub mod State
 pub mod Requests
 pub mod SessionState
 pub mod Shown
+pub mod State
+pub mod Steps
 pub mod Told
 pub mod View

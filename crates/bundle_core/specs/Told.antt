@@ -71,3 +71,10 @@ abbrev pub IsolationLaw : Type 0
 IsolationLaw =
     (users : List User) (s : Document) (history : List Entry) (name : List ℕ)
     → out users (opening s) name history ≡ told None (observed users (opening s) name history)
+
+-- two histories that a session observes alike give it equal bytes
+abbrev pub EqualBytesLaw : Type 0
+EqualBytesLaw =
+    (users users' : List User) (s s' : Document) (history history' : List Entry) (name : List ℕ)
+    → observed users (opening s) name history ≡ observed users' (opening s') name history'
+    → out users (opening s) name history ≡ out users' (opening s') name history'

@@ -3,22 +3,27 @@
 //! Stands on `cell_types`, `doc_model` (documents, changes, entries) and `grist_json` (the texts of
 //! lines). What an entry comes to is said in specs/State.antt, over plain lists, for every document.
 //!
-//! Promises: `isolation_law`, that a session is given exactly what its own requests, verdicts and views
-//! tell. Inside, `desk::answer` answers each entry as the state says (`Answers`), for the documents
-//! that are built so far: the new one with records in Table1. The public core that keeps the history
-//! is not here yet.
-//! Read first: specs/State.antt and specs/Told.antt, then desk.rt.
+//! Promises: `Core::step` gives the lines that the state after the history says, and adds the entry; a
+//! full history and want of memory change nothing. `isolation_law`: a session is given exactly what its
+//! own requests, verdicts and views tell; `equal_bytes_law`: histories that it observes alike give it
+//! equal bytes.
+//! Not promised: which bundles are accepted, beyond one record for Table1; the rest is not built yet.
+//! Read first: specs/State.antt, specs/Told.antt and specs/Core.antt, then history_core.rt and desk.rt.
 #![tactic(auto)]
 
 mod bundle;
 mod desk;
+mod history_core;
 mod known;
 mod laws;
 mod records;
 mod seek;
 mod session;
 mod shown;
+#[cfg(test)]
+mod tests;
 mod turns;
 
-pub use laws::isolation_law;
+pub use history_core::{Answer, Core, LineList, MAX_ENTRIES, MAX_HISTORY_BYTES};
+pub use laws::{equal_bytes_law, isolation_law};
 pub use session::{MAX_WAITING_BYTES, MAX_WAITING_LINES};

@@ -1,0 +1,216 @@
+-- What a core keeps stays the state that its history leads to.
+use Rattle.std.proofs.Common.{◌≡◌, ℕ, suc, ◌+◌, ◌<◌, ◌≤◌, Bool, true, false, not, ◌&&◌, ◌||◌, List, [], ◌∷◌, ◌++◌, map, length, sum_by, nat_le, nat_lt, take, drop, get_or, Option, Some, None, is_some, option_map, Result, Ok, Err, is_ok, MatchResult, refl, sym, ap, subst, ◌∙◌, arith, if◌then◌else◌}
+use Rattle.std.proofs.lemmas.Bool.{leb-false, false≢true}
+use Rattle.std.proofs.Math.Nat.{le-min, min-le_left, min-le_right}
+use Rattle.std.proofs.lemmas.List.{length-append, take-append-drop}
+use Rattle.std.proofs.lemmas.List.Sums.{sum_by-append}
+use Rattle.std.specs.List.{AllByRecursion}
+use Rattle.cell_types.specs.declared.value.CellValue.{CellValue}
+use Rattle.doc_model.specs.declared.entry.Entry.{Entry}
+use Rattle.doc_model.specs.declared.request.Request.{Request}
+use Rattle.doc_model.specs.declared.request.Request.TheVariants as request
+use Rattle.doc_model.specs.declared.user.User.{User}
+use Rattle.doc_model.specs.ByIds.{precedes, find_id, IsByIds}
+use Rattle.doc_model.specs.Document.{Document}
+use Rattle.doc_model.specs.NewDocument.{new_document}
+use Rattle.doc_model.proofs.Choices.{each_weaker, each_mapped, each_unmapped}
+use Rattle.bundle_core.specs.Core.{state_after, entry_bound, size_bound, size_of, is_gone, is_full, bytes_left, counted, IsCore}
+use Rattle.bundle_core.specs.Desk.{AreSame, Answers, Finds, IsCounted, kept_name, Misses, state_of}
+use Rattle.bundle_core.specs.Held.{document_of, HasThree}
+use Rattle.bundle_core.specs.Mailbox.{Mailbox, own, quiet}
+use Rattle.bundle_core.specs.SessionState.{SessionState, open_of}
+use Rattle.bundle_core.specs.State.{State, Open, Verdicts, session_name, session_of, mailbox_of, turn_of, opening, run, step, after_turn, verdicts, given, from_outside, from_inside, from_behind}
+use Rattle.bundle_core.proofs.Answering.{opens, opens-append, opens_above, opens_below}
+use Rattle.bundle_core.proofs.Inside.{around, some_session}
+use Rattle.bundle_core.proofs.Spots.{find_absent_at, find_at}
+use Rattle.bundle_core.proofs.Keeping.{IsBelow, IsGood, step_good, without_good}
+
+run_append : (users : List User) (st : State) (es : List Entry) (e : Entry) → run users st (es ++ e ∷ []) ≡ step users (run users st es) e
+run_append users st [] e = refl
+run_append users st (x ∷ es) e = run_append users (step users st x) es e
+
+-- ---- sessions and open sessions
+
+opens_by_name : (s : Document) (xs : List SessionState) → IsByIds kept_name xs → IsByIds session_name (map (open_of s) xs)
+opens_by_name s [] h = tt
+opens_by_name s (x ∷ xs) h = (each_mapped (λ (o : Open). precedes x.session o.session ≡ true) (open_of s) xs h.0, opens_by_name s xs h.1)
+
+kept_by_name : (s : Document) (xs : List SessionState) → IsByIds session_name (map (open_of s) xs) → IsByIds kept_name xs
+kept_by_name s [] h = tt
+kept_by_name s (x ∷ xs) h = (each_unmapped (λ (o : Open). precedes x.session o.session ≡ true) (open_of s) xs h.0, kept_by_name s xs h.1)
+
+opens_good : (s : Document) (n : ℕ) (xs : List SessionState) → IsByIds kept_name xs → AllByRecursion (IsCounted n) xs → IsGood n (map (open_of s) xs)
+opens_good s n xs by_name few = record {
+  by_name = opens_by_name s xs by_name;
+  below = each_mapped (IsBelow n) (open_of s) xs (each_weaker (IsCounted n) (λ x. IsBelow n (open_of s x)) (λ x c. record { made = c.made; bundles = c.bundles }) xs few);
+}
+
+kept_few : (s : Document) (n : ℕ) (xs : List SessionState) → IsGood n (map (open_of s) xs) → AllByRecursion (IsCounted n) xs
+kept_few s n xs g = each_weaker (λ x. IsBelow n (open_of s x)) (IsCounted n) (λ x b. record { made = b.made; bundles = b.bundles }) xs (each_unmapped (IsBelow n) (open_of s) xs g.below)
+
+more_good : (n m : ℕ) (os : List Open) → n ≤ m → IsGood n os → IsGood m os
+more_good n m os le g = record {
+  by_name = g.by_name;
+  below = each_weaker (IsBelow n) (IsBelow m) (λ o b. record { made = omega (arith, le, b.made); bundles = omega (arith, le, b.bundles) }) os g.below;
+}
+
+-- ---- the end of a connection
+
+abbrev gone_verdicts : State → Verdicts
+gone_verdicts st = record { outcome = quiet; document = st.document; is_bundle = false; holder = None }
+
+verdicts_gone : (users : List User) (st : State) (e : Entry) → e.request ≡ request.Gone → verdicts users st e ≡ gone_verdicts st
+verdicts_gone users st e is =
+    elim (session_of e.session st) as (λ o. elim o as (λ _. Verdicts) [
+      | None ↦ from_outside users st e.request
+      | Some x ↦ if x.mailbox.lagging then from_behind st e.request else from_inside st x.holder e.kept e.request
+    ] ≡ gone_verdicts st) [
+      | None ↦ ap (from_outside users st) is
+      | Some x ↦ elim x.mailbox.lagging as (λ l. (if l then from_behind st e.request else from_inside st x.holder e.kept e.request) ≡ gone_verdicts st) [
+        | true ↦ ap (from_behind st) is
+        | false ↦ ap (from_inside st x.holder e.kept) is
+      ]
+    ]
+
+-- the end of a connection counts nothing
+gone_good : (n : ℕ) (users : List User) (st : State) (e : Entry) → e.request ≡ request.Gone → IsGood n st.open_sessions → IsGood n (step users st e).open_sessions
+gone_good n users st e is g =
+    let P : Verdicts → Type 0 = λ v. IsGood n (after_turn st e v).open_sessions in
+    subst P (sym (verdicts_gone users st e is)) (without_good n e.session st.open_sessions g)
+
+gone_added : (users : List User) (st : State) (e : Entry) → e.request ≡ request.Gone → (step users st e).added ≡ st.added
+gone_added users st e is = ap (λ v. (after_turn st e v).added) (verdicts_gone users st e is)
+
+gone_is : (r : Request) → is_gone r ≡ true → r ≡ request.Gone
+gone_is request.Gone h = refl
+gone_is request.Bad h = absurd (false≢true h)
+gone_is request.TooLong h = absurd (false≢true h)
+gone_is (request.Open token) h = absurd (false≢true h)
+gone_is (request.Apply actions) h = absurd (false≢true h)
+gone_is (request.Undo bundle) h = absurd (false≢true h)
+gone_is request.Sync h = absurd (false≢true h)
+gone_is (request.Fetch table) h = absurd (false≢true h)
+gone_is request.Close h = absurd (false≢true h)
+
+-- ---- bounds
+
+or_false : (a b : Bool) → (a || b) ≡ false → a ≡ false
+or_false true b h = absurd (false≢true (sym h))
+or_false false b h = refl
+
+short : (es : List Entry) → nat_le entry_bound (length es) ≡ false → length es < entry_bound
+short es h = leb-false entry_bound (length es) h
+
+-- one entry more counts no less
+pub counted_more : (es : List Entry) (e : Entry) → counted es ≤ counted (es ++ e ∷ [])
+counted_more es e =
+    let n = length-append es (e ∷ []) in
+    le-min (omega (arith, n, min-le_left (length es) entry_bound)) (min-le_right (length es) entry_bound)
+
+-- where there was room, it counts one more
+counted_one : (es : List Entry) (e : Entry) → length es < entry_bound → counted es + 1 ≤ counted (es ++ e ∷ [])
+counted_one es e lt =
+    let n = length-append es (e ∷ []) in
+    le-min (omega (arith, n, min-le_left (length es) entry_bound)) (omega (arith, lt, min-le_left (length es) entry_bound))
+
+-- ---- an entry
+
+module _ (users : List User) (rows rows' : List (List CellValue)) (xs xs' : List SessionState) (es : List Entry) (e : Entry) (lines : List (List ℕ)) (bytes : Option ℕ)
+    (k : IsCore users es rows xs bytes) (a : Answers users rows rows' xs xs' e lines) where
+  abbrev more : List Entry
+  more = es ++ e ∷ []
+
+  abbrev st : State
+  st = state_of rows xs
+
+  leads : state_after users more ≡ state_of rows' xs'
+  leads = run_append users (opening new_document) es e ∙ ap (λ s. step users s e) k.state ∙ a.state
+
+  was_good : IsGood (counted es) st.open_sessions
+  was_good = opens_good (document_of rows) (counted es) xs k.by_name k.few
+
+  pub lines_at : lines ≡ given users (state_after users es) e
+  lines_at = sym a.lines_given ∙ ap (λ s. given users s e) (sym k.state)
+
+  from_good : (bytes' : Option ℕ) → HasThree rows' → length rows' ≤ counted more → IsGood (counted more) (step users st e).open_sessions → bytes' ≡ bytes_left (sum_by size_of more) → IsCore users more rows' xs' bytes'
+  from_good bytes' three few g left =
+      let P : State → Type 0 = λ s. IsGood (counted more) s.open_sessions in
+      let g' : IsGood (counted more) (map (open_of (document_of rows')) xs') = subst P a.state g in
+      record { state = leads; three = three; few_rows = few; by_name = kept_by_name (document_of rows') xs' g'.by_name; few = kept_few (document_of rows') (counted more) xs' g'; left = left }
+
+  -- where there was room
+  core_roomy : (bytes' : Option ℕ) → HasThree rows' → length rows' ≤ length rows + 1 → length es < entry_bound → bytes' ≡ bytes_left (sum_by size_of more) → IsCore users more rows' xs' bytes'
+  core_roomy bytes' three one lt left =
+      let c = counted_one es e lt in
+      from_good bytes' three (omega (arith, one, k.few_rows, c)) (more_good (counted es + 1) (counted more) _ c (step_good (counted es) users st e was_good)) left
+
+  -- at the end of a connection
+  core_gone : (bytes' : Option ℕ) → HasThree rows' → e.request ≡ request.Gone → bytes' ≡ bytes_left (sum_by size_of more) → IsCore users more rows' xs' bytes'
+  core_gone bytes' three is left =
+      let c = counted_more es e in
+      let same : length rows' ≡ length rows = sym (ap (λ (s : State). s.added) a.state) ∙ gone_added users st e is in
+      from_good bytes' three (omega (arith, same, k.few_rows, c)) (more_good (counted es) (counted more) _ c (gone_good (counted es) users st e is was_good)) left
+
+  -- what was not full has room, or is the end of a connection
+  pub core_after : (bytes' : Option ℕ) → HasThree rows' → length rows' ≤ length rows + 1 → is_full es e.request e.size ≡ false → bytes' ≡ bytes_left (sum_by size_of es + e.size) → IsCore users more rows' xs' bytes'
+  core_after bytes' three one room left =
+      let all = sum_by-append size_of es (e ∷ []) in
+      let sums : sum_by size_of more ≡ sum_by size_of es + e.size = omega (arith, all) in
+      let left' : bytes' ≡ bytes_left (sum_by size_of more) = left ∙ ap bytes_left (sym sums) in
+      elim (is_gone e.request) as (λ g. is_gone e.request ≡ g → (not g && (nat_le entry_bound (length es) || nat_lt size_bound (sum_by size_of es + e.size))) ≡ false → IsCore users more rows' xs' bytes') [
+        | true ↦ λ gone _. core_gone bytes' three (gone_is e.request gone) left'
+        | false ↦ λ _ r. core_roomy bytes' three one (short es (or_false (nat_le entry_bound (length es)) _ r)) left'
+      ] refl room
+
+-- ---- sessions that are the same
+
+pub core_same : (users : List User) (es : List Entry) (rows rows' : List (List CellValue)) (xs ys : List SessionState) (bytes : Option ℕ) → rows' ≡ rows → AreSame xs ys → IsCore users es rows xs bytes → IsCore users es rows' ys bytes
+core_same users es rows rows' xs ys bytes e same k =
+    let P : List (List CellValue) → Type 0 = λ r. IsCore users es r ys bytes in
+    let Q : List Open → Type 0 = λ os. IsGood (counted es) os in
+    let g : IsGood (counted es) (map (open_of (document_of rows)) ys) = subst Q (sym (same (document_of rows))) (opens_good (document_of rows) (counted es) xs k.by_name k.few) in
+    subst P (sym e) (record {
+      state = k.state ∙ ap (λ os. let s : State = record { document = document_of rows; added = length rows; open_sessions = os } in s) (sym (same (document_of rows)));
+      three = k.three;
+      few_rows = k.few_rows;
+      by_name = kept_by_name (document_of rows) ys g.by_name;
+      few = kept_few (document_of rows) (counted es) ys g;
+      left = k.left;
+    })
+
+-- ---- whether a session is open
+
+module _ (users : List User) (es : List Entry) (rows : List (List CellValue)) (xs : List SessionState) (bytes : Option ℕ) (name : List ℕ) (k : IsCore users es rows xs bytes) where
+  found_as : (o : Option Open) → find_id session_name name (map (open_of (document_of rows)) xs) ≡ o → is_some (session_of name (state_after users es)) ≡ is_some o
+  found_as o f = ap (λ s. is_some (session_of name s)) k.state ∙ ap is_some f
+
+  pub open_found : (p : ℕ) → Finds name xs p → is_some (session_of name (state_after users es)) ≡ true
+  open_found p f =
+      let s : Document = document_of rows in
+      let x = get_or xs p some_session in
+      let P : List SessionState → Type 0 = λ l. find_id session_name name (opens s l) ≡ Some (open_of s x) in
+      found_as (Some (open_of s x)) (subst P (around xs p some_session f.within)
+      (ap (find_id session_name name) (opens-append s (take p xs) (x ∷ drop (suc p) xs))
+      ∙ find_at session_name name (opens s (take p xs)) (opens s (drop (suc p) xs)) (open_of s x) (opens_below s name (take p xs) f.spot.below) (f.named some_session)))
+
+  pub open_missed : (p : ℕ) → Misses name xs p → is_some (session_of name (state_after users es)) ≡ false
+  open_missed p m =
+      let s : Document = document_of rows in
+      let P : List SessionState → Type 0 = λ l. find_id session_name name (opens s l) ≡ None in
+      found_as None (subst P (take-append-drop p xs)
+      (ap (find_id session_name name) (opens-append s (take p xs) (drop p xs))
+      ∙ find_absent_at session_name name (opens s (take p xs)) (opens s (drop p xs)) (opens_below s name (take p xs) m.spot.below) (opens_above s name (drop p xs) m.spot.above)))
+
+  pub open_as : (r : Result ℕ ℕ) → MatchResult r (λ p. Finds name xs p) (λ p. Misses name xs p) → is_ok r ≡ is_some (session_of name (state_after users es))
+  open_as (Ok p) f = sym (open_found p f)
+  open_as (Err p) m = sym (open_missed p m)
+
+-- where the session of an entry without effect is not open, nothing is given
+pub given_none : (users : List User) (st : State) (e : Entry) → e.request ≡ request.Gone → is_some (session_of e.session st) ≡ false → given users st e ≡ []
+given_none users st e is closed =
+    let m : Option Mailbox = mailbox_of e.session st in
+    ap (λ v. (turn_of st e v).lines) (verdicts_gone users st e is)
+    ∙ elim (session_of e.session st) as (λ o. is_some o ≡ false → (own (option_map (λ (x : Open). x.mailbox) o) e.request quiet None).lines ≡ []) [
+      | None ↦ λ _. ap (λ r. (own None r quiet None).lines) is
+      | Some x ↦ λ found. absurd (false≢true (sym found))
+    ] closed

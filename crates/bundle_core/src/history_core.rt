@@ -1,0 +1,174 @@
+//! The core: a document and its sessions as a history of requests leads to them.
+
+ghost use Rattle.std.specs.Prelude.{ℕ, ◌≡◌, true, false, [], IfOk, OnErr, ◌+◌, is_some, nat_lt};
+ghost use Rattle.bundle_core.specs.Core.{bytes_left, entry_of, has_no_effect, is_full, is_gone, size_bound, state_after, IsStep};
+ghost use Rattle.bundle_core.specs.Steps.{IsAnswer};
+ghost use Rattle.bundle_core.specs.State.{session_of};
+
+use crate::desk::answer;
+use crate::seek::place_of;
+use crate::session::OpenSession;
+use cell_types::{Name, Sequence, ValueList};
+use doc_model::{Entry, EntryList, Request, UserList};
+use grist_json::Line;
+use std::alloc::{AllocError, Global};
+use std::marker::Model;
+
+/// How many entries a history may have before a step answers that it is full.
+pub const MAX_ENTRIES: usize = 1_048_576;
+
+/// How many bytes the lines of a history may have together.
+pub const MAX_HISTORY_BYTES: u32 = 268_435_456;
+
+/// The lines that are given at an entry.
+pub type LineList = Sequence<Line>;
+
+/// What a step answers.
+#[derive(Debug, Drop)]
+pub enum Answer {
+    /// The lines that the session is given, in this order.
+    Lines(LineList),
+    /// The history has no room for the request.
+    Full,
+}
+
+/// A document, its open sessions and its history. It is seen as its users and the history: all else
+/// is what the history leads to.
+#[derive(Drop)]
+pub struct Core {
+    users: UserList,
+    rows: Vec<ValueList>,
+    sessions: Vec<OpenSession>,
+    entries: Vec<Entry>,
+    bytes_left: Option<u32>,
+}
+
+impl Model for Core {
+    ghost use Rattle.bundle_core.specs.Core.{CoreState, IsCore};
+
+    ghost Value = { CoreState };
+
+    ghost view = { λ c. record { users = c.users; history = c.entries.items } };
+
+    ghost invariant = { λ c. IsCore c.users c.entries.items c.rows.items c.sessions.items c.bytes_left };
+}
+
+impl Core {
+    /// A core of a new document that nobody has opened yet.
+    pub fn new(alloc: Global, users: UserList) -> Self
+        ensures { result ≡ record { users = users; history = [] } }
+    {
+        Core {
+            users,
+            rows: Vec::new(alloc),
+            sessions: Vec::new(alloc),
+            entries: Vec::new(alloc),
+            bytes_left: Some(MAX_HISTORY_BYTES),
+        }
+    }
+
+    /// Takes one request of a session, and answers with the lines that the session is given.
+    ///
+    /// Units: the size is the byte count of the request's line.
+    /// Errors: `Full` where the history has no room for the request; it changes nothing.
+    /// Memory: where there is none, nothing changes.
+    pub fn step(
+        &mut self,
+        alloc: Global,
+        session: &Name,
+        request: Request,
+        size: u32,
+    ) -> Result<Answer, AllocError>
+        ensures ok { IfOk result (λ a. IsAnswer self.old self.new (entry_of session.now request size) a) }
+        ensures err { OnErr result (self.new ≡ self.old) }
+    {
+        if self.is_full(&request, size) {
+            return Ok(Answer::Full);
+        }
+        let entry = Entry {
+            session: session.clone()?,
+            request,
+            size,
+            kept: true,
+        };
+        if self.has_no_effect(&entry) {
+            return Ok(Answer::Lines(LineList::from(Vec::new(alloc))));
+        }
+        Ok(Answer::Lines(self.take(alloc, entry)?))
+    }
+
+    // Takes an entry that there is room for.
+    fn take(&mut self, alloc: Global, entry: Entry) -> Result<LineList, AllocError>
+        requires room { is_full self.old.history entry.request entry.size ≡ false }
+        requires effect { has_no_effect self.old entry ≡ false }
+        requires kept { entry.kept ≡ true }
+        ensures ok { IfOk result (λ lines. IsStep self.old self.new entry lines) }
+        ensures err { OnErr result (self.new ≡ self.old) }
+    {
+        self.entries.reserve(1)?;
+        let users = self.users.as_slice();
+        let lines = answer(alloc, users, &mut self.rows, &mut self.sessions, &entry)?;
+        self.bytes_left = left_after(self.bytes_left, entry.size);
+        self.entries.push_reserved(entry);
+        Ok(LineList::from(lines))
+    }
+
+    /// The entries so far.
+    pub fn history(&self) -> &[Entry]
+        ensures { result.now ≡ self.now.history }
+    {
+        self.entries.as_slice()
+    }
+
+    /// Ends the core, and gives its history.
+    pub fn finish(self) -> EntryList
+        ensures { result ≡ self.history }
+    {
+        EntryList::from(self.entries)
+    }
+
+    fn is_full(&self, request: &Request, size: u32) -> bool
+        ensures { result ≡ is_full self.now.history request.now size }
+    {
+        !is_gone(request) && (self.entries.len() >= MAX_ENTRIES || is_past(self.bytes_left, size))
+    }
+
+    fn has_no_effect(&self, entry: &Entry) -> bool
+        ensures { result ≡ has_no_effect self.now entry.now }
+    {
+        is_gone(&entry.request) && !self.is_open(&entry.session)
+    }
+
+    fn is_open(&self, session: &Name) -> bool
+        ensures { result ≡ is_some (session_of session.now (state_after self.now.users self.now.history)) }
+    {
+        place_of(&self.sessions, session).is_ok()
+    }
+}
+
+fn is_gone(request: &Request) -> bool
+    ensures { result ≡ is_gone request.now }
+{
+    match request {
+        Request::Gone => true,
+        _ => false,
+    }
+}
+
+fn is_past(left: Option<u32>, size: u32) -> bool
+    ensures { (sum : ℕ) → left ≡ bytes_left sum → result ≡ nat_lt size_bound (sum + size) }
+{
+    match left {
+        Some(left) => left < size,
+        None => true,
+    }
+}
+
+fn left_after(left: Option<u32>, size: u32) -> Option<u32>
+    ensures { (sum : ℕ) → left ≡ bytes_left sum → result ≡ bytes_left (sum + size) }
+{
+    match left {
+        Some(left) if size <= left => Some(left - size),
+        _ => None,
+    }
+}

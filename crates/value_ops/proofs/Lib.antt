@@ -1,0 +1,3 @@
+mod Divisions
+mod Equalities
+mod Parts

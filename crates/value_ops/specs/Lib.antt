@@ -1,0 +1,9 @@
+pub mod Answer
+pub mod Containment
+pub mod Division
+pub mod Equality
+pub mod Joined
+pub mod Kind
+pub mod Numbers
+pub mod Order
+pub mod Truth

@@ -30,13 +30,13 @@ pub record Filled (now next : LineState) (left_now left_new : Option (List ℕ))
   pub few : length next.ahead ≤ 65536 * turn
   pub spare : now.turns < 4294967296
 
-consumes_both : (x y z : Option (List ℕ)) (a b : List ℕ) → Consumes x y a → Consumes y z b → Consumes x z (a ++ b)
+pub consumes_both : (x y z : Option (List ℕ)) (a b : List ℕ) → Consumes x y a → Consumes y z b → Consumes x z (a ++ b)
 consumes_both None y z a b p q = tt
 consumes_both (Some xs) None z a b p q = absurd p
 consumes_both (Some xs) (Some ys) None a b p q = absurd q
 consumes_both (Some xs) (Some ys) (Some zs) a b p q = p ∙ ap (λ l. a ++ l) q ∙ sym (append_assoc a b zs)
 
-consumes_keeps : (x y z : Option (List ℕ)) (a : List ℕ) → Consumes x y a → Keeps y z → Consumes x z a
+pub consumes_keeps : (x y z : Option (List ℕ)) (a : List ℕ) → Consumes x y a → Keeps y z → Consumes x z a
 consumes_keeps None y z a p q = tt
 consumes_keeps (Some xs) None z a p q = absurd p
 consumes_keeps (Some xs) (Some ys) None a p q = absurd q

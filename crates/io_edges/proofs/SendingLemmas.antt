@@ -4,13 +4,13 @@ use Rattle.std.proofs.lemmas.List.{take-append-drop}
 use Rattle.std.specs.Io.KnownBytes.{Appends, Keeps}
 use Rattle.io_edges.specs.Sending.{Sends, SendsFront}
 
-appends_both : (x y z : Option (List ℕ)) (a b : List ℕ) → Appends x y a → Appends y z b → Appends x z (a ++ b)
+pub appends_both : (x y z : Option (List ℕ)) (a b : List ℕ) → Appends x y a → Appends y z b → Appends x z (a ++ b)
 appends_both None y z a b p q = tt
 appends_both (Some xs) None z a b p q = absurd p
 appends_both (Some xs) (Some ys) None a b p q = absurd q
 appends_both (Some xs) (Some ys) (Some zs) a b p q = q ∙ ap (λ l. l ++ b) p ∙ append_assoc xs a b
 
-appends_keeps : (x y z : Option (List ℕ)) (a : List ℕ) → Appends x y a → Keeps y z → Appends x z a
+pub appends_keeps : (x y z : Option (List ℕ)) (a : List ℕ) → Appends x y a → Keeps y z → Appends x z a
 appends_keeps None y z a p q = tt
 appends_keeps (Some xs) None z a p q = absurd p
 appends_keeps (Some xs) (Some ys) None a p q = absurd q

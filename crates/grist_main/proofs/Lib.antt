@@ -1,0 +1,9 @@
+pub mod Sent
+pub mod Answered
+pub mod Kept
+pub mod Coming
+pub mod Said
+pub mod Admitting
+pub mod HeardLaws
+pub mod ServingLaws
+pub mod EndLaws

@@ -1,0 +1,11 @@
+pub mod Script
+pub mod UserLines
+pub mod Admission
+pub mod Asked
+pub mod Sending
+pub mod Answering
+pub mod Words
+pub mod Run
+pub mod Hearing
+pub mod Reading
+pub mod Serving

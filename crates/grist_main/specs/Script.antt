@@ -1,0 +1,40 @@
+-- What the lines of an input ask for.
+use Rattle.std.specs.Prelude.{ℕ, List, [], ◌∷◌, ◌++◌, codes, Bool, ◌||◌, ◌==◌, nat_lt, length, Option, Some, None, if◌then◌else◌}
+use Rattle.std.specs.List.{list_all}
+use Rattle.doc_model.specs.declared.entry.Entry.{Entry}
+use Rattle.doc_model.specs.declared.request.Request.TheVariants.{Bad, TooLong}
+use Rattle.grist_json.specs.declared.frames.Frame.{Frame}
+use Rattle.grist_json.specs.Frames.{frame_at}
+use Rattle.bundle_core.specs.Core.{entry_of}
+
+-- white space of JSON
+abbrev pub is_space : ℕ → Bool
+is_space b = (b == 32) || (b == 9) || (b == 13) || (b == 10)
+
+-- a line that is passed over
+abbrev pub is_blank : List ℕ → Bool
+is_blank text = list_all is_space text
+
+-- more bytes than a line may have
+abbrev pub is_long : List ℕ → Bool
+is_long text = nat_lt 1048576 (length text)
+
+-- the session of lines that are no frame; no frame can name it
+abbrev pub nobody : List ℕ
+nobody = codes "_"
+
+-- the entry of a line of that size, by the frame that it spells
+abbrev pub framed_entry : Option Frame → ℕ → Entry
+framed_entry None size = entry_of nobody Bad size
+framed_entry (Some f) size = entry_of f.session f.request size
+
+-- the entries that a line makes: none, if it is white space alone, and else one
+abbrev pub line_entries : List ℕ → List Entry
+line_entries text =
+    if is_long text then entry_of nobody TooLong 1048577 ∷ []
+    else if is_blank text then [] else framed_entry (frame_at text) (length text) ∷ []
+
+-- the entries that lines make, in their order
+abbrev pub entries_of : List (List ℕ) → List Entry
+entries_of [] = []
+entries_of (l ∷ ls) = line_entries l ++ entries_of ls

@@ -13,8 +13,11 @@ same_taken e = cc
 same_stopped : {h k : List Entry} → stops_at h ≡ stops_at k → h ≡ k
 same_stopped e = cc
 
-takes≢stops : {h k : List Entry} → takes_all h ≡ stops_at k → ⊥
+pub takes≢stops : {h k : List Entry} → takes_all h ≡ stops_at k → ⊥
 takes≢stops e = cc
+
+some≢none : {x : Entry} {es : List Entry} → x ∷ es ≡ [] → ⊥
+some≢none e = cc
 
 -- what a history takes of one entry and then the others, by whether it is full
 abbrev next : List Entry → Entry → List Entry → Bool → Admission
@@ -48,3 +51,17 @@ admitted-front h k (x ∷ es) e =
           let rest = admitted-front (h ++ x ∷ []) k es no in
           (rest.0, sym (append_assoc h (x ∷ []) es) ∙ rest.1)
     ] e
+
+-- behind an entry that a history is full for nothing is looked at
+pub admitted-stays : (h k es fs : List Entry) → admitted h es ≡ stops_at k → admitted h (es ++ fs) ≡ stops_at k
+admitted-stays h k [] fs e = absurd (takes≢stops e)
+admitted-stays h k (x ∷ es) fs e =
+    elim (is_full h x.request x.size) as (λ b. next h x es b ≡ stops_at k → next h x (es ++ fs) b ≡ stops_at k) [
+      | true ↦ λ yes. yes
+      | false ↦ λ no. admitted-stays (h ++ x ∷ []) k es fs no
+    ] e
+
+-- no entries have no front but none
+pub no_front : (h more : List Entry) → h ++ more ≡ [] → h ≡ []
+no_front [] more e = refl
+no_front (x ∷ h) more e = absurd (some≢none e)

@@ -11,7 +11,7 @@ use Rattle.io_edges.proofs.LineLemmas.{lines_of-rest, lines_of-stream_of, stream
 use Rattle.io_edges.proofs.ReadingLemmas.{consumes_both, consumes_none}
 use Rattle.grist_main.specs.Run.{Came, CameAll}
 
-stream_of-append : (ls : List (List ℕ)) (a b : List ℕ) → stream_of ls a ++ b ≡ stream_of ls (a ++ b)
+pub stream_of-append : (ls : List (List ℕ)) (a b : List ℕ) → stream_of ls a ++ b ≡ stream_of ls (a ++ b)
 stream_of-append [] a b = refl
 stream_of-append (l ∷ ls) a b = append_assoc l (10 ∷ stream_of ls a) b ∙ ap (λ r. l ++ 10 ∷ r) (stream_of-append ls a b)
 

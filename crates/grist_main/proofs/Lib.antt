@@ -7,3 +7,4 @@ pub mod Admitting
 pub mod HeardLaws
 pub mod ServingLaws
 pub mod EndLaws
+pub mod ToldLaws

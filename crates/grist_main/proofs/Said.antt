@@ -50,6 +50,17 @@ script-asks n us users (l ∷ ls) ks r rs e =
       | ends ↦ λ h. ap (λ v. script v (l ∷ ls ++ ks)) (script_users h) ∙ ap (λ v. script users (v ++ ks)) (script_lines h)
     ] e
 
+-- behind a bad user line nothing is heard
+pub script-bad : (n k : ℕ) (us : List User) (ls ks : List (List ℕ)) → script_from n us ls ≡ bad_user k → script_from n us (ls ++ ks) ≡ bad_user k
+script-bad n k us [] ks e = absurd (bad≢script (sym e))
+script-bad n k us (l ∷ ls) ks e =
+    elim (saying us l) as (λ s. goes_on n us l ls s ≡ bad_user k → goes_on n us l (ls ++ ks) s ≡ bad_user k) [
+      | passes ↦ λ h. script-bad (n + 1) k us ls ks h
+      | adds u ↦ λ h. script-bad (n + 1) k (us ++ u ∷ []) ls ks h
+      | fails ↦ λ h. h
+      | ends ↦ λ h. absurd (bad≢script (sym h))
+    ] e
+
 -- the same, where the last of them is known
 pub script-asks_more : (us : List User) (ls ks rs : List (List ℕ)) (t : List ℕ) → script_of ls ≡ script us (rs ++ t ∷ []) → script_of (ls ++ ks) ≡ script us ((rs ++ t ∷ []) ++ ks)
 script-asks_more us ls ks [] t e = script-asks 1 [] us ls ks t [] e

@@ -9,3 +9,4 @@ pub mod Run
 pub mod Hearing
 pub mod Reading
 pub mod Serving
+pub mod Told

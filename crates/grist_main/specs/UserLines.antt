@@ -62,3 +62,8 @@ script_of lines = script_from 1 [] lines
 abbrev pub asking_lines : Script → List (List ℕ)
 asking_lines (bad_user n) = []
 asking_lines (script users lines) = lines
+
+-- the users that were said
+abbrev pub users_said : Script → List User
+users_said (bad_user n) = []
+users_said (script users lines) = users

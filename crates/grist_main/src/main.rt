@@ -16,6 +16,8 @@ mod running;
 mod sending;
 mod serving;
 mod status;
+#[cfg(test)]
+mod tests;
 mod user_lines;
 mod words;
 
@@ -23,9 +25,8 @@ use crate::running::run;
 use crate::status::Status;
 use io_edges::{StdSink, StdSource};
 use std::alloc::AllocError;
-use std::env;
-use std::io;
 use std::process::ExitCode;
+use std::{env, io};
 
 // The words behind the program's own name.
 fn words_of(rt: &HostRuntime) -> io::Result<Vec<String>> {

@@ -1,10 +1,11 @@
 //! A run: its words, its users, its requests and its end.
-ghost use Rattle.std.specs.Prelude.{◌≡◌, ◌≤◌, ◌↔◌, ◌⊎◌, false, [], map, string_bytes, ℕ, List, Option};
+ghost use Rattle.std.specs.Prelude.{◌≡◌, ◌≤◌, ◌↔◌, ◌⊎◌, false, [], map, string_bytes, ℕ, List, Option, Some};
 ghost use Rattle.io_edges.specs.Causes.{Rose};
 ghost use Rattle.doc_model.specs.declared.entry.Entry.{Entry};
 ghost use Rattle.grist_main.specs.Hearing.{IsAt};
 ghost use Rattle.grist_main.specs.Run.{IsRun};
 ghost use Rattle.grist_main.specs.Serving.{EndsServing};
+ghost use Rattle.grist_main.specs.Told.{Follows};
 ghost use Rattle.grist_main.specs.Words.{asks_replay};
 
 use crate::serving::serve;
@@ -31,6 +32,7 @@ pub fn run<S: Source, O: Sink>(
 ) -> Outcome
     ensures usage { (result.status ≡ Status.Usage) ↔ (asks_replay (map string_bytes words.now) ≡ false) }
     ensures replay { IsRun result.status (S.left input.old) (S.left input.new) result.history (O.written out.old) (O.written out.new) }
+    ensures told { (bytes : List ℕ) → S.left input.old ≡ Some bytes → Follows result.status bytes (S.left input.new) result.history (O.written out.old) (O.written out.new) }
     ensures read_fault { result.status ≡ Status.ReadFault → Rose (S.faults input.old) (S.faults input.new) }
     ensures write_fault { result.status ≡ Status.WriteFault → Rose (O.faults out.old) (O.faults out.new) }
 {

@@ -1,5 +1,4 @@
 pub mod JsonLemmas
-pub mod NameLemmas
 pub mod StepLemmas
 pub mod FieldLemmas
 pub mod NumberLemmas

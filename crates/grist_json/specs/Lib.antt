@@ -12,4 +12,3 @@ pub mod Actions
 pub mod Replies
 pub mod Lines
 pub mod Laws
-pub mod SessionNames

@@ -7,9 +7,9 @@ ghost use Rattle.grist_json.specs.declared.frames.Frame.{Frame};
 use crate::fields::Fields;
 use crate::json_text::json_of;
 use crate::requests::request_of;
-use crate::session_name::is_name;
 use cell_types::{CellText, Name};
 use doc_model::Request;
+use name_rules::is_name;
 use serde_json::Value;
 use std::alloc::{AllocError, Global};
 

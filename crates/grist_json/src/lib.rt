@@ -1,13 +1,13 @@
 //! Lines of JSON: what requests, frames and users they spell, and how replies are printed.
 //!
-//! Stands on `doc_model` and `cell_types` (what is read and printed), `serde_json` (the text of JSON)
-//! and `unicode_ident` (characters of names). Used by the core and the program.
+//! Stands on `doc_model` and `cell_types` (what is read and printed), `name_rules` (names of sessions)
+//! and `serde_json` (the text of JSON). Used by the core and the program.
 //!
 //! Promises: each reader answers the thing that the bytes spell, and nothing exactly where there is
 //! none; bytes spell at most one thing. Each writer gives the compact text, keys sorted, of the JSON
 //! that stands for its argument, and that text reads back as this JSON.
 //! Not promised: that a line is not too long, which whoever reads lines has to test.
-//! Read first: requests.rt, then frames.rt and replies.rt.
+//! Read first: requests.rt, then frames.rt and printed_replies.rt.
 #![tactic(auto)]
 
 mod columns;
@@ -22,7 +22,6 @@ mod printed_actions;
 mod printed_replies;
 mod printed_values;
 mod requests;
-mod session_name;
 #[cfg(test)]
 mod tests;
 mod users;

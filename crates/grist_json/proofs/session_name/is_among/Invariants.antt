@@ -1,8 +1,0 @@
-use Rattle.std.proofs.Common.{◌≡◌, drop}
-use Rattle.std.specs.Str.{bytes_eq}
-use Rattle.std.specs.List.{list_any}
-use Rattle.grist_json.proofs.session_name.is_among.Given as goal
-
-abbrev pub invariant-loop-word : goal.invariant-loop-word
-invariant-loop-word l =
-    list_any (λ word. bytes_eq word.now l.fn.text) (drop l.word-index l.words) ≡ list_any (λ word. bytes_eq word.now l.fn.text) l.words

@@ -1,1 +1,3 @@
+pub mod FreeNumbers
 mod NameLemmas
+pub mod NumberedNames

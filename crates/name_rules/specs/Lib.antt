@@ -1,1 +1,2 @@
+pub mod FreeName
 pub mod NameStart

@@ -1,16 +1,21 @@
-//! Names: which texts may be one.
+//! Names: which texts may be one, and which one is free beside taken ones.
 //!
 //! Stands on `cell_types` (names, and the definition of a good one) and `unicode_ident`.
-//! Used by the crates that read or make names.
+//! No other crate of the repository uses it yet.
 //!
 //! Promises: `is_name` is the definition in specs/NameRule.antt of `cell_types`, and takes no memory;
-//! what it takes has the length of a name.
-//! Not promised: a free id beside taken ones is not made here yet.
-//! Read first: name_rule.rt.
+//! what it takes has the length of a name. `free_name` is the definition in specs/FreeName.antt: the
+//! wanted id where it is free, otherwise the wanted id with the least number from 2 upwards that
+//! makes it free. There always is such a number, and a good name stays one.
+//! Not promised: how many numbers are tried, beyond 12 for each taken name and 100 more; that memory
+//! is found.
+//! Read first: name_rule.rt, specs/FreeName.antt, free_id.rt.
 #![tactic(auto)]
 
+mod free_id;
 mod name_rule;
 #[cfg(test)]
 mod tests;
 
+pub use free_id::free_name;
 pub use name_rule::is_name;

@@ -10,7 +10,7 @@ ghost use Rattle.cell_types.specs.NameRule.{is_reserved, has_name_characters, is
 use unicode_ident::{is_xid_continue, is_xid_start};
 
 /// How many characters a name has at most.
-const MAX_NAME_CHARACTERS: usize = 64;
+pub(crate) const MAX_NAME_CHARACTERS: usize = 64;
 
 /// The words of formulas, none of which is a name.
 const RESERVED_WORDS: [&str; 37] = [

@@ -1,14 +1,13 @@
 -- The edits that lead to a table with one row more: that row alone.
-use Rattle.std.proofs.Common.{◌≡◌, ℕ, Bool, true, false, cond, not, ◌&&◌, ◌||◌, List, [], ◌∷◌, ◌++◌, map, filter, nat_eq, Option, Some, None, unwrap_or, refl, sym, ap, ◌∙◌}
+use Rattle.std.proofs.Common.{◌≡◌, ℕ, true, false, cond, not, ◌&&◌, ◌||◌, List, [], ◌∷◌, ◌++◌, map, filter, nat_eq, Some, None, unwrap_or, refl, sym, ap, ◌∙◌}
 use Rattle.std.proofs.lemmas.Bool.{eqb-true, or_right}
-use Rattle.std.proofs.lemmas.List.{append-nil}
 use Rattle.doc_model.specs.declared.column.CellColumn.{CellColumn}
 use Rattle.doc_model.specs.declared.view.ViewCol.{ViewCol}
-use Rattle.doc_model.specs.ByIds.{find_id, has_id}
-use Rattle.doc_model.specs.Grid.{Grid, grid_of, cell}
-use Rattle.doc_model.specs.Records.{given, add_rows, column_of}
+use Rattle.doc_model.specs.ByIds.{has_id}
+use Rattle.doc_model.specs.Grid.{Grid, cell}
+use Rattle.doc_model.specs.Records.{given, add_rows}
 use Rattle.doc_model.specs.Rows.{has, insert_row, without, IsAscending}
-use Rattle.doc_model.specs.ViewEdits.{shown_id, shown_start, IsShown, Edit, remove_column, add_column, modify_column, remove, add, if_any, whole, differs, shape_edits, cell_edits, all_edited, edits}
+use Rattle.doc_model.specs.ViewEdits.{shown_id, shown_start, IsShown, remove_column, add_column, modify_column, remove, add, if_any, whole, differs, shape_edits, cell_edits, all_edited, edits}
 use Rattle.doc_model.proofs.ByIdsLaws.{has_found}
 use Rattle.doc_model.proofs.Choices.{filter_none}
 use Rattle.doc_model.proofs.GridLaws.{cell-grid_of, filled_again}

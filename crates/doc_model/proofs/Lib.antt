@@ -27,3 +27,6 @@ pub mod WeightLaws
 pub mod CountSteps
 pub mod SchemaCounts
 pub mod AddedRow
+pub mod PeakSums
+pub mod PeakSteps
+pub mod SchemaPeaks

@@ -16,6 +16,7 @@ pub mod Readers
 pub mod Counts
 pub mod DocumentLaws
 pub mod CountLaws
+pub mod PeakLaws
 pub mod Same
 pub mod ViewEdits
 pub mod Changes

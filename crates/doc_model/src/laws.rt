@@ -2,6 +2,7 @@
 
 ghost use Rattle.doc_model.specs.CountLaws.{CountsLaw};
 ghost use Rattle.doc_model.specs.DocumentLaws.{InverseAllLaw, InverseLaw, KeptLaw, NewDocumentLaw};
+ghost use Rattle.doc_model.specs.PeakLaws.{PeaksLaw};
 ghost use Rattle.doc_model.specs.ViewLaws.{ChangesFitLaw, NoChangesLaw, PatchLaw};
 
 /// The new document is sound and agrees with its schema.
@@ -29,6 +30,12 @@ pub fn inverse_all_law()
 /// brought.
 pub fn counts_law()
     ensures { CountsLaw }
+{}
+
+/// The most columns, the most rows and the greatest row id of a table after a valid action are the
+/// greatest among what the document before it and the action tell of each table.
+pub fn peaks_law()
+    ensures { PeaksLaw }
 {}
 
 /// Patching a view with the changes to another view gives the other.

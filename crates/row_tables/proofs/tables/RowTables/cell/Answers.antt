@@ -1,0 +1,14 @@
+use Rattle.std.proofs.Common.{sym, ap, ◌∙◌}
+use Rattle.doc_model.specs.ByIds.{find_id}
+use Rattle.doc_model.specs.Document.{table_id}
+use Rattle.doc_model.specs.Readers.{cell_at}
+use Rattle.row_tables.proofs.KeptLaws.{told_by, cell-found}
+use Rattle.row_tables.proofs.tables.RowTables.cell.Goals as goal
+
+pub returns : goal.returns
+returns c =
+    told_by c.cell.result (cell_at c.args.self.now c.args.table.now c.args.column.now c.args.row)
+    (c.cell.ensures
+    ∙ cell-found c.self.inside.tables.items c.args.table.now c.args.column.now c.args.row c.in_ok-find_table.field-0.now c.self.invariant.sound
+    (sym (c.in_ok-find_table.ensures ∙ ap (find_id table_id c.args.table.now) c.deref.ensures.value))
+    ∙ ap (λ s. cell_at s c.args.table.now c.args.column.now c.args.row) c.self.view_is)

@@ -1,0 +1,4 @@
+pub mod TableCode
+pub mod Known
+pub mod Spots
+pub mod Kept

@@ -1,0 +1,19 @@
+-- Where the description of a column goes.
+use Rattle.std.specs.Prelude.{ℕ, Bool, false, ◌+◌, cond, nat_le, nat_eq, List, [], ◌∷◌, map, Some, None, slice_get}
+use Rattle.doc_model.specs.declared.column.ColDef.{ColDef}
+use Rattle.doc_model.specs.Schema.{Described, described_row}
+
+-- the first one whose row is not below, or the end
+abbrev pub described_place : ℕ → List Described → ℕ
+described_place row [] = 0
+described_place row (e ∷ es) = cond (nat_le row (described_row e)) 0 (described_place row es + 1)
+
+-- whether one of that row stands at the place
+abbrev pub stands_at : ℕ → ℕ → List Described → Bool
+stands_at row place es =
+    elim (slice_get es place) [ None ↦ false | Some e ↦ nat_eq (described_row e) row ]
+
+-- the columns of one table
+abbrev pub columns_of : ℕ → List ColDef → List Described
+columns_of parent columns =
+    map (λ (d : ColDef). let e : Described = record { parent = parent; column = d } in e) columns

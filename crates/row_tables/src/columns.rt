@@ -1,0 +1,186 @@
+//! What schema actions make of one table.
+
+ghost use Rattle.std.specs.Prelude.{◌≡◌, IfOk};
+ghost use Rattle.cell_types.specs.declared.value.CellValue.TheVariants.{Null};
+ghost use Rattle.doc_model.specs.Apply.{add_column, new_table, remove_column, with_column, with_info, with_name};
+ghost use Rattle.doc_model.specs.ByIds.{with_id, without_id};
+ghost use Rattle.doc_model.specs.Column.{column_id, column_row};
+ghost use Rattle.doc_model.specs.Document.{by_row, on_grid, put_by_row, renamed};
+
+use crate::RowTable;
+use crate::copies::{copy_of_column, copy_of_name};
+use crate::fill::{CellSource, Kept};
+use crate::records::start_of;
+use cell_types::{CellValue, Name};
+use doc_model::{ColDef, ColInfo, place_of_column};
+use std::alloc::{AllocError, Global};
+
+// Puts a column before the first one with a greater row.
+fn put_column(columns: &mut Vec<ColDef>, column: ColDef) -> Result<(), AllocError>
+    ensures { IfOk result (λ _. columns.new.items ≡ put_by_row column_row column columns.old.items) }
+{
+    let place = place_of_column(columns, column.row);
+    columns.insert(place, column)?;
+    Ok(())
+}
+
+/// The columns in the order of their rows.
+///
+/// Cost: the square of their number.
+fn columns_by_row(alloc: Global, columns: &[ColDef]) -> Result<Vec<ColDef>, AllocError>
+    ensures { IfOk result (λ v. v.items ≡ by_row column_row columns.now) }
+{
+    let mut sorted = Vec::with_capacity(alloc, columns.len())?;
+    for passed in 0..columns.len() {
+        let column = copy_of_column(&columns[columns.len() - 1 - passed])?;
+        put_column(&mut sorted, column)?;
+    }
+    Ok(sorted)
+}
+
+// The columns but those of this id.
+fn columns_without(alloc: Global, columns: &[ColDef], id: &Name) -> Result<Vec<ColDef>, AllocError>
+    ensures { IfOk result (λ v. v.items ≡ without_id column_id id.now columns.now) }
+{
+    let mut left = Vec::with_capacity(alloc, columns.len())?;
+    for column in columns {
+        if column.id.as_str() != id.as_str() {
+            left.push(column.clone()?)?;
+        }
+    }
+    Ok(left)
+}
+
+// The columns, and those of this id under the new one.
+fn columns_renamed(
+    alloc: Global,
+    columns: &[ColDef],
+    id: &Name,
+    new: &Name,
+) -> Result<Vec<ColDef>, AllocError>
+    ensures { IfOk result (λ v. v.items ≡ with_id column_id id.now (with_name new.now) columns.now) }
+{
+    let mut changed = Vec::with_capacity(alloc, columns.len())?;
+    for column in columns {
+        let mut copy = column.clone()?;
+        if column.id.as_str() == id.as_str() {
+            copy.id = new.clone()?;
+        }
+        changed.push(copy)?;
+    }
+    Ok(changed)
+}
+
+// The columns, and those of this id with the new info.
+fn columns_modified(
+    alloc: Global,
+    columns: &[ColDef],
+    id: &Name,
+    info: &ColInfo,
+) -> Result<Vec<ColDef>, AllocError>
+    ensures { IfOk result (λ v. v.items ≡ with_id column_id id.now (with_info info.now) columns.now) }
+{
+    let mut changed = Vec::with_capacity(alloc, columns.len())?;
+    for column in columns {
+        let mut copy = column.clone()?;
+        if column.id.as_str() == id.as_str() {
+            copy.info = info.clone()?;
+        }
+        changed.push(copy)?;
+    }
+    Ok(changed)
+}
+
+// A table with a new column.
+#[derive(Drop)]
+struct Widened<'a> {
+    alloc: Global,
+    table: &'a RowTable,
+    new: &'a ColDef,
+}
+
+impl CellSource for Widened<'_> {
+    ghost use Rattle.std.specs.Prelude.{cond};
+    ghost use Rattle.std.specs.Str.{bytes_eq};
+    ghost use Rattle.doc_model.specs.Grid.{cell};
+    ghost use Rattle.doc_model.specs.Column.{column_id, start_of};
+
+    ghost value_at = { λ a d r. cond (bytes_eq d.id a.new.now.id) (start_of a.new.now) (cell column_id a.table.now.grid d.id r) };
+
+    fn value(&self, column: &ColDef, row: u32) -> Result<CellValue, AllocError> {
+        if column.id.as_str() == self.new.id.as_str() {
+            Ok(start_of(self.alloc, self.new))
+        } else {
+            self.table.stored(&column.id, row)
+        }
+    }
+}
+
+impl RowTable {
+    /// A table of these columns in the order of their rows, without rows.
+    pub fn empty(
+        alloc: Global,
+        id: &Name,
+        row: u32,
+        columns: &[ColDef],
+    ) -> Result<RowTable, AllocError>
+        ensures { IfOk result (λ t. t ≡ new_table id.now row columns.now) }
+    {
+        Ok(RowTable {
+            id: id.clone()?,
+            row,
+            columns: columns_by_row(alloc, columns)?,
+            rows: Vec::new(alloc),
+            cells: Vec::new(alloc),
+        })
+    }
+
+    /// The table under another id.
+    pub fn named(&self, new: &Name) -> Result<RowTable, AllocError>
+        ensures { IfOk result (λ t. t ≡ renamed new.now self.now) }
+    {
+        let mut table = self.copy()?;
+        table.id = copy_of_name(new)?;
+        Ok(table)
+    }
+
+    /// The table with the column in its place, whose cells are as new ones are.
+    pub fn with_column(&self, new: &ColDef) -> Result<RowTable, AllocError>
+        ensures { IfOk result (λ t. t ≡ on_grid (add_column new.now) self.now) }
+    {
+        let source = Widened {
+            alloc: self.alloc(),
+            table: self,
+            new,
+        };
+        let mut columns = self.columns_copy()?;
+        put_column(&mut columns, copy_of_column(new)?)?;
+        self.refilled(columns, self.rows_copy()?, &source)
+    }
+
+    /// The table without the column of this id.
+    pub fn without_column(&self, id: &Name) -> Result<RowTable, AllocError>
+        ensures { IfOk result (λ t. t ≡ on_grid (remove_column id.now) self.now) }
+    {
+        let left = columns_without(self.alloc(), self.columns(), id)?;
+        self.refilled(left, self.rows_copy()?, &Kept { table: self })
+    }
+
+    /// The table with the column of this id under another one.
+    pub fn with_column_named(&self, id: &Name, new: &Name) -> Result<RowTable, AllocError>
+        ensures { IfOk result (λ t. t ≡ on_grid (with_column id.now (with_name new.now)) self.now) }
+    {
+        let mut table = self.copy()?;
+        table.columns = columns_renamed(self.alloc(), self.columns(), id, new)?;
+        Ok(table)
+    }
+
+    /// The table with the column of this id of another type or formula.
+    pub fn with_column_modified(&self, id: &Name, info: &ColInfo) -> Result<RowTable, AllocError>
+        ensures { IfOk result (λ t. t ≡ on_grid (with_column id.now (with_info info.now)) self.now) }
+    {
+        let mut table = self.copy()?;
+        table.columns = columns_modified(self.alloc(), self.columns(), id, info)?;
+        Ok(table)
+    }
+}

@@ -1,0 +1,128 @@
+//! The columns of all tables, as the table of columns describes them.
+
+ghost use Rattle.std.specs.Prelude.{◌≡◌, ◌++◌, IfOk, OnOk, map};
+ghost use Rattle.doc_model.specs.declared.column.ColDef.{ColDef};
+ghost use Rattle.doc_model.specs.Schema.{all_columns, described_row, in_order, put_described};
+ghost use Rattle.row_tables.specs.Spots.{columns_of, described_place, stands_at};
+
+use crate::RowTable;
+use crate::copies::copy_of_column;
+use doc_model::ColDef;
+use std::alloc::{AllocError, Global};
+use std::marker::Model;
+
+/// A column, and the row of its table.
+#[derive(Drop)]
+pub(crate) struct Described {
+    pub(crate) parent: u32,
+    pub(crate) column: ColDef,
+}
+
+impl Model for Described {
+    ghost use Rattle.doc_model.specs.Schema.{Described as Told};
+    ghost use Rattle.row_tables.specs.TableCode.{coded_described};
+
+    ghost Value = { Told };
+
+    ghost coded = { coded_described };
+
+    ghost view = { λ e. record { parent = e.parent; column = e.column } };
+}
+
+impl Described {
+    /// The row that describes the column.
+    pub(crate) fn row(&self) -> u32
+        ensures { result ≡ described_row self.now }
+    {
+        self.column.row
+    }
+
+    // A copy of a column, and the row of its table.
+    fn of(parent: u32, column: &ColDef) -> Result<Described, AllocError>
+        ensures { IfOk result (λ e. e ≡ record { parent = parent; column = column.now }) }
+    {
+        Ok(Described {
+            parent,
+            column: copy_of_column(column)?,
+        })
+    }
+}
+
+// The first one whose row is not below, or the end.
+fn place_of(sorted: &[Described], row: u32) -> usize
+    ensures { result ≡ described_place row sorted.now }
+{
+    for (place, other) in sorted.iter().enumerate() {
+        if row <= other.row() {
+            return place;
+        }
+    }
+    sorted.len()
+}
+
+// Whether a column of that row stands at the place.
+fn stands_at(sorted: &[Described], place: usize, row: u32) -> bool
+    ensures { result ≡ stands_at row place sorted.now }
+{
+    match sorted.get(place) {
+        Some(other) => other.row() == row,
+        None => false,
+    }
+}
+
+// Puts a column into its place, instead of one with its row.
+fn put_described(sorted: &mut Vec<Described>, one: Described) -> Result<(), AllocError>
+    ensures { IfOk result (λ _. sorted.new.items ≡ put_described one sorted.old.items) }
+{
+    let place = place_of(sorted, one.row());
+    if stands_at(sorted, place, one.row()) {
+        sorted[place] = one;
+    } else {
+        sorted.insert(place, one)?;
+    }
+    Ok(())
+}
+
+// Adds the columns of a table.
+fn add_columns_of(all: &mut Vec<Described>, table: &RowTable) -> Result<(), AllocError>
+    ensures { IfOk result (λ _. all.new.items ≡ all.old.items ++ columns_of table.now.row table.now.grid.columns) }
+{
+    add_columns(all, table.row(), table.columns())
+}
+
+fn add_columns(all: &mut Vec<Described>, parent: u32, columns: &[ColDef]) -> Result<(), AllocError>
+    ensures { IfOk result (λ _. all.new.items ≡ all.old.items ++ columns_of parent columns.now) }
+{
+    for column in columns {
+        all.push(Described::of(parent, column)?)?;
+    }
+    Ok(())
+}
+
+// The columns of all tables, table by table.
+fn all_columns(alloc: Global, plain: &[RowTable]) -> Result<Vec<Described>, AllocError>
+    ensures { IfOk result (λ v. v.items ≡ all_columns plain.now) }
+{
+    let mut all = Vec::new(alloc);
+    for table in plain {
+        add_columns_of(&mut all, table)?;
+    }
+    Ok(all)
+}
+
+/// The columns of all tables, in the order of their rows.
+///
+/// Cost: the square of their number.
+pub(crate) fn columns_in_order(
+    alloc: Global,
+    plain: &[RowTable],
+) -> Result<Vec<Described>, AllocError>
+    ensures { IfOk result (λ v. v.items ≡ in_order (all_columns plain.now)) }
+{
+    let mut sorted = Vec::new(alloc);
+    let mut all = all_columns(alloc, plain)?;
+    while let Some(last) = all.pop() {
+        put_described(&mut sorted, last)?;
+    }
+    Ok(sorted)
+}

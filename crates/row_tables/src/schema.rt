@@ -1,0 +1,142 @@
+//! The schema tables, made of the tables that they describe.
+
+ghost use Rattle.std.specs.Prelude.{◌≡◌, ◌∷◌, ◌++◌, [], IfOk, map};
+ghost use Rattle.cell_types.specs.declared.value.CellValue.TheVariants.{Text};
+ghost use Rattle.doc_model.specs.Document.{table_row};
+ghost use Rattle.doc_model.specs.MetadataIds.{columns_id, tables_id};
+ghost use Rattle.doc_model.specs.Schema.{columns_grid, describe, described_row, metadata_table, tables_grid, type_text};
+
+use crate::RowTable;
+use crate::described::{Described, columns_in_order};
+use crate::known::Known;
+use crate::metadata::{columns_columns, metadata_table, tables_columns};
+use cell_types::{CellText, CellValue, ColType, Name, ValueList};
+use std::alloc::{AllocError, Global};
+
+fn table_rows(alloc: Global, plain: &[RowTable]) -> Result<Vec<u32>, AllocError>
+    ensures { IfOk result (λ v. v.items ≡ map table_row plain.now) }
+{
+    let mut rows = Vec::with_capacity(alloc, plain.len())?;
+    for table in plain {
+        rows.push(table.row())?;
+    }
+    Ok(rows)
+}
+
+fn name_cells(alloc: Global, name: &Name) -> Result<ValueList, AllocError>
+    ensures { IfOk result (λ l. l ≡ Text name.now ∷ []) }
+{
+    let mut cells = ValueList::new(alloc);
+    cells.push(CellValue::Text(CellText::copy_of(alloc, name.as_str())?))?;
+    Ok(cells)
+}
+
+fn table_cells(alloc: Global, plain: &[RowTable]) -> Result<Vec<ValueList>, AllocError>
+    ensures { IfOk result (λ v. v.items ≡ map (λ t. Text t.id ∷ []) plain.now) }
+{
+    let mut cells = Vec::with_capacity(alloc, plain.len())?;
+    for table in plain {
+        cells.push(name_cells(alloc, table.id())?)?;
+    }
+    Ok(cells)
+}
+
+/// The table of tables that describes these tables.
+pub(crate) fn table_of_tables(alloc: Global, plain: &[RowTable]) -> Result<RowTable, AllocError>
+    ensures { IfOk result (λ t. t ≡ metadata_table tables_id (tables_grid plain.now)) }
+{
+    let columns = tables_columns(alloc)?;
+    let rows = table_rows(alloc, plain)?;
+    let cells = table_cells(alloc, plain)?;
+    metadata_table(alloc, Known::Tables, columns, rows, cells)
+}
+
+// A type as it is written.
+fn type_text(alloc: Global, ty: &ColType) -> Result<CellText, AllocError>
+    ensures { IfOk result (λ t. t ≡ type_text ty.now) }
+{
+    match ty {
+        ColType::Any => CellText::copy_of(alloc, "Any"),
+        ColType::Text => CellText::copy_of(alloc, "Text"),
+        ColType::Int => CellText::copy_of(alloc, "Int"),
+        ColType::Bool => CellText::copy_of(alloc, "Bool"),
+        ColType::Date => CellText::copy_of(alloc, "Date"),
+        ColType::Ref(table) => joined(alloc, "Ref:", table),
+        ColType::RefList(table) => joined(alloc, "RefList:", table),
+    }
+}
+
+fn joined(alloc: Global, word: &str, table: &Name) -> Result<CellText, AllocError>
+    ensures { IfOk result (λ t. t ≡ word.now ++ table.now) }
+{
+    let mut text = String::from_str(alloc, word)?;
+    text.push_str(table.as_str())?;
+    Ok(CellText::from(text))
+}
+
+// The cells that describe a column.
+fn description(alloc: Global, told: &Described) -> Result<ValueList, AllocError>
+    ensures { IfOk result (λ l. l ≡ describe told.now) }
+{
+    let info = &told.column.info;
+    let mut cells = Vec::with_capacity(alloc, 5)?;
+    cells.push(CellValue::Int(i64::from(told.parent)))?;
+    cells.push(CellValue::Text(CellText::copy_of(alloc, told.column.id.as_str())?))?;
+    cells.push(CellValue::Text(type_text(alloc, &info.ty)?))?;
+    cells.push(CellValue::Bool(info.is_formula))?;
+    cells.push(CellValue::Text(info.formula.clone()?))?;
+    Ok(ValueList::from(cells))
+}
+
+fn column_rows(alloc: Global, sorted: &[Described]) -> Result<Vec<u32>, AllocError>
+    ensures { IfOk result (λ v. v.items ≡ map described_row sorted.now) }
+{
+    let mut rows = Vec::with_capacity(alloc, sorted.len())?;
+    for told in sorted {
+        rows.push(told.row())?;
+    }
+    Ok(rows)
+}
+
+fn column_cells(alloc: Global, sorted: &[Described]) -> Result<Vec<ValueList>, AllocError>
+    ensures { IfOk result (λ v. v.items ≡ map describe sorted.now) }
+{
+    let mut cells = Vec::with_capacity(alloc, sorted.len())?;
+    for told in sorted {
+        cells.push(description(alloc, told)?)?;
+    }
+    Ok(cells)
+}
+
+/// The table of columns that describes the columns of these tables.
+///
+/// Cost: the square of the number of columns.
+pub(crate) fn table_of_columns(alloc: Global, plain: &[RowTable]) -> Result<RowTable, AllocError>
+    ensures { IfOk result (λ t. t ≡ metadata_table columns_id (columns_grid plain.now)) }
+{
+    let sorted = columns_in_order(alloc, plain)?;
+    let columns = columns_columns(alloc)?;
+    let rows = column_rows(alloc, &sorted)?;
+    let cells = column_cells(alloc, &sorted)?;
+    metadata_table(alloc, Known::Columns, columns, rows, cells)
+}
+
+/// All tables of a document: the schema tables, the access tables, and then the plain ones, which
+/// the schema tables describe.
+pub(crate) fn with_schema(
+    alloc: Global,
+    resources: RowTable,
+    rules: RowTable,
+    plain: Vec<RowTable>,
+) -> Result<Vec<RowTable>, AllocError>
+    ensures { IfOk result (λ v. v.items ≡ metadata_table tables_id (tables_grid plain.items) ∷ metadata_table columns_id (columns_grid plain.items) ∷ resources ∷ rules ∷ plain.items) }
+{
+    let first = table_of_tables(alloc, &plain)?;
+    let second = table_of_columns(alloc, &plain)?;
+    let mut tables = plain;
+    tables.insert(0, rules)?;
+    tables.insert(0, resources)?;
+    tables.insert(0, second)?;
+    tables.insert(0, first)?;
+    Ok(tables)
+}

@@ -1,0 +1,139 @@
+//! One table.
+
+ghost use Rattle.std.specs.Prelude.{◌≡◌, IfOk};
+ghost use Rattle.std.specs.Option.{option_copied};
+ghost use Rattle.doc_model.specs.Column.{column_id};
+ghost use Rattle.doc_model.specs.Grid.{cell, grid_of};
+ghost use Rattle.row_tables.specs.Kept.{kept};
+
+use crate::copies::{copy_of_cells, copy_of_columns};
+use crate::fill::{CellSource, filled};
+use crate::look::{cell_in_row, cells_of_row};
+use cell_types::{CellValue, Name, ValueList, copy_of};
+use doc_model::ColDef;
+use std::alloc::{AllocError, Global};
+use std::marker::Model;
+
+/// A table: its columns, its rows, and a list of cells for each row, in the order of the columns.
+///
+/// Its row describes it in the table of tables, and is 0 for a metadata table.
+#[derive(Drop)]
+pub struct RowTable {
+    pub(crate) id: Name,
+    pub(crate) row: u32,
+    pub(crate) columns: Vec<ColDef>,
+    pub(crate) rows: Vec<u32>,
+    pub(crate) cells: Vec<ValueList>,
+}
+
+impl Model for RowTable {
+    ghost use Rattle.doc_model.specs.Document.{Table};
+    ghost use Rattle.row_tables.specs.TableCode.{coded_table};
+
+    ghost Value = { Table };
+
+    ghost coded = { coded_table };
+
+    ghost view = { λ a. record { id = a.id; row = a.row; grid = record { columns = a.columns.items; rows = a.rows.items; cells = a.cells.items } } };
+}
+
+impl RowTable {
+    /// The cell of a column in a row; nothing where there is none.
+    ///
+    /// Memory: none. Cost: linear in the rows and the columns.
+    pub fn cell(&self, column: &Name, row: u32) -> Option<&CellValue>
+        ensures { option_copied result ≡ kept self.now.grid column.now row }
+    {
+        cell_in_row(
+            &self.columns,
+            cells_of_row(&self.rows, &self.cells, row),
+            column,
+        )
+    }
+
+    /// A copy of the cell of a column in a row; null where there is none.
+    pub(crate) fn stored(&self, column: &Name, row: u32) -> Result<CellValue, AllocError>
+        ensures { IfOk result (λ v. v ≡ cell column_id self.now.grid column.now row) }
+    {
+        match self.cell(column, row) {
+            Some(value) => copy_of(value),
+            None => Ok(CellValue::Null),
+        }
+    }
+
+    pub(crate) fn alloc(&self) -> Global {
+        *self.columns.allocator()
+    }
+
+    /// The id.
+    pub fn id(&self) -> &Name
+        ensures { result.now ≡ self.now.id }
+    {
+        &self.id
+    }
+
+    /// The row that describes the table.
+    pub fn row(&self) -> u32
+        ensures { result ≡ self.now.row }
+    {
+        self.row
+    }
+
+    /// The columns, in the order of their rows.
+    pub fn columns(&self) -> &[ColDef]
+        ensures { result.now ≡ self.now.grid.columns }
+    {
+        &self.columns
+    }
+
+    /// The row ids, which ascend.
+    pub fn rows(&self) -> &[u32]
+        ensures { result.now ≡ self.now.grid.rows }
+    {
+        &self.rows
+    }
+
+    /// A copy of the table.
+    pub fn copy(&self) -> Result<RowTable, AllocError>
+        ensures { IfOk result (λ t. t ≡ self.now) }
+    {
+        Ok(RowTable {
+            id: self.id.clone()?,
+            row: self.row,
+            columns: copy_of_columns(self.alloc(), &self.columns)?,
+            rows: Vec::from_slice(self.alloc(), &self.rows)?,
+            cells: copy_of_cells(self.alloc(), &self.cells)?,
+        })
+    }
+
+    pub(crate) fn columns_copy(&self) -> Result<Vec<ColDef>, AllocError>
+        ensures { IfOk result (λ v. v.items ≡ self.now.grid.columns) }
+    {
+        copy_of_columns(self.alloc(), &self.columns)
+    }
+
+    pub(crate) fn rows_copy(&self) -> Result<Vec<u32>, AllocError>
+        ensures { IfOk result (λ v. v.items ≡ self.now.grid.rows) }
+    {
+        Vec::from_slice(self.alloc(), &self.rows)
+    }
+
+    /// The table with these columns and rows, and the cells that the source gives.
+    pub(crate) fn refilled<S: CellSource>(
+        &self,
+        columns: Vec<ColDef>,
+        rows: Vec<u32>,
+        source: &S,
+    ) -> Result<RowTable, AllocError>
+        ensures { IfOk result (λ t. t ≡ record { id = self.now.id; row = self.now.row; grid = grid_of columns.items rows.items (S.value_at source.now) }) }
+    {
+        let cells = filled(self.alloc(), &columns, &rows, source)?;
+        Ok(RowTable {
+            id: self.id.clone()?,
+            row: self.row,
+            columns,
+            rows,
+            cells,
+        })
+    }
+}

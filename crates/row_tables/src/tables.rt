@@ -1,0 +1,142 @@
+//! A whole document as plain tables.
+
+ghost use Rattle.std.specs.Prelude.{◌≡◌, IfOk, MatchOption, None, Some};
+ghost use Rattle.std.specs.Option.{option_copied};
+ghost use Rattle.doc_model.specs.ByIds.{find_id};
+ghost use Rattle.doc_model.specs.Document.{table_id};
+ghost use Rattle.doc_model.specs.MetadataIds.{resources_id, rules_id};
+ghost use Rattle.doc_model.specs.NewDocument.{first_table, new_document, no_rows};
+ghost use Rattle.doc_model.specs.Readers.{cell_at, column_at, rows_at, table_at};
+ghost use Rattle.doc_model.specs.Schema.{metadata_table, resources_columns, rules_columns};
+
+use crate::RowTable;
+use crate::known::{Known, name_of};
+use crate::metadata::{first_columns, metadata_table, resources_columns, rules_columns};
+use crate::schema::with_schema;
+use cell_types::{CellValue, Name};
+use doc_model::ColDef;
+use std::alloc::{AllocError, Global};
+use std::marker::Model;
+
+/// A document, kept as a vector of tables in the order of the document.
+#[derive(Drop)]
+pub struct RowTables {
+    pub(crate) tables: Vec<RowTable>,
+}
+
+impl Model for RowTables {
+    ghost use Rattle.doc_model.specs.Document.{Document};
+    ghost use Rattle.doc_model.specs.DocumentLaws.{IsWhole};
+    ghost use Rattle.row_tables.specs.TableCode.{coded_document};
+
+    ghost Value = { Document };
+
+    ghost coded = { coded_document };
+
+    ghost view = { λ a. a.tables.items };
+
+    ghost invariant = { λ a. IsWhole a.tables.items };
+}
+
+fn empty_resources(alloc: Global) -> Result<RowTable, AllocError>
+    ensures { IfOk result (λ t. t ≡ metadata_table resources_id (no_rows resources_columns)) }
+{
+    let columns = resources_columns(alloc)?;
+    metadata_table(
+        alloc,
+        Known::Resources,
+        columns,
+        Vec::new(alloc),
+        Vec::new(alloc),
+    )
+}
+
+fn empty_rules(alloc: Global) -> Result<RowTable, AllocError>
+    ensures { IfOk result (λ t. t ≡ metadata_table rules_id (no_rows rules_columns)) }
+{
+    let columns = rules_columns(alloc)?;
+    metadata_table(
+        alloc,
+        Known::Rules,
+        columns,
+        Vec::new(alloc),
+        Vec::new(alloc),
+    )
+}
+
+fn first_table(alloc: Global) -> Result<RowTable, AllocError>
+    ensures { IfOk result (λ t. t ≡ first_table) }
+{
+    Ok(RowTable {
+        id: name_of(alloc, Known::Table1)?,
+        row: 1,
+        columns: first_columns(alloc)?,
+        rows: Vec::new(alloc),
+        cells: Vec::new(alloc),
+    })
+}
+
+// The tables of a new document.
+fn new_tables(alloc: Global) -> Result<Vec<RowTable>, AllocError>
+    ensures { IfOk result (λ v. v.items ≡ new_document) }
+{
+    let mut plain = Vec::new(alloc);
+    plain.push(first_table(alloc)?)?;
+    with_schema(alloc, empty_resources(alloc)?, empty_rules(alloc)?, plain)
+}
+
+// The table of this id.
+fn find_table<'a>(tables: &'a [RowTable], id: &Name) -> Option<&'a RowTable>
+    ensures { option_copied result ≡ find_id table_id id.now tables.now }
+{
+    tables
+        .iter()
+        .find(|table| table.id().as_str() == id.as_str())
+}
+
+impl RowTables {
+    /// The new document: `Table1` with columns `A`, `B` and `C`, and no rows but those that describe
+    /// it.
+    pub fn new_document(alloc: Global) -> Result<RowTables, AllocError>
+        ensures { IfOk result (λ s. s ≡ new_document) }
+    {
+        let tables = new_tables(alloc)?;
+        Ok(RowTables { tables })
+    }
+
+    /// The id of the table at a place.
+    ///
+    /// Memory: none.
+    pub fn table(&self, place: usize) -> Option<&Name>
+        ensures { MatchOption result (table_at self.now place ≡ None) (λ name. table_at self.now place ≡ Some name.now) }
+    {
+        Some(self.tables.get(place)?.id())
+    }
+
+    /// The column at a place of a table.
+    ///
+    /// Memory: none. Cost: linear in the tables.
+    pub fn column(&self, table: &Name, place: usize) -> Option<&ColDef>
+        ensures { MatchOption result (column_at self.now table.now place ≡ None) (λ column. column_at self.now table.now place ≡ Some column.now) }
+    {
+        find_table(&self.tables, table)?.columns().get(place)
+    }
+
+    /// The row ids of a table; they ascend.
+    ///
+    /// Memory: none. Cost: linear in the tables.
+    pub fn rows(&self, table: &Name) -> Option<&[u32]>
+        ensures { MatchOption result (rows_at self.now table.now ≡ None) (λ rows. rows_at self.now table.now ≡ Some rows.now) }
+    {
+        Some(find_table(&self.tables, table)?.rows())
+    }
+
+    /// The base cell of a table at a column and a row.
+    ///
+    /// Memory: none. Cost: linear in the tables, and in the table's rows and columns.
+    pub fn cell(&self, table: &Name, column: &Name, row: u32) -> Option<&CellValue>
+        ensures { MatchOption result (cell_at self.now table.now column.now row ≡ None) (λ value. cell_at self.now table.now column.now row ≡ Some value.now) }
+    {
+        find_table(&self.tables, table)?.cell(column, row)
+    }
+}

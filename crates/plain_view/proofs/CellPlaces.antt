@@ -1,0 +1,51 @@
+-- The value at the place of a column is the value beside its id.
+use Rattle.std.proofs.Common.{ℕ, suc, ◌+◌, Bool, true, false, cond, not, ◌&&◌, List, [], ◌∷◌, ◌≡◌, ◌<◌, ◌≤◌, length, get_or, refl, ap, ◌∙◌, Option, Some, None, arith, ltb}
+use Rattle.std.proofs.lemmas.Bool.{ltb-true, ltb-false, lt-ltb, le-ltb}
+use Rattle.std.proofs.lemmas.List.{get_or_past}
+use Rattle.std.specs.List.{position, position_or_len}
+use Rattle.std.specs.Str.{bytes_eq}
+use Rattle.cell_types.specs.declared.value.CellValue.{CellValue}
+use Rattle.cell_types.specs.declared.value.CellValue.TheVariants.{Null}
+use Rattle.doc_model.specs.declared.view.ViewCol.{ViewCol}
+use Rattle.doc_model.specs.Grid.{Grid, beside, cell}
+use Rattle.doc_model.specs.Rows.{has}
+use Rattle.doc_model.specs.Same.{same_value}
+use Rattle.doc_model.specs.ViewEdits.{shown_id, shown_start}
+use Rattle.plain_view.specs.Cells.{column_place, row_cells, value_in}
+use Rattle.plain_view.specs.Steps.{is_told}
+
+none_in : (place : Option ℕ) (other : CellValue) → value_in [] place other ≡ other
+none_in None other = refl
+none_in (Some place) other = get_or_past [] place other (omega arith)
+
+first_in : (v : CellValue) (vs : List CellValue) (n : ℕ) (other : CellValue) → value_in (v ∷ vs) (cond (ltb 0 (suc n)) (Some 0) None) other ≡ v
+first_in v vs n other = ap (λ b. value_in (v ∷ vs) (cond b (Some 0) None) other) (lt-ltb 0 (suc n) (omega arith))
+
+later_in : (v : CellValue) (vs : List CellValue) (m n k : ℕ) (other : CellValue) → k ≡ suc m → value_in (v ∷ vs) (cond (ltb k (suc n)) (Some k) None) other ≡ value_in vs (cond (ltb m n) (Some m) None) other
+later_in v vs m n k other e =
+    elim (ltb m n) as (λ b. ltb m n ≡ b → value_in (v ∷ vs) (cond (ltb k (suc n)) (Some k) None) other ≡ value_in vs (cond b (Some m) None) other) [
+      | true ↦ λ is. let lt : m < n = ltb-true m n is in
+          ap (λ b. value_in (v ∷ vs) (cond b (Some k) None) other) (lt-ltb k (suc n) (omega (arith, lt, e))) ∙ ap (λ p. get_or (v ∷ vs) p other) e
+      | false ↦ λ is. let le : n ≤ m = ltb-false m n is in ap (λ b. value_in (v ∷ vs) (cond b (Some k) None) other) (le-ltb k (suc n) (omega (arith, le, e)))
+    ] refl
+
+pub beside_place : {K : Type 0} (test : K → Bool) (ks : List K) (vs : List CellValue) (other : CellValue) → value_in vs (position test ks) other ≡ beside test ks vs other
+beside_place test [] vs other = refl
+beside_place test (k ∷ ks) [] other = none_in (position test (k ∷ ks)) other
+beside_place {K} test (k ∷ ks) (v ∷ vs) other =
+    elim (test k) as (λ b. value_in (v ∷ vs) (cond (ltb (cond (not b) (1 + position_or_len test ks) 0) (length (k ∷ ks))) (Some (cond (not b) (1 + position_or_len test ks) 0)) None) other ≡ cond b v (beside test ks vs other)) [
+      | true ↦ first_in v vs (length ks) other
+      | false ↦ later_in v vs (position_or_len test ks) (length ks) (1 + position_or_len test ks) other (omega arith) ∙ beside_place test ks vs other
+    ]
+
+-- a cell by the place of its column
+pub cell_place : (g : Grid ViewCol) (c : List ℕ) (place : Option ℕ) (r : ℕ) → place ≡ column_place g.columns c → value_in (row_cells g r) place Null ≡ cell shown_id g c r
+cell_place g c place r e = ap (λ p. value_in (row_cells g r) p Null) e ∙ beside_place (λ (d : ViewCol). bytes_eq d.id c) g.columns (row_cells g r) Null
+
+-- whether a cell is told, by the places of its column
+pub told_at : (g w : Grid ViewCol) (d : ViewCol) (before after : Option ℕ) (start : CellValue) (r : ℕ) → before ≡ column_place g.columns d.id → after ≡ column_place w.columns d.id → start ≡ shown_start d
+    → (has g.rows r && not (same_value (value_in (row_cells g r) before start) (value_in (row_cells w r) after Null))) ≡ is_told g w d r
+told_at g w d before after start r eb ea es =
+    ap (λ v. has g.rows r && not (same_value v (value_in (row_cells w r) after Null)))
+    (ap (λ p. value_in (row_cells g r) p start) eb ∙ ap (λ v. value_in (row_cells g r) (column_place g.columns d.id) v) es ∙ beside_place (λ (e : ViewCol). bytes_eq e.id d.id) g.columns (row_cells g r) (shown_start d))
+    ∙ ap (λ v. has g.rows r && not (same_value (beside (λ (e : ViewCol). bytes_eq e.id d.id) g.columns (row_cells g r) (shown_start d)) v)) (cell_place w d.id after r ea)

@@ -1,0 +1,92 @@
+//! Cells of a table, by the ids of columns and rows.
+
+ghost use Rattle.std.specs.Prelude.{◌≡◌, ◌&&◌, not, nat_eq, bytes_eq, map, IfOk, get_or};
+ghost use Rattle.std.specs.List.{position};
+ghost use Rattle.cell_types.specs.declared.value.CellValue.TheVariants.{Null};
+ghost use Rattle.doc_model.specs.Changes.{grid};
+ghost use Rattle.doc_model.specs.Grid.{beside, cell};
+ghost use Rattle.doc_model.specs.Records.{column_of};
+ghost use Rattle.doc_model.specs.Same.{same_value};
+ghost use Rattle.doc_model.specs.ViewEdits.{IsShown, shown_id};
+ghost use Rattle.plain_view.specs.Cells.{column_place, row_cells, value_in};
+
+use crate::copies::name_copy;
+use crate::rows::row_place;
+use cell_types::{CellValue, Name, Same, ValueList, copy_of};
+use doc_model::{CellColumn, ViewCol, ViewTable};
+use std::alloc::{AllocError, Global};
+
+/// The place of the column of an id.
+///
+/// Memory: none. Cost: linear in the columns.
+pub(crate) fn column_place(columns: &[ViewCol], id: &Name) -> Option<usize>
+    ensures { result ≡ column_place columns.now id.now }
+{
+    columns
+        .iter()
+        .position(|column| column.id.as_str() == id.as_str())
+}
+
+/// The cells of a row; none where the row is not there.
+///
+/// Memory: none. Cost: the logarithm of the rows.
+pub(crate) fn row_cells<'a>(table: &'a ViewTable, row: u32) -> &'a [CellValue]
+    requires { IsShown (grid table.now) }
+    ensures { result.now ≡ row_cells (grid table.now) row }
+{
+    match row_place(table.rows.as_slice(), row) {
+        Some(place) => table.cells.as_slice()[place].as_slice(),
+        None => &[],
+    }
+}
+
+/// The value at a place of a row, or another one where there is no place or no value.
+///
+/// Memory: none.
+pub(crate) fn value_in<'a>(
+    row: &'a [CellValue],
+    place: Option<usize>,
+    other: &'a CellValue,
+) -> &'a CellValue
+    ensures { result.now ≡ value_in row.now place other.now }
+{
+    match place {
+        Some(place) => match row.get(place) {
+            Some(value) => value,
+            None => other,
+        },
+        None => other,
+    }
+}
+
+/// Whether two values are the same.
+///
+/// Memory: none.
+pub(crate) fn is_same_value(left: &CellValue, right: &CellValue) -> bool
+    ensures { result ≡ same_value left.now right.now }
+{
+    left.same_as(right)
+}
+
+/// The cells of the column of an id in these rows; Null where there is none.
+///
+/// Cost: the rows, times the logarithm of the table's rows.
+pub(crate) fn column_of(
+    alloc: Global,
+    table: &ViewTable,
+    rows: &[u32],
+    id: &Name,
+) -> Result<CellColumn, AllocError>
+    requires { IsShown (grid table.now) }
+    ensures { IfOk result (λ k. k ≡ column_of shown_id (grid table.now) rows.now id.now) }
+{
+    let place = column_place(table.columns.as_slice(), id);
+    let mut values = Vec::with_capacity(alloc, rows.len())?;
+    for row in rows {
+        values.push(copy_of(value_in(row_cells(table, *row), place, &CellValue::Null))?)?;
+    }
+    Ok(CellColumn {
+        id: name_copy(id)?,
+        values: ValueList::from(values),
+    })
+}

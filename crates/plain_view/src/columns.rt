@@ -1,0 +1,168 @@
+//! The changes of a table's columns: those that are gone, the new ones, and those that are another.
+
+ghost use Rattle.std.specs.Prelude.{◌≡◌, ◌++◌, ◌↔◌, bytes_eq, find, IsTrue, OnOk};
+ghost use Rattle.std.specs.Option.{option_copied};
+ghost use Rattle.doc_model.specs.ByIds.{find_id, has_id};
+ghost use Rattle.doc_model.specs.Changes.{for_each};
+ghost use Rattle.doc_model.specs.ViewEdits.{differs, shown_id};
+ghost use Rattle.plain_view.specs.Steps.{added_column, modified_column, removed_column};
+
+use crate::copies::{column_copy, name_copy};
+use cell_types::{CellText, Name, Same};
+use doc_model::{ViewAction, ViewCol};
+use std::alloc::AllocError;
+
+/// The column of an id.
+///
+/// Memory: none. Cost: linear in the columns.
+fn find_column<'a>(columns: &'a [ViewCol], id: &Name) -> Option<&'a ViewCol>
+    ensures { option_copied result ≡ find_id shown_id id.now columns.now }
+{
+    columns
+        .iter()
+        .find(|column| column.id.as_str() == id.as_str())
+}
+
+/// Whether there is a column of that id.
+///
+/// Memory: none. Cost: linear in the columns.
+fn has_column(columns: &[ViewCol], id: &Name) -> bool
+    ensures { result ≡ has_id shown_id columns.now id.now }
+{
+    columns
+        .iter()
+        .any(|column| column.id.as_str() == id.as_str())
+}
+
+fn is_same_formula(left: &Option<CellText>, right: &Option<CellText>) -> bool
+    ensures { IsTrue result ↔ (left.now ≡ right.now) }
+{
+    match (left, right) {
+        (None, None) => true,
+        (Some(left), Some(right)) => left.same_as(right),
+        _ => false,
+    }
+}
+
+fn is_same_column(left: &ViewCol, right: &ViewCol) -> bool
+    ensures { IsTrue result ↔ (left.now ≡ right.now) }
+{
+    left.id.same_as(&right.id)
+        && left.ty.same_as(&right.ty)
+        && left.is_formula == right.is_formula
+        && is_same_formula(&left.formula, &right.formula)
+}
+
+/// Whether the column was there before and was another one.
+///
+/// Memory: none. Cost: linear in the columns.
+fn differs(before: &[ViewCol], column: &ViewCol) -> bool
+    ensures { result ≡ differs before.now column.now }
+{
+    match find_column(before, &column.id) {
+        Some(old) => !is_same_column(old, column),
+        None => false,
+    }
+}
+
+fn tell_removed(
+    table: &Name,
+    after: &[ViewCol],
+    column: &ViewCol,
+    actions: &mut Vec<ViewAction>,
+) -> Result<(), AllocError>
+    ensures { OnOk result (actions.new.items ≡ actions.old.items ++ removed_column table.now after.now column.now) }
+{
+    if !has_column(after, &column.id) {
+        actions.push(ViewAction::RemoveColumn {
+            table: name_copy(table)?,
+            column: name_copy(&column.id)?,
+        })?;
+    }
+    Ok(())
+}
+
+fn tell_added(
+    table: &Name,
+    before: &[ViewCol],
+    column: &ViewCol,
+    actions: &mut Vec<ViewAction>,
+) -> Result<(), AllocError>
+    ensures { OnOk result (actions.new.items ≡ actions.old.items ++ added_column table.now before.now column.now) }
+{
+    if !has_column(before, &column.id) {
+        actions.push(ViewAction::AddColumn {
+            table: name_copy(table)?,
+            column: column_copy(column)?,
+        })?;
+    }
+    Ok(())
+}
+
+fn tell_modified(
+    table: &Name,
+    before: &[ViewCol],
+    column: &ViewCol,
+    actions: &mut Vec<ViewAction>,
+) -> Result<(), AllocError>
+    ensures { OnOk result (actions.new.items ≡ actions.old.items ++ modified_column table.now before.now column.now) }
+{
+    if differs(before, column) {
+        actions.push(ViewAction::ModifyColumn {
+            table: name_copy(table)?,
+            column: column_copy(column)?,
+        })?;
+    }
+    Ok(())
+}
+
+/// Adds the columns that are gone to the actions.
+///
+/// Errors: want of memory. Cost: the square of the columns.
+pub(crate) fn tell_removed_columns(
+    table: &Name,
+    before: &[ViewCol],
+    after: &[ViewCol],
+    actions: &mut Vec<ViewAction>,
+) -> Result<(), AllocError>
+    ensures { OnOk result (actions.new.items ≡ actions.old.items ++ for_each (removed_column table.now after.now) before.now) }
+{
+    for column in before {
+        tell_removed(table, after, column, actions)?;
+    }
+    Ok(())
+}
+
+/// Adds the new columns to the actions.
+///
+/// Errors: want of memory. Cost: the square of the columns.
+pub(crate) fn tell_added_columns(
+    table: &Name,
+    before: &[ViewCol],
+    after: &[ViewCol],
+    actions: &mut Vec<ViewAction>,
+) -> Result<(), AllocError>
+    ensures { OnOk result (actions.new.items ≡ actions.old.items ++ for_each (added_column table.now before.now) after.now) }
+{
+    for column in after {
+        tell_added(table, before, column, actions)?;
+    }
+    Ok(())
+}
+
+/// Adds the columns that are another one than before to the actions.
+///
+/// Errors: want of memory. Cost: the square of the columns.
+pub(crate) fn tell_modified_columns(
+    table: &Name,
+    before: &[ViewCol],
+    after: &[ViewCol],
+    actions: &mut Vec<ViewAction>,
+) -> Result<(), AllocError>
+    ensures { OnOk result (actions.new.items ≡ actions.old.items ++ for_each (modified_column table.now before.now) after.now) }
+{
+    for column in after {
+        tell_modified(table, before, column, actions)?;
+    }
+    Ok(())
+}

@@ -1,0 +1,152 @@
+//! The changes that lead from one view to another.
+
+ghost use Rattle.std.specs.Prelude.{◌≡◌, ◌++◌, IfOk, OnOk};
+ghost use Rattle.std.specs.List.{AllByRecursion};
+ghost use Rattle.std.specs.Option.{option_copied};
+ghost use Rattle.doc_model.specs.ByIds.{find_id, has_id};
+ghost use Rattle.doc_model.specs.Changes.{IsView, changes, for_each, grid, introduced, revised, shown_table_id};
+ghost use Rattle.doc_model.specs.ViewEdits.{IsShown};
+ghost use Rattle.plain_view.specs.Steps.{new_table, removed_table};
+
+use crate::copies::{columns_copy, name_copy, rows_copy};
+use crate::records::tell_added_rows;
+use crate::revision::tell_revision;
+use cell_types::Name;
+use doc_model::{View, ViewAction, ViewActionList, ViewTable};
+use std::alloc::{AllocError, Global};
+
+/// The changes that lead from the view before to the view after: tables that are gone, new tables,
+/// and then the changes of each other table, in the order of the tables.
+///
+/// Errors: want of memory. Cost: the cells of both views, times the logarithm of the rows, and the
+/// squares of the number of tables and of the columns of each table.
+pub fn changes(alloc: Global, before: &View, after: &View) -> Result<ViewActionList, AllocError>
+    requires before { IsView before.now.tables }
+    requires after { IsView after.now.tables }
+    ensures { IfOk result (λ l. l ≡ changes before.now.tables after.now.tables) }
+{
+    let old = before.tables.as_slice();
+    let new = after.tables.as_slice();
+    let mut actions = Vec::new(alloc);
+    tell_removed_tables(old, new, &mut actions)?;
+    tell_new_tables(alloc, old, new, &mut actions)?;
+    tell_revised_tables(alloc, old, new, &mut actions)?;
+    Ok(ViewActionList::from(actions))
+}
+
+fn find_table<'a>(tables: &'a [ViewTable], id: &Name) -> Option<&'a ViewTable>
+    ensures { option_copied result ≡ find_id shown_table_id id.now tables.now }
+{
+    tables.iter().find(|table| table.id.as_str() == id.as_str())
+}
+
+fn has_table(tables: &[ViewTable], id: &Name) -> bool
+    ensures { result ≡ has_id shown_table_id tables.now id.now }
+{
+    tables.iter().any(|table| table.id.as_str() == id.as_str())
+}
+
+fn tell_removed(
+    after: &[ViewTable],
+    table: &ViewTable,
+    actions: &mut Vec<ViewAction>,
+) -> Result<(), AllocError>
+    ensures { OnOk result (actions.new.items ≡ actions.old.items ++ removed_table after.now table.now) }
+{
+    if !has_table(after, &table.id) {
+        actions.push(ViewAction::RemoveTable {
+            table: name_copy(&table.id)?,
+        })?;
+    }
+    Ok(())
+}
+
+fn introduce(
+    alloc: Global,
+    table: &ViewTable,
+    actions: &mut Vec<ViewAction>,
+) -> Result<(), AllocError>
+    requires { IsShown (grid table.now) }
+    ensures { OnOk result (actions.new.items ≡ actions.old.items ++ introduced table.now) }
+{
+    actions.push(ViewAction::AddTable {
+        table: name_copy(&table.id)?,
+        columns: columns_copy(&table.columns)?,
+    })?;
+    tell_added_rows(alloc, table, rows_copy(&table.rows)?, actions)
+}
+
+fn tell_new(
+    alloc: Global,
+    before: &[ViewTable],
+    table: &ViewTable,
+    actions: &mut Vec<ViewAction>,
+) -> Result<(), AllocError>
+    requires { IsShown (grid table.now) }
+    ensures { OnOk result (actions.new.items ≡ actions.old.items ++ new_table before.now table.now) }
+{
+    if !has_table(before, &table.id) {
+        introduce(alloc, table, actions)?;
+    }
+    Ok(())
+}
+
+fn tell_revised(
+    alloc: Global,
+    before: &[ViewTable],
+    table: &ViewTable,
+    actions: &mut Vec<ViewAction>,
+) -> Result<(), AllocError>
+    requires before { AllByRecursion (λ t. IsShown (grid t)) before.now }
+    requires table { IsShown (grid table.now) }
+    ensures { OnOk result (actions.new.items ≡ actions.old.items ++ revised before.now table.now) }
+{
+    match find_table(before, &table.id) {
+        Some(old) => tell_revision(alloc, old, table, actions),
+        None => Ok(()),
+    }
+}
+
+fn tell_removed_tables(
+    before: &[ViewTable],
+    after: &[ViewTable],
+    actions: &mut Vec<ViewAction>,
+) -> Result<(), AllocError>
+    ensures { OnOk result (actions.new.items ≡ actions.old.items ++ for_each (removed_table after.now) before.now) }
+{
+    for table in before {
+        tell_removed(after, table, actions)?;
+    }
+    Ok(())
+}
+
+fn tell_new_tables(
+    alloc: Global,
+    before: &[ViewTable],
+    after: &[ViewTable],
+    actions: &mut Vec<ViewAction>,
+) -> Result<(), AllocError>
+    requires { AllByRecursion (λ t. IsShown (grid t)) after.now }
+    ensures { OnOk result (actions.new.items ≡ actions.old.items ++ for_each (new_table before.now) after.now) }
+{
+    for table in after {
+        tell_new(alloc, before, table, actions)?;
+    }
+    Ok(())
+}
+
+fn tell_revised_tables(
+    alloc: Global,
+    before: &[ViewTable],
+    after: &[ViewTable],
+    actions: &mut Vec<ViewAction>,
+) -> Result<(), AllocError>
+    requires before { AllByRecursion (λ t. IsShown (grid t)) before.now }
+    requires after { AllByRecursion (λ t. IsShown (grid t)) after.now }
+    ensures { OnOk result (actions.new.items ≡ actions.old.items ++ for_each (revised before.now) after.now) }
+{
+    for table in after {
+        tell_revised(alloc, before, table, actions)?;
+    }
+    Ok(())
+}

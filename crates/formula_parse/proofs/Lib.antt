@@ -4,3 +4,4 @@ pub mod Sound
 pub mod WordLemmas
 pub mod Turns
 pub mod Clauses
+mod OpenKeyLemmas

@@ -21,9 +21,10 @@ ghost use Rattle.std.specs.Prelude.{◌≡◌, ℕ, ◌+◌, ◌≤◌, List, []
 ghost use Rattle.formula_parse.specs.Machine.{room, room_in, is_last};
 ghost use Rattle.formula_parse.specs.Parsed.{taken};
 
+use crate::open_keys::OpenKeys;
 use crate::operator::{BinaryOp, LookupKind, PrefixOp};
 use crate::rule::Subject;
-use crate::tree::{ArgumentList, Formula, LookupKeyList};
+use crate::tree::{ArgumentList, Formula};
 use cell_types::Name;
 use std::alloc::{AllocFailed, Global};
 use std::marker::Model;
@@ -38,7 +39,7 @@ pub enum Frame {
     Parentheses,
     Items(ArgumentList),
     Arguments(Name, ArgumentList),
-    Key(LookupKind, Name, LookupKeyList, Name),
+    Key(LookupKind, Name, OpenKeys, Name),
 }
 
 /// What may come next.
@@ -54,8 +55,8 @@ pub enum Mode {
     AfterPoint(Name),
     AfterLookup(LookupKind, Name),
     FirstKey(LookupKind, Name),
-    NextKey(LookupKind, Name, LookupKeyList),
-    AfterKey(LookupKind, Name, LookupKeyList, Name),
+    NextKey(LookupKind, Name, OpenKeys),
+    AfterKey(LookupKind, Name, OpenKeys, Name),
     AfterSubject(Subject),
     SubjectPoint(Subject),
     UserPoint(Name),

@@ -1,7 +1,7 @@
 //! Formulas: a text read as the one tree that spells it.
 //!
 //! Stands on `cell_types` (names and texts) and `formula_lex` (tokens).
-//! Used by `formula_eval` and by whatever reads formulas or rules.
+//! No other crate of the repository uses it yet.
 //!
 //! Promises: `parse` gives the tree that specs/Spelling.antt says, no other tree is spelled by the
 //! text, and `Syntax` comes exactly where none is, within 4,096 bytes and 256 constructs. The text
@@ -13,6 +13,7 @@
 mod fault;
 mod frame;
 mod lexeme;
+mod open_keys;
 mod operator;
 mod parser;
 mod reduce;

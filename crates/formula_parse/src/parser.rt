@@ -86,7 +86,8 @@ fn run(alloc: Global, dialect: Dialect, tokens: &[Token], end: usize) -> Result<
 /// Units: places count bytes.
 /// Errors: `Syntax` where no tree within the limits spells the text; `NoMemory`.
 /// Memory: the tokens, the tree, and a stack of what is open.
-/// Cost: linear in the text, but for the names of a lookup's keys, which are compared in pairs.
+/// Cost: linear in the text, but for the names of a lookup's keys, each of which is looked for
+/// among those before it in a sorted set.
 /// Source: docs/FORMULAS.md, "Formulas".
 pub fn read_tree(alloc: Global, dialect: Dialect, text: &str) -> Result<Option<Formula>, ParseFault>
     // The text spells the tree, and no other one.
@@ -110,7 +111,8 @@ pub fn read_tree(alloc: Global, dialect: Dialect, text: &str) -> Result<Option<F
 /// Units: places count bytes.
 /// Errors: `Syntax` where no tree within the limits spells the text; `NoMemory`.
 /// Memory: the tokens, the tree, and a stack of what is open.
-/// Cost: linear in the text, but for the names of a lookup's keys, which are compared in pairs.
+/// Cost: linear in the text, but for the names of a lookup's keys, each of which is looked for
+/// among those before it in a sorted set.
 /// Source: docs/FORMULAS.md, "Formulas".
 pub fn parse(alloc: Global, text: &str) -> Result<Formula, ParseFault>
     // The text spells the tree, and no other one.

@@ -14,6 +14,7 @@ ghost use Rattle.formula_parse.specs.declared.frame.Frame.{Frame};
 use crate::fault::Stop;
 use crate::frame::{Frame, Mode, Stack};
 use crate::lexeme::{Keyword, Lexeme, is_id};
+use crate::open_keys::OpenKeys;
 use crate::operator::{BinaryOp, Constant, Dialect, LookupKind, PrefixOp};
 use crate::reduce::{infix, kept, open_condition, open_otherwise, open_prefix, reduce};
 use crate::rule::{RuleAtom, Subject};
@@ -38,7 +39,7 @@ fn close(alloc: Global, frames: &mut Stack, tree: Formula) -> Result<Mode, Stop>
             Ok(Mode::Operator(kept(alloc, Node::Call(name, items), below)?))
         }
         Some(Frame::Key(kind, table, keys, name)) => {
-            let mut keys = keys;
+            let mut keys = keys.into_keys();
             keys.push(LookupKey { name, value: tree })?;
             let below = keys.height();
             Ok(Mode::Operator(kept(alloc, Node::Lookup(kind, table, keys), below)?))
@@ -80,8 +81,7 @@ fn comma(frames: &mut Stack, tree: Formula) -> Result<Mode, Stop>
             Ok(Mode::Operand)
         }
         Some(Frame::Key(kind, table, keys, name)) => {
-            let mut keys = keys;
-            keys.push(LookupKey { name, value: tree })?;
+            let keys = keys.with(LookupKey { name, value: tree })?;
             Ok(Mode::NextKey(kind, table, keys))
         }
         _ => Err(Stop::Syntax),
@@ -427,12 +427,12 @@ fn first_key(
 ) -> Result<Mode, Stop>
     ensures { Gives (λ m. (frames.new, m)) result (first_key_step lexeme frames.old kind table) }
 {
-    let keys = LookupKeyList::new(alloc);
     match lexeme {
         Lexeme::Sign(Sign::Close) => {
+            let keys = LookupKeyList::new(alloc);
             Ok(Mode::Operator(kept(alloc, Node::Lookup(kind, table, keys), 0)?))
         }
-        Lexeme::Name(name) => Ok(Mode::AfterKey(kind, table, keys, name)),
+        Lexeme::Name(name) => Ok(Mode::AfterKey(kind, table, OpenKeys::new(alloc), name)),
         _ => Err(Stop::Syntax),
     }
 }
@@ -442,7 +442,7 @@ fn next_key(
     frames: &mut Stack,
     kind: LookupKind,
     table: Name,
-    keys: LookupKeyList,
+    keys: OpenKeys,
     lexeme: Lexeme,
 ) -> Result<Mode, Stop>
     ensures { Gives (λ m. (frames.new, m)) result (next_key_step lexeme frames.old kind table keys) }
@@ -463,7 +463,7 @@ fn after_key(
     frames: &mut Stack,
     kind: LookupKind,
     table: Name,
-    keys: LookupKeyList,
+    keys: OpenKeys,
     name: Name,
     lexeme: Lexeme,
 ) -> Result<Mode, Stop>

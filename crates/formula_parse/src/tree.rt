@@ -2,7 +2,7 @@
 
 ghost use Rattle.std.specs.Prelude.{◌≡◌, ℕ, List, [], ◌∷◌, ◌++◌, Bool, true, IfOk, OnOk, OnErr, IsTrue, ◌↔◌};
 ghost use Rattle.formula_parse.specs.Tree.{height_of, heights, from_list, key_heights, keys_from};
-ghost use Rattle.formula_parse.specs.Standing.{level_of, has_key};
+ghost use Rattle.formula_parse.specs.Standing.{level_of};
 ghost use Rattle.formula_parse.specs.Seen.{tree_of, keys_of};
 
 use crate::operator::{BinaryOp, Constant, LookupKind, PrefixOp};
@@ -247,20 +247,6 @@ impl LookupKeyList {
         ensures err { OnErr result (self.new ≡ self.old) }
     {
         self.keys.push(key)
-    }
-
-    /// Whether one of the keys has the name.
-    ///
-    /// Cost: linear in the keys.
-    pub fn has(&self, name: &Name) -> bool
-        ensures { result ≡ has_key name.now self.now }
-    {
-        for key in &self.keys {
-            if key.name.as_str() == name.as_str() {
-                return true;
-            }
-        }
-        false
     }
 
     /// The greatest height among the values, and 0 where there are none.

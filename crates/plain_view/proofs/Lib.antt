@@ -3,3 +3,7 @@ pub mod RowPlaces
 pub mod CellPlaces
 pub mod ShapedCells
 pub mod Revisions
+pub mod GivenPlaces
+pub mod Spots
+pub mod EditedCells
+pub mod PatchSteps

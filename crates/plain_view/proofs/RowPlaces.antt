@@ -1,11 +1,11 @@
 -- Where a row stands among ascending rows, and the cells beside it.
-use Rattle.std.proofs.Common.{ℕ, zero, suc, Bool, true, false, List, [], ◌∷◌, ◌≡◌, ◌<◌, ◌≤◌, length, get_or, refl, sym, ap, ◌∙◌, arith, eqb}
+use Rattle.std.proofs.Common.{ℕ, zero, suc, Bool, true, false, List, [], ◌∷◌, ◌≡◌, ◌<◌, ◌≤◌, ◌+◌, length, get_or, refl, sym, ap, subst, ◌∙◌, arith, eqb}
 use Rattle.std.proofs.lemmas.Bool.{false≢true, true≢false, ne_eqb, eq-eqb}
 use Rattle.std.specs.List.{AllByRecursion}
 use Rattle.cell_types.specs.declared.value.CellValue.{CellValue}
 use Rattle.doc_model.specs.Rows.{has, IsAscending}
 use Rattle.doc_model.specs.Grid.{beside}
-use Rattle.doc_model.proofs.Choices.{cond_true, cond_false}
+use Rattle.doc_model.proofs.Choices.{cond_true, cond_false, each_weaker}
 
 each_below : (q : ℕ) (rows : List ℕ) (k : ℕ) → AllByRecursion (λ r. q < r) rows → k < length rows → q < get_or rows k 0
 each_below q [] k h lt = absurd (omega arith)
@@ -56,3 +56,20 @@ found_cells rows seen cells shown row p cell out h es ec at height is e =
     e ∙ is ∙ ap (λ l. get_or l p cell) ec
     ∙ Rattle.std.proofs.lemmas.List.get_or_default cells p cell [] (omega (arith, lt, height))
     ∙ sym (beside_at rows cells [] row p h lt (ap (λ l. get_or l p 0) (sym es) ∙ at.1))
+
+pub below : (rows : List ℕ) → IsAscending rows → (i j : ℕ) → i < j → j < length rows → get_or rows i 0 < get_or rows j 0
+below [] h i j le lt = absurd (omega arith)
+below (r ∷ rows) h i zero le lt = absurd (omega arith)
+below (r ∷ rows) h zero (suc j) le lt = each_below r rows j h.0 (omega arith)
+below (r ∷ rows) h (suc i) (suc j) le lt = below rows h.1 i j (omega arith) (omega arith)
+
+-- rows ascend where each is below the next
+pub ascending_from : (rows : List ℕ) → ((k : ℕ) → k + 1 < length rows → get_or rows k 0 < get_or rows (k + 1) 0) → IsAscending rows
+ascending_from [] h = tt
+ascending_from (r ∷ []) h = (tt, tt)
+ascending_from (r ∷ q ∷ rows) h =
+    let first : r < q = h 0 (omega arith) in
+    let rest : IsAscending (q ∷ rows) = ascending_from (q ∷ rows) (λ k lt.
+    let e : suc k + 1 ≡ suc (k + 1) = omega arith in
+    subst (λ n. get_or (q ∷ rows) k 0 < get_or (r ∷ q ∷ rows) n 0) e (h (suc k) (omega (arith, lt)))) in
+    ((first, each_weaker (λ p. q < p) (λ p. r < p) (λ p l. omega (arith, l, first)) rows rest.0), rest)

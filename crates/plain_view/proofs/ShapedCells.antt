@@ -113,7 +113,7 @@ given_rows (q ∷ qs) ks g c e r found here =
     ∙ ap (λ n. cond (has (q ∷ qs) r) (unwrap_or (given (q ∷ qs) ks n r) (shown_start e)) (at g n r)) (found_id shown_id c g.columns e found)
 
 -- the default makes no difference where the key is there
-beside_any : (test : ViewCol → Bool) (ks : List ViewCol) (vs : List CellValue) (a b : CellValue) → list_any test ks ≡ true → length vs ≡ length ks → beside test ks vs a ≡ beside test ks vs b
+pub beside_any : (test : ViewCol → Bool) (ks : List ViewCol) (vs : List CellValue) (a b : CellValue) → list_any test ks ≡ true → length vs ≡ length ks → beside test ks vs a ≡ beside test ks vs b
 beside_any test [] vs a b h e = absurd (false≢true h)
 beside_any test (k ∷ ks) [] a b h e = absurd (omega arith)
 beside_any test (k ∷ ks) (v ∷ vs) a b h e =
@@ -122,7 +122,7 @@ beside_any test (k ∷ ks) (v ∷ vs) a b h e =
       | false ↦ λ h. beside_any test ks vs a b h (omega arith)
     ] h
 
-beside_none : (test : ViewCol → Bool) (ks : List ViewCol) (vs : List CellValue) (a : CellValue) → list_any test ks ≡ false → beside test ks vs a ≡ a
+pub beside_none : (test : ViewCol → Bool) (ks : List ViewCol) (vs : List CellValue) (a : CellValue) → list_any test ks ≡ false → beside test ks vs a ≡ a
 beside_none test [] vs a h = refl
 beside_none test (k ∷ ks) [] a h = refl
 beside_none test (k ∷ ks) (v ∷ vs) a h =
@@ -132,7 +132,7 @@ beside_none test (k ∷ ks) (v ∷ vs) a h =
     ] h
 
 -- each row that is there has a cell for each column
-wide : (rs : List ℕ) (cells : List (List CellValue)) (n r : ℕ) → has rs r ≡ true → length cells ≡ length rs → AllByRecursion (λ row. length row ≡ n) cells → length (beside (λ q. eqb q r) rs cells []) ≡ n
+pub wide : (rs : List ℕ) (cells : List (List CellValue)) (n r : ℕ) → has rs r ≡ true → length cells ≡ length rs → AllByRecursion (λ row. length row ≡ n) cells → length (beside (λ q. eqb q r) rs cells []) ≡ n
 wide [] cells n r here e w = absurd (false≢true here)
 wide (q ∷ rs) [] n r here e w = absurd (omega arith)
 wide (q ∷ rs) (row ∷ cells) n r here e w =

@@ -26,7 +26,7 @@ fn find_column<'a>(columns: &'a [ViewCol], id: &Name) -> Option<&'a ViewCol>
 /// Whether there is a column of that id.
 ///
 /// Memory: none. Cost: linear in the columns.
-fn has_column(columns: &[ViewCol], id: &Name) -> bool
+pub(crate) fn has_column(columns: &[ViewCol], id: &Name) -> bool
     ensures { result ≡ has_id shown_id columns.now id.now }
 {
     columns

@@ -1,9 +1,9 @@
-//! Copies of names, columns and rows.
+//! Copies of names, columns, rows and tables.
 
 ghost use Rattle.std.specs.Prelude.{◌≡◌, IfOk};
 
-use cell_types::{Name, RowList};
-use doc_model::{ViewCol, ViewColList};
+use cell_types::{CellValue, Name, RowList, ValueList, copy_of};
+use doc_model::{CellRowList, ViewCol, ViewColList, ViewTable};
 use std::alloc::{AllocError, Global};
 
 /// A copy of a name.
@@ -32,4 +32,47 @@ pub(crate) fn rows_copy(rows: &RowList) -> Result<RowList, AllocError>
     ensures { IfOk result (λ l. l ≡ rows.now) }
 {
     rows.clone()
+}
+
+fn values_copy(alloc: Global, values: &[CellValue]) -> Result<ValueList, AllocError>
+    ensures { IfOk result (λ l. l ≡ values.now) }
+{
+    let mut copies = Vec::with_capacity(alloc, values.len())?;
+    for value in values {
+        copies.push(copy_of(value)?)?;
+    }
+    Ok(ValueList::from(copies))
+}
+
+fn cells_copy(alloc: Global, cells: &[ValueList]) -> Result<CellRowList, AllocError>
+    ensures { IfOk result (λ l. l ≡ cells.now) }
+{
+    let mut copies = Vec::with_capacity(alloc, cells.len())?;
+    for row in cells {
+        copies.push(values_copy(alloc, row.as_slice())?)?;
+    }
+    Ok(CellRowList::from(copies))
+}
+
+/// A copy of a table.
+pub(crate) fn table_copy(alloc: Global, table: &ViewTable) -> Result<ViewTable, AllocError>
+    ensures { IfOk result (λ t. t ≡ table.now) }
+{
+    Ok(ViewTable {
+        id: name_copy(&table.id)?,
+        columns: columns_copy(&table.columns)?,
+        rows: rows_copy(&table.rows)?,
+        cells: cells_copy(alloc, table.cells.as_slice())?,
+    })
+}
+
+/// A copy of tables.
+pub(crate) fn tables_copy(alloc: Global, tables: &[ViewTable]) -> Result<Vec<ViewTable>, AllocError>
+    ensures { IfOk result (λ l. l.items ≡ tables.now) }
+{
+    let mut copies = Vec::with_capacity(alloc, tables.len())?;
+    for table in tables {
+        copies.push(table_copy(alloc, table)?)?;
+    }
+    Ok(copies)
 }

@@ -1,9 +1,10 @@
 //! Rows in ascending order: where one stands, and those that another list does not have.
 
-ghost use Rattle.std.specs.Prelude.{◌≡◌, ◌<◌, false, length, slice_index, IfOk, MatchOption};
-ghost use Rattle.doc_model.specs.Rows.{has, without, IsAscending};
+ghost use Rattle.std.specs.Prelude.{◌≡◌, ◌<◌, ◌↔◌, false, length, slice_index, IfOk, IsTrue, MatchOption, OnOk};
+ghost use Rattle.doc_model.specs.Rows.{IsAscending, all_in, has, insert_row, insert_rows, is_once, none_in, without};
 
 use cell_types::RowList;
+use doc_model::are_rows_once;
 use std::alloc::{AllocError, Global};
 
 /// The place of a row.
@@ -46,4 +47,100 @@ pub(crate) fn rows_without(alloc: Global, gone: &[u32], rows: &[u32]) -> Result<
         }
     }
     Ok(RowList::from(kept))
+}
+
+/// Whether each row is below the next.
+///
+/// Memory: none. Cost: linear.
+pub(crate) fn is_ascending(rows: &[u32]) -> bool
+    ensures { IsTrue result ↔ IsAscending rows.now }
+{
+    for place in 1..rows.len() {
+        if rows[place] <= rows[place - 1] {
+            return false;
+        }
+    }
+    true
+}
+
+/// The rows that are not among those that are gone, which stand in any order.
+///
+/// Cost: as `rows_without` where the rows that are gone ascend, and else the product of both.
+pub(crate) fn rows_left(alloc: Global, gone: &[u32], rows: &[u32]) -> Result<RowList, AllocError>
+    ensures { IfOk result (λ l. l ≡ without gone.now rows.now) }
+{
+    if is_ascending(gone) {
+        return rows_without(alloc, gone, rows);
+    }
+    let mut kept = Vec::new(alloc);
+    for row in rows {
+        if !gone.contains(row) {
+            kept.push(*row)?;
+        }
+    }
+    Ok(RowList::from(kept))
+}
+
+// Puts a row in its place, once.
+fn put_row(rows: &mut Vec<u32>, row: u32) -> Result<(), AllocError>
+    requires { IsAscending rows.old.items }
+    ensures { OnOk result (rows.new.items ≡ insert_row row rows.old.items) }
+{
+    match rows.binary_search(&row) {
+        Ok(_) => Ok(()),
+        Err(place) => Ok(rows.insert(place, row)?),
+    }
+}
+
+/// The rows with new ones in their places.
+///
+/// Cost: the length, and for each new row the rows above it.
+pub(crate) fn rows_with(rows: Vec<u32>, new: &[u32]) -> Result<RowList, AllocError>
+    requires { IsAscending rows.items }
+    ensures { IfOk result (λ l. l ≡ insert_rows new.now rows.items) }
+{
+    let mut all = rows;
+    for row in new {
+        put_row(&mut all, *row)?;
+    }
+    Ok(RowList::from(all))
+}
+
+/// Whether each of the wanted rows stands among the rows.
+///
+/// Memory: none. Cost: the wanted rows, times the logarithm of the others.
+pub(crate) fn are_all_in(wanted: &[u32], rows: &[u32]) -> bool
+    requires { IsAscending rows.now }
+    ensures { result ≡ all_in wanted.now rows.now }
+{
+    for row in wanted {
+        if !has_row(rows, *row) {
+            return false;
+        }
+    }
+    true
+}
+
+/// Whether none of the new rows stands among the rows.
+///
+/// Memory: none. Cost: the new rows, times the logarithm of the others.
+pub(crate) fn are_none_in(new: &[u32], rows: &[u32]) -> bool
+    requires { IsAscending rows.now }
+    ensures { result ≡ none_in new.now rows.now }
+{
+    for row in new {
+        if has_row(rows, *row) {
+            return false;
+        }
+    }
+    true
+}
+
+/// Whether no row stands twice.
+///
+/// Memory: none. Cost: linear where the rows ascend, and else their square.
+pub(crate) fn are_once(rows: &[u32]) -> bool
+    ensures { result ≡ is_once rows.now }
+{
+    is_ascending(rows) || are_rows_once(rows)
 }

@@ -34,13 +34,13 @@ pub fn changes(alloc: Global, before: &View, after: &View) -> Result<ViewActionL
     Ok(ViewActionList::from(actions))
 }
 
-fn find_table<'a>(tables: &'a [ViewTable], id: &Name) -> Option<&'a ViewTable>
+pub(crate) fn find_table<'a>(tables: &'a [ViewTable], id: &Name) -> Option<&'a ViewTable>
     ensures { option_copied result ≡ find_id shown_table_id id.now tables.now }
 {
     tables.iter().find(|table| table.id.as_str() == id.as_str())
 }
 
-fn has_table(tables: &[ViewTable], id: &Name) -> bool
+pub(crate) fn has_table(tables: &[ViewTable], id: &Name) -> bool
     ensures { result ≡ has_id shown_table_id tables.now id.now }
 {
     tables.iter().any(|table| table.id.as_str() == id.as_str())

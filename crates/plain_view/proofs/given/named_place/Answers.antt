@@ -1,0 +1,18 @@
+use Rattle.std.proofs.Common.{cond, Some, sym, ap, ◌∙◌}
+use Rattle.std.specs.Str.{bytes_eq}
+use Rattle.doc_model.specs.declared.column.CellColumn.{CellColumn}
+use Rattle.plain_view.proofs.GivenPlaces.{last_more}
+use Rattle.plain_view.proofs.given.named_place.Goals as goal
+use Rattle.plain_view.proofs.given.named_place.Goals.{then-is_named, else-is_named}
+
+pub loop-place-preserved : goal.loop-place-preserved
+loop-place-preserved c =
+    let column = c.index-columns-place.result in
+    let i = c.loop-place.place in
+    let found = c.loop-place.found in
+    last_more (λ (k : CellColumn). bytes_eq k.id c.args.id.now) c.args.columns.now i column found c.if-is_named.found
+    c.loop-place-test.true c.index-columns-place.is c.loop-place.invariant
+    (elim c.if-is_named.branch [
+      | then-is_named w ↦ w.found-is ∙ ap (λ b. cond b (Some i) found) (sym w.if-is_named.true ∙ c.is_named.ensures)
+      | else-is_named w ↦ w.found-is ∙ ap (λ b. cond b (Some i) found) (sym w.if-is_named.false ∙ c.is_named.ensures)
+    ])

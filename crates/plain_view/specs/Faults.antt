@@ -1,0 +1,9 @@
+-- What a fault of a patch tells.
+use Rattle.std.specs.Prelude.{ℕ, Option, Some, ◌≡◌, ⊤}
+use Rattle.plain_view.specs.declared.patching.PatchFault.{PatchFault}
+use Rattle.plain_view.specs.declared.patching.PatchFault.TheVariants.{NoMemory, Unfit}
+
+-- the place of the first action that does not fit; want of memory tells nothing
+abbrev pub tells : PatchFault → Option ℕ → Type 0
+tells (Unfit index) place = place ≡ Some index
+tells NoMemory place = ⊤

@@ -1,0 +1,66 @@
+//! The values that an action gives, by rows and columns. Of what is given twice the last counts.
+
+ghost use Rattle.std.specs.Prelude.{◌≡◌, bytes_eq};
+ghost use Rattle.std.specs.Bool.{OnTrue};
+ghost use Rattle.std.specs.Option.{option_copied};
+ghost use Rattle.doc_model.specs.Rows.{IsAscending};
+ghost use Rattle.plain_view.specs.Given.{column_at, last_row, last_named};
+
+use crate::rows::row_place;
+use cell_types::Name;
+use doc_model::CellColumn;
+
+/// The last place of a row; rows that ascend are searched faster.
+///
+/// Memory: none. Cost: the logarithm of the rows where they ascend, and else linear.
+pub(crate) fn last_place(rows: &[u32], ascending: bool, row: u32) -> Option<usize>
+    requires { OnTrue ascending (IsAscending rows.now) }
+    ensures { result ≡ last_row rows.now row }
+{
+    if ascending {
+        return row_place(rows, row);
+    }
+    let mut found = None;
+    for (place, other) in rows.iter().enumerate() {
+        if *other == row {
+            found = Some(place);
+        }
+    }
+    found
+}
+
+fn is_named(column: &CellColumn, id: &Name) -> bool
+    ensures { result ≡ bytes_eq column.now.id id.now }
+{
+    column.id.as_str() == id.as_str()
+}
+
+/// The last place of a column of an id.
+///
+/// Memory: none. Cost: linear in the columns.
+pub(crate) fn named_place(columns: &[CellColumn], id: &Name) -> Option<usize>
+    ensures { result ≡ last_named columns.now id.now }
+{
+    let mut found = None;
+    for (place, column) in columns.iter().enumerate() {
+        if is_named(column, id) {
+            found = Some(place);
+        }
+    }
+    found
+}
+
+/// The column at a place.
+///
+/// Memory: none.
+pub(crate) fn column_at<'a>(
+    columns: &'a [CellColumn],
+    place: Option<usize>,
+) -> Option<&'a CellColumn>
+    ensures { option_copied result ≡ column_at columns.now place }
+{
+    match place {
+        Some(place) => columns.get(place),
+        None => None,
+    }
+}

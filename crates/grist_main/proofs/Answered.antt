@@ -1,5 +1,5 @@
 -- What one entry adds to the frames of a history.
-use Rattle.std.proofs.Common.{◌≡◌, ℕ, Bool, true, false, ◌&&◌, ◌||◌, not, List, [], ◌∷◌, ◌++◌, Option, inl, inr, refl, sym, ap, ◌∙◌, subst, append_assoc, append-nil, lit<, lit≤, if◌then◌else◌}
+use Rattle.std.proofs.Common.{◌≡◌, ℕ, true, false, List, [], ◌∷◌, ◌++◌, Option, inl, inr, refl, sym, ap, ◌∙◌, subst, append_assoc, append-nil, lit<, lit≤}
 use Rattle.std.specs.Str.{chars}
 use Rattle.cell_types.specs.NameLength.{HasNameLength}
 use Rattle.doc_model.specs.declared.entry.Entry.{Entry}
@@ -7,13 +7,13 @@ use Rattle.doc_model.specs.declared.user.User.{User}
 use Rattle.doc_model.specs.NewDocument.{new_document}
 use Rattle.io_edges.specs.Sending.{Sends}
 use Rattle.io_edges.proofs.SendingLemmas.{sends_none}
-use Rattle.bundle_core.specs.Core.{CoreState, is_full, is_gone, has_no_effect, with_entry, state_after, IsStep}
+use Rattle.bundle_core.specs.Core.{CoreState, is_full, is_gone, with_entry, IsStep}
 use Rattle.bundle_core.specs.Frames.{framed, frames}
 use Rattle.bundle_core.specs.State.{State, opening, run, step, given}
-use Rattle.grist_main.specs.Admission.{Admission, admitted, takes_all, stops_at}
+use Rattle.grist_main.specs.Admission.{admitted, takes_all, stops_at}
 use Rattle.grist_main.specs.Answering.{AnswersAll, FindsFull, AnswersPart}
 use Rattle.grist_main.specs.Script.{nobody}
-use Rattle.grist_main.specs.Sending.{frames_of, SendsPart, Adds, AddsPart}
+use Rattle.grist_main.specs.Sending.{frames_of, SendsPart}
 use Rattle.grist_main.proofs.Sent.{nothing_sent}
 
 -- the session of lines that are no frame has the length of a name

@@ -1,12 +1,12 @@
 -- Lines that came, and one call of the reader more.
-use Rattle.std.proofs.Common.{◌≡◌, ℕ, ◌+◌, ◌≤◌, List, [], ◌∷◌, ◌++◌, length, Option, Result, Ok, Err, refl, subst, sym, ap, ◌∙◌, append_assoc, append-nil, length-append, arith}
-use Rattle.io_edges.specs.Lines.{IsOneLine, AreLines, lines_of, stream_of, kept_of}
+use Rattle.std.proofs.Common.{◌≡◌, ℕ, List, [], ◌∷◌, ◌++◌, Option, Result, Ok, Err, refl, subst, ap, ◌∙◌, append_assoc, append-nil, length-append, arith}
+use Rattle.io_edges.specs.Lines.{lines_of, stream_of}
 use Rattle.io_edges.specs.NextLine.{Reads, after_text}
 use Rattle.io_edges.specs.Reading.{LineState}
 use Rattle.io_edges.specs.declared.line_reader.NextLine.{NextLine}
 use Rattle.io_edges.specs.declared.line_reader.ReadEnd.{ReadEnd}
 use Rattle.io_edges.specs.declared.line_reader.NextLine.TheVariants.{Line, Last, End}
-use Rattle.io_edges.specs.declared.line_reader.ReadEnd.TheVariants.{ReadFault, TurnsSpent, NoMemory}
+use Rattle.io_edges.specs.declared.line_reader.ReadEnd.TheVariants.{ReadFault, TurnsSpent}
 use Rattle.io_edges.proofs.LineLemmas.{lines_of-rest, lines_of-stream_of, stream_of-push, AreLines-push}
 use Rattle.io_edges.proofs.ReadingLemmas.{consumes_both, consumes_none}
 use Rattle.grist_main.specs.Run.{Came, CameAll}

@@ -1,5 +1,5 @@
 -- How a run ends: what waits is written, or a front of it is.
-use Rattle.std.proofs.Common.{◌≡◌, ℕ, List, [], ◌∷◌, ◌++◌, Option, inl, inr, refl, sym, ap, ◌∙◌, subst, append-nil}
+use Rattle.std.proofs.Common.{◌≡◌, ℕ, List, [], Option, inl, inr, refl, sym, ◌∙◌, subst, append-nil}
 use Rattle.std.specs.Io.KnownBytes.{Appends, Keeps}
 use Rattle.doc_model.specs.declared.entry.Entry.{Entry}
 use Rattle.io_edges.specs.Sending.{Sends, SendsFront}
@@ -7,9 +7,9 @@ use Rattle.io_edges.proofs.SendingLemmas.{appends_none}
 use Rattle.grist_main.specs.declared.status.Status.{Status}
 use Rattle.grist_main.specs.declared.status.Status.TheVariants.{Done, Usage, BadUsers, ReadFault, WriteFault, NoMemory, TurnsSpent, HistoryFull}
 use Rattle.grist_main.specs.Hearing.{Nothing, EndsHearing}
-use Rattle.grist_main.specs.Run.{Runs, IsRun, StopsShort, EndsWell, StopsReading, StopsFull, RefusesUser}
+use Rattle.grist_main.specs.Run.{Runs, IsRun, StopsShort, StopsReading}
 use Rattle.grist_main.specs.Script.{entries_of}
-use Rattle.grist_main.specs.Sending.{SendsPart, frames_of}
+use Rattle.grist_main.specs.Sending.{SendsPart}
 use Rattle.grist_main.specs.Serving.{EndsServing}
 use Rattle.grist_main.proofs.Admitting.{admitted-all, admitted-front}
 use Rattle.grist_main.proofs.Coming.{came_none}

@@ -1,5 +1,5 @@
 -- Users that were heard, and one line more.
-use Rattle.std.proofs.Common.{◌≡◌, ◌⊎◌, ℕ, ◌+◌, List, [], ◌∷◌, ◌++◌, length, Option, Some, None, Ok, Err, inl, inr, ⊎_elim, refl, sym, ap, ◌∙◌, subst, length-append, arith}
+use Rattle.std.proofs.Common.{◌≡◌, ℕ, ◌+◌, List, [], ◌∷◌, ◌++◌, Option, Ok, Err, inl, inr, ⊎_elim, refl, sym, ap, ◌∙◌, subst, length-append, arith}
 use Rattle.doc_model.specs.declared.user.User.{User}
 use Rattle.io_edges.specs.Lines.{kept_of}
 use Rattle.io_edges.specs.NextLine.{Reads}
@@ -10,7 +10,7 @@ use Rattle.grist_main.specs.declared.status.Status.TheVariants.{Done, Usage, Bad
 use Rattle.grist_main.specs.declared.user_lines.Heard.TheVariants as heard
 use Rattle.grist_main.specs.Hearing.{IsHeard, IsAtLine, IsAtLast, IsAtEndOf, HeardSoFar, Nothing, EndsHearing}
 use Rattle.grist_main.specs.Reading.{ReadsNext}
-use Rattle.grist_main.specs.Run.{Came, CameAll, CameFirst, Serves, Runs, StopsShort, RefusesUser}
+use Rattle.grist_main.specs.Run.{Came, CameFirst, Serves, StopsShort, RefusesUser}
 use Rattle.grist_main.specs.UserLines.{Saying, passes, adds, fails, ends, saying, script, bad_user, script_of}
 use Rattle.grist_main.proofs.Coming.{came_none, came_part, came_line, came_last, came_end, came_fault, came_spent}
 use Rattle.grist_main.proofs.Kept.{kept_saying}

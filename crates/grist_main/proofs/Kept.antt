@@ -1,5 +1,5 @@
 -- A line as far as it is kept says and asks for what the line does.
-use Rattle.std.proofs.Common.{◌≡◌, ℕ, ◌<◌, ◌≤◌, List, [], ◌∷◌, length, nat_lt, min, Bool, true, false, refl, sym, ap, ◌∙◌, arith, if◌then◌else◌}
+use Rattle.std.proofs.Common.{◌≡◌, ℕ, ◌<◌, ◌≤◌, List, length, nat_lt, Bool, true, false, refl, ap, arith}
 use Rattle.doc_model.specs.declared.user.User.{User}
 use Rattle.io_edges.specs.Lines.{kept_of}
 use Rattle.io_edges.proofs.LineLemmas.{kept_of-whole, length-kept_of}

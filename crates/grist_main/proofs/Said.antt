@@ -1,5 +1,5 @@
 -- What lines say, and one line more.
-use Rattle.std.proofs.Common.{◌≡◌, ℕ, suc, ◌+◌, ◌<◌, List, [], ◌∷◌, ◌++◌, length, refl, sym, ap, ◌∙◌, arith, append_assoc, add-zero}
+use Rattle.std.proofs.Common.{◌≡◌, ℕ, suc, ◌+◌, List, [], ◌∷◌, ◌++◌, length, sym, ap, ◌∙◌, arith, add-zero}
 use Rattle.doc_model.specs.declared.user.User.{User}
 use Rattle.grist_main.specs.UserLines.{Saying, passes, adds, fails, ends, saying, Script, bad_user, script, script_from, script_of}
 

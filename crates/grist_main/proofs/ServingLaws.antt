@@ -1,11 +1,11 @@
 -- Lines that were answered, and one line more.
-use Rattle.std.proofs.Common.{◌≡◌, ◌⊎◌, ℕ, List, [], ◌∷◌, ◌++◌, length, Option, Result, Ok, Err, inl, inr, ⊎_elim, refl, sym, ap, ◌∙◌, subst, append_assoc, append-nil}
+use Rattle.std.proofs.Common.{◌≡◌, ℕ, List, [], ◌∷◌, ◌++◌, Option, Result, Ok, Err, inl, inr, ⊎_elim, refl, sym, ap, ◌∙◌, subst, append_assoc, append-nil}
 use Rattle.doc_model.specs.declared.entry.Entry.{Entry}
 use Rattle.doc_model.specs.declared.user.User.{User}
 use Rattle.io_edges.specs.Lines.{kept_of}
 use Rattle.io_edges.specs.NextLine.{Reads}
 use Rattle.io_edges.specs.Reading.{LineState}
-use Rattle.io_edges.specs.Sending.{Sends, SendsFront}
+use Rattle.io_edges.specs.Sending.{Sends}
 use Rattle.io_edges.proofs.SendingLemmas.{sends_none}
 use Rattle.io_edges.specs.declared.line_reader.NextLine.{NextLine}
 use Rattle.io_edges.specs.declared.line_reader.NextLine.TheVariants.{Line, Last, End}
@@ -16,9 +16,9 @@ use Rattle.grist_main.specs.Admission.{admitted, takes_all, stops_at}
 use Rattle.grist_main.specs.Answering.{Answers, AnswersAll, AnswersPart, FindsFull}
 use Rattle.grist_main.specs.Hearing.{IsAt, IsAtLine, IsAtLast, IsAtEndOf}
 use Rattle.grist_main.specs.Reading.{ReadsNext}
-use Rattle.grist_main.specs.Run.{Came, CameAll, CameFirst, Serves, Runs, StopsShort}
+use Rattle.grist_main.specs.Run.{Came, CameFirst, Serves}
 use Rattle.grist_main.specs.Script.{line_entries, entries_of}
-use Rattle.grist_main.specs.Sending.{frames_of, SendsPart, Adds, AddsPart}
+use Rattle.grist_main.specs.Sending.{frames_of, SendsPart}
 use Rattle.grist_main.specs.Serving.{IsServing, TakesTurn, EndsServing}
 use Rattle.grist_main.specs.UserLines.{script, script_of}
 use Rattle.grist_main.proofs.Admitting.{admitted-append, admitted-all}

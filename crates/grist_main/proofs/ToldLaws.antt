@@ -1,12 +1,11 @@
 -- What a run did with an input whose bytes are told.
-use Rattle.std.proofs.Common.{◌≡◌, ◌⊎◌, ℕ, List, [], ◌∷◌, ◌++◌, Option, Some, None, inl, inr, ⊎_elim, refl, sym, ap, ◌∙◌, subst, append_assoc, append-nil}
-use Rattle.std.specs.Io.KnownBytes.{Appends, Consumes, IsAtEnd}
+use Rattle.std.proofs.Common.{◌≡◌, ℕ, List, [], ◌∷◌, ◌++◌, Option, Some, None, inl, ⊎_elim, refl, sym, ap, ◌∙◌, subst, append_assoc, append-nil}
+use Rattle.std.specs.Io.KnownBytes.{Appends}
 use Rattle.doc_model.specs.declared.entry.Entry.{Entry}
 use Rattle.doc_model.specs.declared.user.User.{User}
-use Rattle.io_edges.specs.Lines.{lines_of, stream_of}
+use Rattle.io_edges.specs.Lines.{lines_of}
 use Rattle.io_edges.specs.Sending.{SendsFront}
 use Rattle.io_edges.proofs.LineLemmas.{lines_of-stream_of}
-use Rattle.io_edges.proofs.SendingLemmas.{appends_none}
 use Rattle.grist_main.specs.declared.status.Status.{Status}
 use Rattle.grist_main.specs.declared.status.Status.TheVariants.{Done, Usage, BadUsers, ReadFault, WriteFault, NoMemory, TurnsSpent, HistoryFull}
 use Rattle.grist_main.specs.Admission.{admitted, takes_all, stops_at}
@@ -14,7 +13,7 @@ use Rattle.grist_main.specs.Run.{Came, CameAll, CameFirst, IsRun}
 use Rattle.grist_main.specs.Script.{line_entries, entries_of}
 use Rattle.grist_main.specs.Sending.{frames_of}
 use Rattle.grist_main.specs.Told.{script_in, entries_in, Follows, AnswersFront, WritesFront}
-use Rattle.grist_main.specs.UserLines.{script, bad_user, script_of, asking_lines, users_said}
+use Rattle.grist_main.specs.UserLines.{script, script_of, asking_lines, users_said}
 use Rattle.grist_main.proofs.Admitting.{admitted-all, admitted-stays, no_front, takes≢stops}
 use Rattle.grist_main.proofs.Coming.{stream_of-append}
 use Rattle.grist_main.proofs.Said.{script-asks, script-bad}

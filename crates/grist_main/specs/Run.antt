@@ -1,5 +1,5 @@
 -- What a run does: which lines it read, the history that they led to, and what it wrote.
-use Rattle.std.specs.Prelude.{◌≡◌, ◌⊎◌, ℕ, ◌+◌, ◌≤◌, List, [], ◌∷◌, ◌++◌, length, Option}
+use Rattle.std.specs.Prelude.{◌≡◌, ◌⊎◌, ℕ, ◌≤◌, List, [], ◌++◌, length, Option}
 use Rattle.std.specs.Io.KnownBytes.{Consumes, Appends, Keeps, IsAtEnd}
 use Rattle.doc_model.specs.declared.entry.Entry.{Entry}
 use Rattle.doc_model.specs.declared.user.User.{User}
@@ -10,7 +10,7 @@ use Rattle.grist_main.specs.declared.status.Status.TheVariants.{Done, Usage, Bad
 use Rattle.grist_main.specs.Admission.{admitted, takes_all, stops_at}
 use Rattle.grist_main.specs.Script.{entries_of}
 use Rattle.grist_main.specs.Sending.{frames_of}
-use Rattle.grist_main.specs.UserLines.{Script, bad_user, script, script_of, asking_lines}
+use Rattle.grist_main.specs.UserLines.{bad_user, script, script_of}
 
 -- bytes came by at least so many reads: these lines, each with its newline, and a rest
 pub record Came (left_old left_new : Option (List ℕ)) (lines : List (List ℕ)) (rest : List ℕ) (turns : ℕ) : Type 0 where

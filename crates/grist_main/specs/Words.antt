@@ -1,5 +1,5 @@
 -- The words of a command line, and the statuses of the program.
-use Rattle.std.specs.Prelude.{ℕ, Bool, true, false, List, [], ◌∷◌, codes}
+use Rattle.std.specs.Prelude.{ℕ, Bool, false, List, [], ◌∷◌, codes}
 use Rattle.std.specs.Str.{bytes_eq}
 use Rattle.grist_main.specs.declared.status.Status.{Status}
 use Rattle.grist_main.specs.declared.status.Status.TheVariants.{Done, Usage, BadUsers, ReadFault, WriteFault, NoMemory, TurnsSpent, HistoryFull}

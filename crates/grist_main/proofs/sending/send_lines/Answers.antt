@@ -1,4 +1,4 @@
-use Rattle.std.proofs.Common.{◌≤◌, sym, arith}
+use Rattle.std.proofs.Common.{arith}
 use Rattle.grist_main.proofs.Sent.{line_sent, line_lost}
 use Rattle.grist_main.proofs.sending.send_lines.Goals as goal
 

@@ -1,4 +1,3 @@
-use Rattle.std.proofs.Common.{sym}
 use Rattle.grist_main.proofs.HeardLaws.{heard_stops, heard_end, heard_users, heard_bad, heard_request, heard_nothing_of_line, heard_last_users, heard_last_bad, heard_last_request, heard_nothing_of_last}
 use Rattle.grist_main.proofs.user_lines.hear_next.Goals as goal
 

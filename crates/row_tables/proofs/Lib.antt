@@ -4,3 +4,4 @@ pub mod Built
 pub mod Places
 pub mod SpotLaws
 pub mod KeptLaws
+pub mod StepLaws

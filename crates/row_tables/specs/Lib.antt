@@ -2,3 +2,5 @@ pub mod TableCode
 pub mod Known
 pub mod Spots
 pub mod Kept
+pub mod Steps
+pub mod Back

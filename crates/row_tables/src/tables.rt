@@ -6,17 +6,19 @@ ghost use Rattle.doc_model.specs.ByIds.{find_id};
 ghost use Rattle.doc_model.specs.Document.{table_id};
 ghost use Rattle.doc_model.specs.MetadataIds.{resources_id, rules_id};
 ghost use Rattle.doc_model.specs.NewDocument.{first_table, new_document, no_rows};
-ghost use Rattle.doc_model.specs.Readers.{cell_at, column_at, rows_at, table_at};
 ghost use Rattle.doc_model.specs.Schema.{metadata_table, resources_columns, rules_columns};
 
 use crate::RowTable;
 use crate::known::{Known, name_of};
 use crate::metadata::{first_columns, metadata_table, resources_columns, rules_columns};
+use crate::put::{Replaced, schema_put};
 use crate::schema::with_schema;
+use crate::steps::{changed_table, is_record, place_of_table, table_named};
 use cell_types::{CellValue, Name};
-use doc_model::ColDef;
+use doc_model::{ColDef, DocAction, DocTables};
 use std::alloc::{AllocError, Global};
 use std::marker::Model;
+use std::mem;
 
 /// A document, kept as a vector of tables in the order of the document.
 #[derive(Drop)]
@@ -103,40 +105,66 @@ impl RowTables {
         let tables = new_tables(alloc)?;
         Ok(RowTables { tables })
     }
+}
 
-    /// The id of the table at a place.
-    ///
-    /// Memory: none.
-    pub fn table(&self, place: usize) -> Option<&Name>
-        ensures { MatchOption result (table_at self.now place ≡ None) (λ name. table_at self.now place ≡ Some name.now) }
-    {
+/// What takes an action back: the tables that it replaced.
+#[derive(Drop)]
+pub struct RowBack {
+    replaced: Replaced,
+}
+
+impl DocTables for RowTables {
+    ghost use Rattle.row_tables.specs.Back.{fits_back, put_back};
+
+    type Back = RowBack;
+
+    ghost document = { λ s. s };
+
+    ghost undone = { λ back s. put_back back.replaced s };
+
+    ghost fits = { λ back s. fits_back back.replaced s };
+
+    fn table(&self, place: usize) -> Option<&Name> {
         Some(self.tables.get(place)?.id())
     }
 
-    /// The column at a place of a table.
-    ///
-    /// Memory: none. Cost: linear in the tables.
-    pub fn column(&self, table: &Name, place: usize) -> Option<&ColDef>
-        ensures { MatchOption result (column_at self.now table.now place ≡ None) (λ column. column_at self.now table.now place ≡ Some column.now) }
-    {
+    fn column(&self, table: &Name, place: usize) -> Option<&ColDef> {
         find_table(&self.tables, table)?.columns().get(place)
     }
 
-    /// The row ids of a table; they ascend.
-    ///
-    /// Memory: none. Cost: linear in the tables.
-    pub fn rows(&self, table: &Name) -> Option<&[u32]>
-        ensures { MatchOption result (rows_at self.now table.now ≡ None) (λ rows. rows_at self.now table.now ≡ Some rows.now) }
-    {
+    fn rows(&self, table: &Name) -> Option<&[u32]> {
         Some(find_table(&self.tables, table)?.rows())
     }
 
-    /// The base cell of a table at a column and a row.
-    ///
-    /// Memory: none. Cost: linear in the tables, and in the table's rows and columns.
-    pub fn cell(&self, table: &Name, column: &Name, row: u32) -> Option<&CellValue>
-        ensures { MatchOption result (cell_at self.now table.now column.now row ≡ None) (λ value. cell_at self.now table.now column.now row ≡ Some value.now) }
-    {
+    fn cell(&self, table: &Name, column: &Name, row: u32) -> Option<&CellValue> {
         find_table(&self.tables, table)?.cell(column, row)
+    }
+
+    fn put(&mut self, action: &DocAction) -> Result<RowBack, AllocError> {
+        if !is_record(action) {
+            let alloc = *self.tables.allocator();
+            let next = schema_put(alloc, &self.tables, action)?;
+            let tables = mem::replace(&mut self.tables, next);
+            let replaced = Replaced::All { tables };
+            return Ok(RowBack { replaced });
+        }
+        let Some(place) = place_of_table(&self.tables, table_named(action)) else {
+            unreachable!()
+        };
+        let changed = changed_table(&self.tables[place], action)?;
+        let table = mem::replace(&mut self.tables[place], changed);
+        let replaced = Replaced::Table { place, table };
+        Ok(RowBack { replaced })
+    }
+
+    fn take_back(&mut self, back: RowBack) {
+        match back.replaced {
+            Replaced::All { tables } => self.tables = tables,
+            Replaced::Table { place, table } => {
+                if place < self.tables.len() {
+                    self.tables[place] = table;
+                }
+            }
+        }
     }
 }

@@ -3,7 +3,7 @@ use Rattle.doc_model.specs.ByIds.{find_id}
 use Rattle.doc_model.specs.Document.{table_id}
 use Rattle.doc_model.specs.Readers.{cell_at}
 use Rattle.row_tables.proofs.KeptLaws.{told_by, cell-found}
-use Rattle.row_tables.proofs.tables.RowTables.cell.Goals as goal
+use Rattle.row_tables.proofs.tables.RowTablesDocTables.cell.Goals as goal
 
 pub returns : goal.returns
 returns c =

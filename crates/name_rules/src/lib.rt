@@ -6,9 +6,9 @@
 //! Promises: `is_name` is the definition in specs/NameRule.antt of `cell_types`, and takes no memory;
 //! what it takes has the length of a name. `free_name` is the definition in specs/FreeName.antt: the
 //! wanted id where it is free, otherwise the wanted id with the least number from 2 upwards that
-//! makes it free. There always is such a number, and a good name stays one.
-//! Not promised: how many numbers are tried, beyond 12 for each taken name and 100 more; that memory
-//! is found.
+//! makes it free. There is such a number below 102 and 12 more for each taken name, and what is made
+//! of a good name is one.
+//! Not promised: that `free_name` finds memory.
 //! Read first: name_rule.rt, specs/FreeName.antt, free_id.rt.
 #![tactic(auto)]
 

@@ -3,11 +3,11 @@
 //! Stands on `cell_types` (names, and the definition of a good one) and `unicode_ident`.
 //! No other crate of the repository uses it yet.
 //!
-//! Promises: `is_name` is the definition in specs/NameRule.antt of `cell_types`, and takes no memory;
-//! what it takes has the length of a name. `free_name` is the definition in specs/FreeName.antt: the
-//! wanted id where it is free, otherwise the wanted id with the least number from 2 upwards that
-//! makes it free. There is such a number below 102 and 12 more for each taken name, and what is made
-//! of a good name is one.
+//! Promises: `is_name` is the definition in specs/NameRule.antt of `cell_types`, and takes no
+//! memory; what it takes has the length of a name. `free_name` is the definition in
+//! specs/FreeName.antt: the wanted id where it is free, otherwise the wanted id with the least
+//! number from 2 upwards that makes it free. There is such a number below 102 and 12 more for each
+//! taken name, and what is made of a good name is one.
 //! Not promised: that `free_name` finds memory.
 //! Read first: name_rule.rt, specs/FreeName.antt, free_id.rt.
 #![tactic(auto)]

@@ -17,6 +17,7 @@ mod columns;
 mod copies;
 mod editing;
 mod fitting;
+mod full;
 mod given;
 mod patching;
 mod placing;
@@ -26,5 +27,6 @@ mod revision;
 mod rows;
 mod view_changes;
 
+pub use full::are_full;
 pub use patching::{PatchFault, patch};
 pub use view_changes::changes;

@@ -1,0 +1,5 @@
+pub mod CellLemmas
+pub mod OrderLemmas
+pub mod SpotLemmas
+pub mod TableLemmas
+pub mod MetadataLemmas

@@ -1,0 +1,20 @@
+//! What takes a document action back.
+//!
+//! Stands on `cell_types` (values, names and lists) and `doc_model` (documents, their actions and
+//! what a store of a document tells). Used where an undo is kept or made.
+//!
+//! Promises: `inverse` gives the inverse of a valid action, taken at the document before it, over
+//! any store that tells that document; the inverse law of `doc_model` says that this list is valid
+//! after the action and gives the document back.
+//! Not promised: that the list keeps within limits.
+//! Read first: undo.rt, then again.rt.
+#![tactic(auto)]
+
+mod again;
+mod cells;
+mod columns;
+mod metadata;
+mod order;
+mod undo;
+
+pub use undo::inverse;

@@ -13,7 +13,7 @@ unfoldable pub numbered : List ℕ → ℕ → List ℕ
 numbered text number =
     encode_utf8_all (take (64 - length (decimal number)) (chars text)) ++ decimal number
 
--- the least number from one on that makes the text free, where it is among the next `count` ones
+-- from a number on, the least one that makes the text free, where it is among the first `count`
 unfoldable pub least_free : List (List ℕ) → List ℕ → ℕ → ℕ → ℕ
 least_free taken text number zero = number
 least_free taken text number (suc count) =

@@ -26,7 +26,7 @@ free_name taken text =
     if is_taken taken text then numbered text (least_free taken text 2 (12 * length taken + 100))
     else text
 
--- the name is the text with the least number from 2 upwards that makes it free
+-- the name is the text with a number from 2 upwards, and no lesser one makes the text free
 pub record HasLeastNumber (taken : List (List ℕ)) (text name : List ℕ) : Type 0 where
   pub number : ℕ
   pub spelled : name ≡ numbered text number

@@ -25,6 +25,8 @@ mod rebuilding;
 mod records;
 mod revision;
 mod rows;
+#[cfg(test)]
+mod tests;
 mod view_changes;
 
 pub use full::are_full;

@@ -26,8 +26,8 @@ added_column t before d = cond (has_id shown_id before d.id) [] (AddColumn t d �
 abbrev pub modified_column : List ℕ → List ViewCol → ViewCol → List ViewAction
 modified_column t before d = cond (differs before d) (ModifyColumn t d ∷ []) []
 
--- whether the cell of a row that stays is another one than before; in a new column it was the type's
--- default
+-- whether the cell of a row that stays is another one than before; in a new column it was the
+-- type's default
 abbrev pub is_told : Grid ViewCol → Grid ViewCol → ViewCol → ℕ → Bool
 is_told g w d r =
     has g.rows r

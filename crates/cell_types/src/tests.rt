@@ -1,11 +1,12 @@
-//! What no clause says: that the table of conversion and the texts of values are the ones meant, that
-//! the calls succeed where there is memory, and what a new cell holds. Expected values are written
-//! down from the users' table of conversion, not from the code.
+//! What no clause says: that the table of conversion and the texts of values are the ones meant,
+//! that the calls succeed where there is memory, and what a new cell holds. Expected values are
+//! written down from the users' table of conversion, not from the code.
 //!
 //! `values_become_what_the_table_says` has each row of that table at each type of column, with the
 //! values at which an answer changes; `values_show_their_texts` has each kind of value, and items
-//! without escapes; `texts_end_at_the_bound` has a text and a list that fit to the byte, and one byte
-//! more; `values_are_the_same_as_their_copies_alone` has each of those values beside each other one.
+//! without escapes; `texts_end_at_the_bound` has a text and a list that fit to the byte, and one
+//! byte more; `values_are_the_same_as_their_copies_alone` has each of those values beside each
+//! other one; `new_cells_hold_defaults` has the default of each type.
 
 mod samples;
 
@@ -16,9 +17,9 @@ use samples::{Part, Sample, quoted, shown, text, types, value_of};
 use std::alloc::{AllocError, Global};
 use std::test::Fail;
 
-// Values, and what each becomes in columns of Any, Text, Int, Bool, Date, Ref:T and RefList:T: `=` is
-// the value itself, `text` its text; any other text stands between quotes, and other values show
-// their texts.
+// Values, and what each becomes in columns of Any, Text, Int, Bool, Date, Ref:T and RefList:T: `=`
+// is the value itself, `text` its text; any other text stands between quotes, and other values
+// show their texts.
 const CONVERSIONS: [(&[Sample], &str); 31] = [
     (&[One(Null)], "=|=|=|False|=|0|="),
     (&[One(Int(0))], "=|text|=|False|d0|=|None"),

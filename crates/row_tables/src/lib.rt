@@ -26,6 +26,8 @@ mod schema;
 mod steps;
 mod table;
 mod tables;
+#[cfg(test)]
+mod tests;
 
 pub use table::RowTable;
 pub use tables::{RowBack, RowTables};

@@ -4,6 +4,7 @@ pub mod Division
 pub mod Equality
 pub mod Joined
 pub mod Kind
+pub mod Message
 pub mod Numbers
 pub mod Order
 pub mod Truth

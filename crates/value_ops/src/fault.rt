@@ -1,5 +1,8 @@
 //! Why an operator has no result.
 
+ghost use Rattle.std.specs.Prelude.{◌≡◌};
+ghost use Rattle.cell_types.specs.ValueText.{err_text};
+
 use cell_types::ErrKind;
 use std::alloc::AllocError;
 use std::fmt;
@@ -14,15 +17,36 @@ pub enum OpFault {
 }
 
 impl fmt::Display for OpFault {
+    ghost use Rattle.std.specs.Prelude.{Some};
+    ghost use Rattle.value_ops.specs.Message.{message_of};
+
+    ghost output = { λ fault. Some (message_of fault) };
+
     fn fmt<W: fmt::Write>(&self, f: &mut fmt::Formatter<W>) -> fmt::Result {
         match self {
-            OpFault::Raised(kind) => write!(f, "the operator raises {kind:?}"),
+            OpFault::Raised(kind) => write!(f, "the operator raises {}", error_name(*kind)),
             OpFault::NoMemory => write!(f, "out of memory"),
         }
     }
 }
 
 impl std::error::Error for OpFault {}
+
+// The name that cells show.
+fn error_name(kind: ErrKind) -> &'static str
+    ensures { result.now ≡ err_text kind }
+{
+    match kind {
+        ErrKind::Circular => "CircularRefError",
+        ErrKind::ZeroDivision => "ZeroDivisionError",
+        ErrKind::WrongType => "TypeError",
+        ErrKind::Attribute => "AttributeError",
+        ErrKind::Key => "KeyError",
+        ErrKind::Name => "NameError",
+        ErrKind::Overflow => "OverflowError",
+        ErrKind::Syntax => "SyntaxError",
+    }
+}
 
 impl From<ErrKind> for OpFault {
     ghost use Rattle.std.specs.Prelude.{◌≡◌};

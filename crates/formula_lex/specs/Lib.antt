@@ -5,3 +5,4 @@ pub mod Places
 pub mod Classes
 pub mod Machine
 pub mod Lexed
+pub mod Message

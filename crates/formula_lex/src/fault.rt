@@ -15,6 +15,11 @@ pub enum LexFault {
 }
 
 impl fmt::Display for LexFault {
+    ghost use Rattle.std.specs.Prelude.{Some};
+    ghost use Rattle.formula_lex.specs.Message.{message_of};
+
+    ghost output = { λ fault. Some (message_of fault) };
+
     fn fmt<W: fmt::Write>(&self, f: &mut fmt::Formatter<W>) -> fmt::Result {
         match self {
             LexFault::Bad { at } => write!(f, "no token at byte {at}"),

@@ -1,5 +1,6 @@
 //! Expected values are worked out by hand from the tokens' description in docs/FORMULAS.md.
-//! `reads_tokens` shows kinds, values and places; `refuses_texts` shows where reading ends.
+//! `reads_tokens` shows kinds, values and places; `refuses_texts` shows where reading ends;
+//! `faults_tell_their_place` has the messages.
 
 use crate::{LexFault, Token, TokenKind, tokens};
 use std::alloc::{AllocError, Global};
@@ -86,4 +87,16 @@ fn refuses_texts(rt: HostRuntime) {
         let fault = tokens(rt.alloc(), text).err();
         assert_eq!(rt; fault, Some(LexFault::Bad { at }), "at {text:?}");
     }
+}
+
+#[test]
+fn faults_tell_their_place(rt: HostRuntime) -> Result<(), Fail> {
+    for (fault, want) in [
+        (LexFault::Bad { at: 17 }, "no token at byte 17"),
+        (LexFault::NoMemory, "out of memory"),
+    ] {
+        let message = format!(in rt.alloc(); "{fault}")?;
+        assert_eq!(rt; message.as_str(), want);
+    }
+    Ok(())
 }

@@ -17,3 +17,4 @@ pub mod Operands
 pub mod Steps
 pub mod Runs
 pub mod Parsed
+pub mod Message

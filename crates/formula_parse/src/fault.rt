@@ -17,6 +17,11 @@ pub enum ParseFault {
 }
 
 impl fmt::Display for ParseFault {
+    ghost use Rattle.std.specs.Prelude.{Some};
+    ghost use Rattle.formula_parse.specs.Message.{message_of};
+
+    ghost output = { λ fault. Some (message_of fault) };
+
     fn fmt<W: fmt::Write>(&self, f: &mut fmt::Formatter<W>) -> fmt::Result {
         match self {
             ParseFault::Syntax { at } => write!(f, "no formula, from byte {at} on"),

@@ -1,7 +1,8 @@
 //! `groups_as_python_does`: these texts are Python expressions too, and the expected shapes are
 //! those that Python 3 reads (its module `ast`; a chain of `or` or `and` is taken two at a time).
 //! `reads_each_form` and `refuses_texts` follow the grammar in docs/FORMULAS.md by hand, and
-//! `keeps_the_limits` its bounds. `reads_rules` shows what the other dialect has and leaves out.
+//! `keeps_the_limits` its bounds. `reads_rules` shows what the other dialect has and leaves out;
+//! `faults_tell_their_place` has the messages.
 
 use crate::{Dialect, Formula, Node, ParseFault, RuleAtom, parse, read_tree};
 use std::alloc::{AllocError, Global};
@@ -327,5 +328,17 @@ fn reads_rules(rt: HostRuntime) -> Result<(), Fail> {
         assert!(rt; refused, "at {text:?}");
     }
     assert!(rt; read_tree(alloc, Dialect::Rule, " ")?.is_none());
+    Ok(())
+}
+
+#[test]
+fn faults_tell_their_place(rt: HostRuntime) -> Result<(), Fail> {
+    for (fault, want) in [
+        (ParseFault::Syntax { at: 17 }, "no formula, from byte 17 on"),
+        (ParseFault::NoMemory, "out of memory"),
+    ] {
+        let message = format!(in rt.alloc(); "{fault}")?;
+        assert_eq!(rt; message.as_str(), want);
+    }
     Ok(())
 }

@@ -37,7 +37,7 @@ module _ {K V : Type 0} (p : K → Bool) where
   each_beside P (k ∷ ks) (v ∷ vs) d e h any =
       elim (p k) as (λ b. (b || list_any p ks) ≡ true → P (cond b v (beside p ks vs d))) [ true ↦ λ _. h.0 | false ↦ λ any. each_beside P ks vs d (omega arith) h.1 any ] any
 
-  beside_absent : (ks : List K) (vs : List V) (d : V) → list_any p ks ≡ false → beside p ks vs d ≡ d
+  pub beside_absent : (ks : List K) (vs : List V) (d : V) → list_any p ks ≡ false → beside p ks vs d ≡ d
   beside_absent [] vs d e = refl
   beside_absent (k ∷ ks) [] d e = refl
   beside_absent (k ∷ ks) (v ∷ vs) d e = elim (p k) as (λ b. (b || list_any p ks) ≡ false → cond b v (beside p ks vs d) ≡ d) [ true ↦ λ e. absurd (true≢false e) | false ↦ λ e. beside_absent ks vs d e ] e

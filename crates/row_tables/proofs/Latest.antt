@@ -1,10 +1,15 @@
--- The last value that is found on a walk.
-use Rattle.std.proofs.Common.{ℕ, zero, suc, true, false, cond, List, [], ◌∷◌, ◌+◌, drop, get_or, length, ◌≡◌, ◌<◌, refl, sym, ap, ◌∙◌, Option, Some, None, slice_get, eqb, Bor}
+-- The last value that is given, found on a walk.
+use Rattle.std.proofs.Common.{ℕ, zero, suc, true, false, cond, ◌||◌, ◌&&◌, not, List, [], ◌∷◌, ◌+◌, drop, get_or, length, ◌≡◌, ◌<◌, refl, sym, ap, subst, ◌∙◌, Option, Some, None, slice_get, eqb, Bor, arith}
+use Rattle.std.proofs.lemmas.Bool.{false≢true, eqb-true, eq-eqb}
 use Rattle.std.specs.Option.{option_copied, option_or}
 use Rattle.std.specs.Str.{bytes_eq}
 use Rattle.cell_types.specs.declared.value.CellValue.{CellValue}
 use Rattle.doc_model.specs.declared.column.CellColumn.{CellColumn}
 use Rattle.doc_model.specs.Records.{or_else, value_for, given}
+use Rattle.doc_model.specs.Rows.{has, is_once}
+use Rattle.doc_model.proofs.Choices.{cond_true, cond_false, false_from}
+use Rattle.doc_model.proofs.RecordsLaws.{value_for_absent}
+use Rattle.row_tables.specs.RowPlaces.{given_at}
 use Rattle.row_tables.proofs.Walks.{drop_read}
 
 module _ {X : Type 0} where
@@ -12,39 +17,50 @@ module _ {X : Type 0} where
   or_else-assoc None b c = refl
   or_else-assoc (Some x) b c = refl
 
+  or_else_none : (o : Option X) → or_else o None ≡ o
+  or_else_none None = refl
+  or_else_none (Some x) = refl
+
   -- what references lead to
   pub copied-or : (a b : Option (Bor X)) → option_copied (option_or a b) ≡ or_else (option_copied a) (option_copied b)
   copied-or None b = refl
   copied-or (Some x) b = refl
 
-  read-drop : (i : ℕ) (xs : List X) → slice_get (drop i xs) 0 ≡ slice_get xs i
-  read-drop zero xs = refl
-  read-drop (suc i) [] = refl
-  read-drop (suc i) (x ∷ xs) = read-drop i xs
-
-none_for : (rows : List ℕ) (r : ℕ) → value_for rows [] r ≡ None
-none_for [] r = refl
-none_for (q ∷ rows) r = refl
-
-value_first : (q : ℕ) (rows : List ℕ) (vs : List CellValue) (r : ℕ) (last : Option CellValue)
-    → or_else (value_for rows (drop 1 vs) r) (or_else (cond (eqb q r) (slice_get vs 0) None) last) ≡ or_else (value_for (q ∷ rows) vs r) last
-value_first q rows [] r last =
-    ap (λ o. or_else o (or_else (cond (eqb q r) None None) last)) (none_for rows r)
-    ∙ elim (eqb q r) as (λ b. ◌≡◌ {A = Option CellValue} (or_else (cond b None None) last) last) [ true ↦ refl | false ↦ refl ]
-value_first q rows (v ∷ vs) r last = sym (or_else-assoc (value_for rows vs r) (cond (eqb q r) (Some v) None) last)
-
--- one more value
-pub value_step : (rows : List ℕ) (vs : List CellValue) (r i q : ℕ) (last : Option CellValue) → i < length rows → q ≡ get_or rows i q
-    → or_else (value_for (drop (i + 1) rows) (drop (i + 1) vs) r) (or_else (cond (eqb q r) (slice_get vs i) None) last) ≡ or_else (value_for (drop i rows) (drop i vs) r) last
-value_step rows vs r i q last l e =
-    ap (λ ws. or_else (value_for (drop (i + 1) rows) ws r) (or_else (cond (eqb q r) (slice_get vs i) None) last)) (sym (Rattle.std.proofs.lemmas.List.drop-drop 1 i vs))
-    ∙ ap (λ o. or_else (value_for (drop (i + 1) rows) (drop 1 (drop i vs)) r) (or_else (cond (eqb q r) o None) last)) (sym (read-drop i vs))
-    ∙ value_first q (drop (i + 1) rows) (drop i vs) r last
-    ∙ ap (λ qs. or_else (value_for qs (drop i vs) r) last) (sym (drop_read rows i q l e))
-
 -- one more given column
-pub given_step : (rows : List ℕ) (ks : List CellColumn) (c : List ℕ) (r i : ℕ) (k : CellColumn) (last : Option CellValue) → i < length ks → k ≡ get_or ks i k
-    → or_else (given rows (drop (i + 1) ks) c r) (or_else (cond (bytes_eq k.id c) (value_for rows k.values r) None) last) ≡ or_else (given rows (drop i ks) c r) last
-given_step rows ks c r i k last l e =
-    sym (or_else-assoc (given rows (drop (i + 1) ks) c r) (cond (bytes_eq k.id c) (value_for rows k.values r) None) last)
-    ∙ ap (λ qs. or_else (given rows qs c r) last) (sym (drop_read ks i k l e))
+pub given_step : (ks : List CellColumn) (c : List ℕ) (place i : ℕ) (k : CellColumn) (last : Option CellValue) → i < length ks → k ≡ get_or ks i k
+    → or_else (given_at (drop (i + 1) ks) c place) (or_else (cond (bytes_eq k.id c) (slice_get k.values place) None) last) ≡ or_else (given_at (drop i ks) c place) last
+given_step ks c place i k last l e =
+    sym (or_else-assoc (given_at (drop (i + 1) ks) c place) (cond (bytes_eq k.id c) (slice_get k.values place) None) last)
+    ∙ ap (λ qs. or_else (given_at qs c place) last) (sym (drop_read ks i k l e))
+
+-- ---- rows that stand once
+
+once_parts : (r : ℕ) (rows : List ℕ) → is_once (r ∷ rows) ≡ true → (has rows r ≡ false) × (is_once rows ≡ true)
+once_parts r rows e =
+    elim (has rows r) as (λ b. (not b && is_once rows) ≡ true → (b ≡ false) × (is_once rows ≡ true)) [ true ↦ λ e. absurd (false≢true e) | false ↦ λ e. (refl, e) ] e
+
+pub has_read : (rows : List ℕ) (i q : ℕ) → i < length rows → q ≡ get_or rows i q → has rows q ≡ true
+has_read [] i q l e = absurd (omega arith)
+has_read (r ∷ rows) zero q l e = ap (λ b. b || has rows q) (eq-eqb r q (sym e))
+has_read (r ∷ rows) (suc i) q l e =
+    elim (eqb r q) as (λ b. (b || has rows q) ≡ true) [ true ↦ refl | false ↦ has_read rows i q (omega arith) e ]
+
+-- beside a row that stands once there is one value
+value_place : (rows : List ℕ) (vs : List CellValue) (i q : ℕ) → is_once rows ≡ true → i < length rows → q ≡ get_or rows i q → value_for rows vs q ≡ slice_get vs i
+value_place [] vs i q o l e = absurd (omega arith)
+value_place (r ∷ rows) [] zero q o l e = refl
+value_place (r ∷ rows) (v ∷ vs) zero q o l e =
+    ap (λ w. or_else w (cond (eqb r q) (Some v) None)) (value_for_absent rows vs q (subst (λ n. has rows n ≡ false) (sym e) (once_parts r rows o).0))
+    ∙ cond_true (eqb r q) (Some v) None (eq-eqb r q (sym e))
+value_place (r ∷ rows) [] (suc i) q o l e = refl
+value_place (r ∷ rows) (v ∷ vs) (suc i) q o l e =
+    let apart : eqb r q ≡ false = false_from (eqb r q) (λ same. false≢true (sym (once_parts r rows o).0 ∙ subst (λ n. has rows n ≡ true) (sym (eqb-true r q same)) (has_read rows i q (omega arith) e))) in
+    ap (or_else (value_for rows vs q)) (cond_false (eqb r q) (Some v) None apart) ∙ or_else_none (value_for rows vs q)
+    ∙ value_place rows vs i q (once_parts r rows o).1 (omega arith) e
+
+-- what is given to a column in such a row
+pub given_place : (rows : List ℕ) (ks : List CellColumn) (c : List ℕ) (i q : ℕ) → is_once rows ≡ true → i < length rows → q ≡ get_or rows i q → given rows ks c q ≡ given_at ks c i
+given_place rows [] c i q o l e = refl
+given_place rows (k ∷ ks) c i q o l e =
+    ap (λ w. or_else w (cond (bytes_eq k.id c) (value_for rows k.values q) None)) (given_place rows ks c i q o l e)
+    ∙ ap (λ w. or_else (given_at ks c i) (cond (bytes_eq k.id c) w None)) (value_place rows k.values i q o l e)

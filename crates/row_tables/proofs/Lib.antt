@@ -5,3 +5,9 @@ pub mod Places
 pub mod SpotLaws
 pub mod KeptLaws
 pub mod StepLaws
+pub mod RowPlaceLaws
+pub mod AddedLaws
+pub mod WrittenLaws
+pub mod TakenLaws
+pub mod ChangeLaws
+pub mod BesideLaws

@@ -48,7 +48,7 @@ schema_effect s (RemoveColumn table column) e = refl
 schema_effect s (RenameColumn table column new) e = refl
 schema_effect s (ModifyColumn table column info) e = refl
 
-record_found : (s : Document) (id : List ℕ) (t : Table) → record_table s id ≡ Some t → find_id table_id id s ≡ Some t
+pub record_found : (s : Document) (id : List ℕ) (t : Table) → record_table s id ≡ Some t → find_id table_id id s ≡ Some t
 record_found s id t =
     elim (is_schema_id id) as (λ b. cond b None (find_id table_id id s) ≡ Some t → find_id table_id id s ≡ Some t) [ true ↦ λ e. absurd (cc) | false ↦ λ e. e ]
 

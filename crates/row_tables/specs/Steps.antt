@@ -1,10 +1,13 @@
 -- Document actions as changes of one table, or of the plain tables.
-use Rattle.std.specs.Prelude.{ℕ, ◌+◌, Bool, true, false, cond, nat_lt, List, [], ◌∷◌}
+use Rattle.std.specs.Prelude.{ℕ, ◌+◌, ◌≡◌, Bool, true, false, cond, nat_lt, List, [], ◌∷◌, ⊤}
 use Rattle.doc_model.specs.declared.action.DocAction.{DocAction}
 use Rattle.doc_model.specs.declared.action.DocAction.TheVariants.{BulkAdd, BulkUpdate, BulkRemove, AddTable, RemoveTable, RenameTable, AddColumn, RemoveColumn, RenameColumn, ModifyColumn}
 use Rattle.doc_model.specs.ByIds.{without_id}
 use Rattle.doc_model.specs.Records.{add_rows, update_rows, remove_rows}
 use Rattle.doc_model.specs.Column.{column_id, start_of}
+use Rattle.doc_model.specs.declared.column.ColDef.{ColDef}
+use Rattle.doc_model.specs.Grid.{Grid, IsGrid}
+use Rattle.doc_model.specs.Rows.{is_once, none_in}
 use Rattle.doc_model.specs.Document.{Table, table_id, table_row, on_grid, renamed, with_table, put_by_row}
 use Rattle.doc_model.specs.Apply.{new_table, add_column, remove_column, with_column, with_name, with_info}
 
@@ -27,6 +30,14 @@ table_named (AddColumn table d) = table
 table_named (RemoveColumn table column) = table
 table_named (RenameColumn table column new) = table
 table_named (ModifyColumn table column info) = table
+
+-- where a record action may be put: a grid, to which new rows come once
+abbrev pub adds_new : DocAction → Grid ColDef → Type 0
+adds_new (BulkAdd table rows ks) g = (is_once rows ≡ true) × (none_in rows g.rows ≡ true)
+adds_new _ g = ⊤
+
+abbrev pub ActsOn : DocAction → Grid ColDef → Type 0
+ActsOn a g = IsGrid column_id g × adds_new a g
 
 -- what becomes of that table, where it stays
 abbrev pub table_change : DocAction → Table → Table

@@ -8,9 +8,9 @@ ghost use Rattle.doc_model.specs.Column.{column_id, column_row};
 ghost use Rattle.doc_model.specs.Document.{by_row, on_grid, put_by_row, renamed};
 
 use crate::RowTable;
+use crate::added::start_of;
 use crate::copies::{copy_of_column, copy_of_name};
 use crate::fill::{CellSource, Kept};
-use crate::records::start_of;
 use cell_types::{CellValue, Name};
 use doc_model::{ColDef, ColInfo, place_of_column};
 use std::alloc::{AllocError, Global};

@@ -3,54 +3,35 @@
 ghost use Rattle.std.specs.Prelude.{◌≡◌, None, cond, slice_get};
 ghost use Rattle.std.specs.Option.{option_copied};
 ghost use Rattle.std.specs.Str.{bytes_eq};
-ghost use Rattle.doc_model.specs.Records.{given, value_for};
+ghost use Rattle.row_tables.specs.RowPlaces.{given_at};
 
 use cell_types::{CellValue, Name};
 use doc_model::CellColumn;
 
-// The last value that stands beside the row.
-fn value_for<'a>(rows: &[u32], values: &'a [CellValue], row: u32) -> Option<&'a CellValue>
-    ensures { option_copied result ≡ value_for rows.now values.now row }
-{
-    let mut last = None;
-    for (place, other) in rows.iter().enumerate() {
-        last = value_where(*other == row, values, place).or(last);
-    }
-    last
-}
-
-// The value of that place, where the test passes and there is one.
-fn value_where(passes: bool, values: &[CellValue], place: usize) -> Option<&CellValue>
-    ensures { option_copied result ≡ cond passes (slice_get values.now place) None }
-{
-    if passes { values.get(place) } else { None }
-}
-
-// What one given column gives to the column of this id.
-fn value_of<'a>(rows: &[u32], column: &'a CellColumn, id: &Name, row: u32) -> Option<&'a CellValue>
-    ensures { option_copied result ≡ cond (bytes_eq column.now.id id.now) (value_for rows.now column.now.values row) None }
+// What one given column gives at a place to the column of this id.
+fn value_of<'a>(column: &'a CellColumn, id: &Name, place: usize) -> Option<&'a CellValue>
+    ensures { option_copied result ≡ cond (bytes_eq column.now.id id.now) (slice_get column.now.values place) None }
 {
     if column.id.as_str() == id.as_str() {
-        value_for(rows, column.values.as_slice(), row)
+        column.values.as_slice().get(place)
     } else {
         None
     }
 }
 
-/// The last value that an action over these rows gives to a column in a row.
+/// The last value that an action gives to a column, in the row at this place among its rows.
 ///
-/// Memory: none. Cost: linear in the columns and the rows.
+/// Memory: none. Cost: linear in the given columns.
 pub(crate) fn given_value<'a>(
-    rows: &[u32],
     columns: &'a [CellColumn],
     id: &Name,
-    row: u32,
+    place: usize,
 ) -> Option<&'a CellValue>
-    ensures { option_copied result ≡ given rows.now columns.now id.now row }
+    ensures { option_copied result ≡ given_at columns.now id.now place }
 {
     let mut last = None;
     for column in columns {
-        last = value_of(rows, column, id, row).or(last);
+        last = value_of(column, id, place).or(last);
     }
     last
 }

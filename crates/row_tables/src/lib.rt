@@ -3,31 +3,40 @@
 //!
 //! Stands on `cell_types` (values and names) and `doc_model` (documents and what actions do).
 //!
-//! Promises: `RowTables` is `DocTables` over a vector of tables. A change of one table makes exactly
-//! the table of the definitions, for any table; a schema action makes the schema tables anew from the
-//! tables that they describe; what is put is taken back without memory.
-//! Not promised: speed. A cell is found by walking over rows and columns, an action copies the table
-//! that it changes, and a schema action copies all tables.
-//! Read first: table.rt, records.rt, columns.rt, then schema.rt and tables.rt.
+//! Promises: `RowTables` is `DocTables` over a vector of tables. A record action changes its table in
+//! place, to exactly the table of the definitions, and notes what takes that back; a schema action
+//! makes the schema tables anew from the tables that they describe; what is put is taken back
+//! without memory.
+//! Costs: a cell is found by the logarithm of the rows, and a walk over the columns. A record action
+//! costs that much for each of its rows, the cells that it makes, and a move of what stands behind
+//! each row that comes or goes; one that removes rows also asks for room for all rows of its table. A
+//! schema action copies all tables, and where it adds or removes a column it finds each cell of that
+//! table by a walk over its rows.
+//! Read first: table.rt, change.rt with added.rt, written.rt and removed.rt, then columns.rt,
+//! schema.rt and tables.rt.
 #![tactic(auto)]
 
+mod added;
+mod change;
 mod columns;
 mod copies;
 mod described;
 mod fill;
 mod given;
+mod in_place;
 mod known;
 mod look;
 mod metadata;
 mod put;
-mod records;
-mod rows;
+mod removed;
 mod schema;
+mod search;
 mod steps;
 mod table;
 mod tables;
 #[cfg(test)]
 mod tests;
+mod written;
 
 pub use table::RowTable;
 pub use tables::{RowBack, RowTables};

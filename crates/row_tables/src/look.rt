@@ -5,8 +5,10 @@ ghost use Rattle.std.specs.Option.{option_copied};
 ghost use Rattle.std.specs.Str.{bytes_eq};
 ghost use Rattle.doc_model.specs.Column.{column_id};
 ghost use Rattle.doc_model.specs.Grid.{beside};
+ghost use Rattle.doc_model.specs.Rows.{IsAscending};
 ghost use Rattle.row_tables.specs.Kept.{found_beside};
 
+use crate::search::search_row;
 use cell_types::{CellValue, Name, ValueList};
 use doc_model::ColDef;
 
@@ -25,6 +27,22 @@ pub(crate) fn cells_of_row<'a>(rows: &[u32], cells: &'a [ValueList], row: u32) -
         }
     }
     &[]
+}
+
+/// The cells of a row among ascending ones; none where there is no such row.
+///
+/// Memory: none. Cost: the logarithm of the number of rows.
+pub(crate) fn search_cells<'a>(rows: &[u32], cells: &'a [ValueList], row: u32) -> &'a [CellValue]
+    requires { IsAscending rows.now }
+    ensures { result.now ≡ beside (λ q. nat_eq q row) rows.now cells.now [] }
+{
+    let Ok(place) = search_row(rows, row) else {
+        return &[];
+    };
+    match cells.get(place) {
+        Some(list) => list.as_slice(),
+        None => &[],
+    }
 }
 
 /// The cell of a column among the cells of a row; nothing where there is no such column.

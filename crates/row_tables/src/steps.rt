@@ -1,6 +1,6 @@
 //! Document actions as changes of one table, or of the plain tables.
 
-ghost use Rattle.std.specs.Prelude.{◌≡◌, ◌<◌, None, IfOk, MatchOption, length, slice_get};
+ghost use Rattle.std.specs.Prelude.{◌≡◌, ◌<◌, false, None, IfOk, MatchOption, length, slice_get};
 ghost use Rattle.doc_model.specs.ByIds.{find_id, without_id};
 ghost use Rattle.doc_model.specs.Document.{put_by_row, table_id, table_row, with_table};
 ghost use Rattle.row_tables.specs.Steps.{is_record, plain_after, table_change, table_named, table_place};
@@ -40,22 +40,19 @@ pub(crate) fn table_named(action: &DocAction) -> &Name
 
 /// What becomes of the table that the action names, where it stays.
 pub(crate) fn changed_table(table: &RowTable, action: &DocAction) -> Result<RowTable, AllocError>
+    requires { is_record action.now ≡ false }
     ensures { IfOk result (λ t. t ≡ table_change action.now table.now) }
 {
     match action {
-        DocAction::BulkAdd { rows, columns, .. } => {
-            table.with_rows(rows.as_slice(), columns.as_slice())
-        }
-        DocAction::BulkUpdate { rows, columns, .. } => {
-            table.with_values(rows.as_slice(), columns.as_slice())
-        }
-        DocAction::BulkRemove { rows, .. } => table.without_rows(rows.as_slice()),
         DocAction::RenameTable { new, .. } => table.named(new),
         DocAction::AddColumn { column, .. } => table.with_column(column),
         DocAction::RemoveColumn { column, .. } => table.without_column(column),
         DocAction::RenameColumn { column, new, .. } => table.with_column_named(column, new),
         DocAction::ModifyColumn { column, info, .. } => table.with_column_modified(column, info),
         DocAction::AddTable { .. } | DocAction::RemoveTable { .. } => table.copy(),
+        DocAction::BulkAdd { .. } | DocAction::BulkUpdate { .. } | DocAction::BulkRemove { .. } => {
+            unreachable!()
+        }
     }
 }
 
@@ -129,6 +126,7 @@ fn tables_changed(
     id: &Name,
     action: &DocAction,
 ) -> Result<Vec<RowTable>, AllocError>
+    requires { is_record action.now ≡ false }
     ensures { IfOk result (λ v. v.items ≡ with_table id.now (table_change action.now) plain.now) }
 {
     let mut tables = Vec::with_capacity(alloc, plain.len())?;
@@ -148,6 +146,7 @@ pub(crate) fn plain_after(
     plain: &[RowTable],
     action: &DocAction,
 ) -> Result<Vec<RowTable>, AllocError>
+    requires { is_record action.now ≡ false }
     ensures { IfOk result (λ v. v.items ≡ plain_after action.now plain.now) }
 {
     match action {

@@ -4,11 +4,12 @@ ghost use Rattle.std.specs.Prelude.{◌≡◌, IfOk};
 ghost use Rattle.std.specs.Option.{option_copied};
 ghost use Rattle.doc_model.specs.Column.{column_id};
 ghost use Rattle.doc_model.specs.Grid.{cell, grid_of};
+ghost use Rattle.doc_model.specs.Rows.{IsAscending};
 ghost use Rattle.row_tables.specs.Kept.{kept};
 
 use crate::copies::{copy_of_cells, copy_of_columns};
 use crate::fill::{CellSource, filled};
-use crate::look::{cell_in_row, cells_of_row};
+use crate::look::{cell_in_row, cells_of_row, search_cells};
 use cell_types::{CellValue, Name, ValueList, copy_of};
 use doc_model::ColDef;
 use std::alloc::{AllocError, Global};
@@ -40,22 +41,30 @@ impl Model for RowTable {
 impl RowTable {
     /// The cell of a column in a row; nothing where there is none.
     ///
-    /// Memory: none. Cost: linear in the rows and the columns.
+    /// Memory: none. Cost: the logarithm of the number of rows, and linear in the columns.
     pub fn cell(&self, column: &Name, row: u32) -> Option<&CellValue>
+        requires { IsAscending self.now.grid.rows }
         ensures { option_copied result ≡ kept self.now.grid column.now row }
     {
-        cell_in_row(
-            &self.columns,
-            cells_of_row(&self.rows, &self.cells, row),
-            column,
-        )
+        let cells = search_cells(&self.rows, &self.cells, row);
+        cell_in_row(&self.columns, cells, column)
+    }
+
+    // The cell of a column in a row, found by a walk over rows in any order.
+    fn cell_by_walk(&self, column: &Name, row: u32) -> Option<&CellValue>
+        ensures { option_copied result ≡ kept self.now.grid column.now row }
+    {
+        let cells = cells_of_row(&self.rows, &self.cells, row);
+        cell_in_row(&self.columns, cells, column)
     }
 
     /// A copy of the cell of a column in a row; null where there is none.
+    ///
+    /// Cost: linear in the rows and the columns.
     pub(crate) fn stored(&self, column: &Name, row: u32) -> Result<CellValue, AllocError>
         ensures { IfOk result (λ v. v ≡ cell column_id self.now.grid column.now row) }
     {
-        match self.cell(column, row) {
+        match self.cell_by_walk(column, row) {
             Some(value) => copy_of(value),
             None => Ok(CellValue::Null),
         }

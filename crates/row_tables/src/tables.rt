@@ -11,9 +11,9 @@ ghost use Rattle.doc_model.specs.Schema.{metadata_table, resources_columns, rule
 use crate::RowTable;
 use crate::known::{Known, name_of};
 use crate::metadata::{first_columns, metadata_table, resources_columns, rules_columns};
-use crate::put::{Replaced, schema_put};
+use crate::put::{Replaced, put_back, schema_put};
 use crate::schema::with_schema;
-use crate::steps::{changed_table, is_record, place_of_table, table_named};
+use crate::steps::{is_record, place_of_table, table_named};
 use cell_types::{CellValue, Name};
 use doc_model::{ColDef, DocAction, DocTables};
 use std::alloc::{AllocError, Global};
@@ -151,20 +151,12 @@ impl DocTables for RowTables {
         let Some(place) = place_of_table(&self.tables, table_named(action)) else {
             unreachable!()
         };
-        let changed = changed_table(&self.tables[place], action)?;
-        let table = mem::replace(&mut self.tables[place], changed);
-        let replaced = Replaced::Table { place, table };
+        let change = self.tables[place].put(action)?;
+        let replaced = Replaced::Changed { place, change };
         Ok(RowBack { replaced })
     }
 
     fn take_back(&mut self, back: RowBack) {
-        match back.replaced {
-            Replaced::All { tables } => self.tables = tables,
-            Replaced::Table { place, table } => {
-                if place < self.tables.len() {
-                    self.tables[place] = table;
-                }
-            }
-        }
+        put_back(&mut self.tables, back.replaced);
     }
 }

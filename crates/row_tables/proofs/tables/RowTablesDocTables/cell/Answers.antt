@@ -1,9 +1,17 @@
-use Rattle.std.proofs.Common.{sym, ap, ◌∙◌}
+use Rattle.std.proofs.Common.{◌≡◌, Some, sym, ap, ◌∙◌}
 use Rattle.doc_model.specs.ByIds.{find_id}
-use Rattle.doc_model.specs.Document.{table_id}
+use Rattle.doc_model.specs.Document.{Table, table_id}
 use Rattle.doc_model.specs.Readers.{cell_at}
+use Rattle.doc_model.specs.Sound.{IsSoundGrid}
+use Rattle.doc_model.proofs.ByIdsLaws.{found_all}
 use Rattle.row_tables.proofs.KeptLaws.{told_by, cell-found}
 use Rattle.row_tables.proofs.tables.RowTablesDocTables.cell.Goals as goal
+
+pub cell-requires : goal.cell-requires
+cell-requires c =
+    let found : find_id table_id c.args.table.now c.self.inside.tables.items ≡ Some c.in_ok-find_table.field-0.now = sym (c.in_ok-find_table.ensures ∙ ap (find_id table_id c.args.table.now) c.deref.ensures.value) in
+    let grid : IsSoundGrid c.in_ok-find_table.field-0.now.grid = found_all table_id (λ (t : Table). IsSoundGrid t.grid) c.args.table.now c.self.inside.tables.items c.in_ok-find_table.field-0.now c.self.invariant.sound.grids found in
+    grid.is_grid.ascending
 
 pub returns : goal.returns
 returns c =

@@ -1,0 +1,30 @@
+-- What stands beside a row among ascending ones.
+use Rattle.std.proofs.Common.{ℕ, suc, true, false, cond, ◌||◌, List, [], ◌∷◌, ◌+◌, get_or, length, ◌≡◌, ◌<◌, refl, sym, ap, ◌∙◌, unwrap_or, slice_get, eqb, ltb, arith}
+use Rattle.std.proofs.lemmas.Bool.{false≢true, ne_eqb, eq-eqb, ltb-true}
+use Rattle.doc_model.specs.Rows.{has, IsAscending}
+use Rattle.doc_model.specs.Grid.{beside}
+use Rattle.doc_model.proofs.Choices.{cond_true, cond_false}
+use Rattle.row_tables.specs.RowPlaces.{row_place}
+use Rattle.row_tables.proofs.WrittenLaws.{place_found}
+
+module _ {X : Type 0} where
+  none_read : (i : ℕ) (d : X) → unwrap_or (slice_get {X = X} [] i) d ≡ d
+  none_read i d = refl
+
+  pub beside_place : (q : ℕ) (rows : List ℕ) (xs : List X) (d : X) → IsAscending rows → has rows q ≡ true → beside (λ r. eqb r q) rows xs d ≡ unwrap_or (slice_get xs (row_place q rows)) d
+  beside_place q [] xs d a e = absurd (false≢true e)
+  beside_place q (r ∷ rows) [] d a e = sym (none_read (row_place q (r ∷ rows)) d)
+  beside_place q (r ∷ rows) (x ∷ xs) d a e =
+      let next : suc (row_place q rows) ≡ row_place q rows + 1 = omega arith in
+      elim (ltb r q) as (λ b. ltb r q ≡ b → beside (λ r. eqb r q) (r ∷ rows) (x ∷ xs) d ≡ unwrap_or (slice_get (x ∷ xs) (cond b (row_place q rows + 1) 0)) d) [
+        | true ↦ λ below.
+            let lt : r < q = ltb-true r q below in
+            let apart : eqb r q ≡ false = ne_eqb r q (λ same. absurd (omega arith)) in
+            cond_false (eqb r q) x (beside (λ r. eqb r q) rows xs d) apart
+            ∙ beside_place q rows xs d a.1 (ap (λ b. b || has rows q) (sym apart) ∙ e)
+            ∙ ap (λ n. unwrap_or (slice_get (x ∷ xs) n) d) next
+        | false ↦ λ above.
+            let found : (row_place q (r ∷ rows) < length (r ∷ rows)) × (get_or (r ∷ rows) (row_place q (r ∷ rows)) 0 ≡ q) = place_found q (r ∷ rows) a e in
+            let same : r ≡ q = ap (λ n. get_or (r ∷ rows) n 0) (sym (cond_false (ltb r q) (row_place q rows + 1) 0 above)) ∙ found.1 in
+            cond_true (eqb r q) x (beside (λ r. eqb r q) rows xs d) (eq-eqb r q same)
+      ] refl

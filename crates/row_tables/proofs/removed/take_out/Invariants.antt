@@ -1,0 +1,10 @@
+use Rattle.std.proofs.Common.{◌≡◌, ◌≤◌, ◌+◌, ◌-◌, length, vec_len, vec_capacity}
+use Rattle.row_tables.proofs.TakenLaws.{IsTaking}
+use Rattle.row_tables.proofs.removed.take_out.Given as goal
+
+-- as many rows as cells are there, and there is room to note those that go
+abbrev pub invariant-loop-row : goal.invariant-loop-row
+invariant-loop-row l =
+    IsTaking l.gone l.initial.rows.items l.rows.items l.initial.cells.items l.cells.items l.row-index l.taken.items
+    × (vec_len l.cells ≡ vec_len l.rows) × (vec_len l.rows + vec_len l.taken ≡ vec_len l.initial.rows)
+    × (vec_len l.taken + (length l.gone - l.row-index) ≤ vec_capacity l.taken)

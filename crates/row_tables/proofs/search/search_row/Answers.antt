@@ -1,0 +1,5 @@
+use Rattle.row_tables.proofs.RowPlaceLaws.{searched_row}
+use Rattle.row_tables.proofs.search.search_row.Goals as goal
+
+pub returns : goal.returns
+returns c = searched_row c.args.rows.now c.args.row c.binary_search.result c.binary_search.ensures.position c.requires

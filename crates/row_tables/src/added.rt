@@ -1,0 +1,155 @@
+//! Rows that come, each into its place.
+
+ghost use Rattle.std.specs.Prelude.{◌≡◌, ◌≤◌, ◌+◌, ◌++◌, true, IfOk, OnOk, OnErr, length, map, unwrap_or, vec_capacity, vec_len};
+ghost use Rattle.doc_model.specs.Column.{column_id, start_of};
+ghost use Rattle.doc_model.specs.Document.{on_grid};
+ghost use Rattle.doc_model.specs.Grid.{IsGrid};
+ghost use Rattle.doc_model.specs.Records.{add_rows, given};
+ghost use Rattle.doc_model.specs.Rows.{IsAscending, is_once};
+ghost use Rattle.row_tables.specs.InPlace.{on_rows};
+ghost use Rattle.row_tables.specs.RowPlaces.{AreNew, AreWithin, given_at, new_places, put_at, row_place, taken_out};
+
+use crate::RowTable;
+use crate::given::given_value;
+use crate::in_place::{insert_reserved, remove_at};
+use crate::search::search_row;
+use cell_types::{CellValue, ValueList, copy_of, default_of};
+use doc_model::{CellColumn, ColDef};
+use std::alloc::{AllocError, Global};
+
+/// What a new cell of the column holds.
+///
+/// Memory: none.
+pub(crate) fn start_of(alloc: Global, column: &ColDef) -> CellValue
+    ensures { result ≡ start_of column.now }
+{
+    if column.info.is_formula {
+        CellValue::Null
+    } else {
+        default_of(alloc, &column.info.ty)
+    }
+}
+
+// A column's cell of the new row that is given at this place.
+fn new_cell(
+    alloc: Global,
+    column: &ColDef,
+    values: &[CellColumn],
+    place: usize,
+) -> Result<CellValue, AllocError>
+    ensures { IfOk result (λ v. v ≡ unwrap_or (given_at values.now column.now.id place) (start_of column.now)) }
+{
+    match given_value(values, &column.id, place) {
+        Some(value) => copy_of(value),
+        None => Ok(start_of(alloc, column)),
+    }
+}
+
+fn new_cells(
+    alloc: Global,
+    columns: &[ColDef],
+    values: &[CellColumn],
+    place: usize,
+) -> Result<ValueList, AllocError>
+    ensures { IfOk result (λ l. l ≡ map (λ d. unwrap_or (given_at values.now d.id place) (start_of d)) columns.now) }
+{
+    let mut cells = Vec::with_capacity(alloc, columns.len())?;
+    for column in columns {
+        cells.push(new_cell(alloc, column, values, place)?)?;
+    }
+    Ok(ValueList::from(cells))
+}
+
+// The cells of new rows.
+fn cells_of_new(
+    alloc: Global,
+    columns: &[ColDef],
+    rows: &[u32],
+    values: &[CellColumn],
+) -> Result<Vec<ValueList>, AllocError>
+    requires { is_once rows.now ≡ true }
+    ensures { IfOk result (λ v. v.items ≡ map (λ r. map (λ d. unwrap_or (given rows.now values.now d.id r) (start_of d)) columns.now) rows.now) }
+{
+    let mut lists = Vec::with_capacity(alloc, rows.len())?;
+    for (place, _row) in rows.iter().enumerate() {
+        lists.push(new_cells(alloc, columns, values, place)?)?;
+    }
+    Ok(lists)
+}
+
+// Where a row goes.
+fn place_for(rows: &[u32], row: u32) -> usize
+    requires { IsAscending rows.now }
+    ensures { result ≡ row_place row rows.now }
+{
+    match search_row(rows, row) {
+        Ok(place) | Err(place) => place,
+    }
+}
+
+// Puts new rows into their places, and notes these.
+fn insert_rows(rows: &mut Vec<u32>, new: &[u32], places: &mut Vec<usize>)
+    requires new { AreNew new.now rows.old.items }
+    requires room { vec_len rows.old + length new.now ≤ vec_capacity rows.old }
+    requires room_of_places { vec_len places.old + length new.now ≤ vec_capacity places.old }
+    ensures rows { rows.new.items ≡ put_at (new_places new.now rows.old.items) new.now rows.old.items }
+    ensures places { places.new.items ≡ places.old.items ++ new_places new.now rows.old.items }
+{
+    for row in new {
+        let place = place_for(rows, *row);
+        insert_reserved(rows, place, *row);
+        places.push_reserved(place);
+    }
+}
+
+// Puts the cells of new rows in at their places.
+fn insert_cells(cells: &mut Vec<ValueList>, places: &[usize], lists: Vec<ValueList>)
+    requires within { AreWithin places.now (length cells.old.items) }
+    requires each { length lists.items ≡ length places.now }
+    requires room { vec_len cells.old + length lists.items ≤ vec_capacity cells.old }
+    ensures { cells.new.items ≡ put_at places.now lists.items cells.old.items }
+{
+    let mut placed = 0;
+    for list in lists {
+        insert_reserved(cells, places[placed], list);
+        placed += 1;
+    }
+}
+
+impl RowTable {
+    /// Puts new rows in, with the given values and elsewhere what new cells hold, and gives their
+    /// places.
+    pub(crate) fn add_rows(
+        &mut self,
+        new: &[u32],
+        values: &[CellColumn],
+    ) -> Result<Vec<usize>, AllocError>
+        requires grid { IsGrid column_id self.old.grid }
+        requires new { AreNew new.now self.old.grid.rows }
+        ensures ok { OnOk result (self.new ≡ on_grid (add_rows column_id start_of new.now values.now) self.old) }
+        ensures back { IfOk result (λ places. on_grid (on_rows (taken_out places.items) (taken_out places.items)) self.new ≡ self.old) }
+        ensures err { OnErr result (self.new ≡ self.old) }
+    {
+        let alloc = self.alloc();
+        let lists = cells_of_new(alloc, &self.columns, new, values)?;
+        let mut places = Vec::with_capacity(alloc, new.len())?;
+        self.rows.reserve(new.len())?;
+        self.cells.reserve(new.len())?;
+        insert_rows(&mut self.rows, new, &mut places);
+        insert_cells(&mut self.cells, &places, lists);
+        Ok(places)
+    }
+
+    /// Takes out what stands at these places, at the last one first.
+    ///
+    /// Memory: none.
+    pub(crate) fn take_out(&mut self, places: Vec<usize>)
+        ensures { self.new ≡ on_grid (on_rows (taken_out places.items) (taken_out places.items)) self.old }
+    {
+        let mut places = places;
+        while let Some(place) = places.pop() {
+            remove_at(&mut self.rows, place);
+            remove_at(&mut self.cells, place);
+        }
+    }
+}

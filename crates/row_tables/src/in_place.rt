@@ -1,0 +1,40 @@
+//! Items of a vector changed at their places.
+
+ghost use Rattle.std.specs.Prelude.{◌≡◌, ◌<◌, ◌≤◌, ◌+◌, slice_index_or, slice_set, vec_capacity, vec_len};
+ghost use Rattle.std.specs.List.{insert, remove};
+
+use std::mem;
+
+/// Puts an item in at a place, or at the end where the place is past it.
+///
+/// Memory: none.
+pub(crate) fn insert_reserved<T: Drop>(items: &mut Vec<T>, place: usize, item: T)
+    requires { vec_len items.old < vec_capacity items.old }
+    ensures items { items.new.items ≡ insert items.old.items place item }
+    ensures len { vec_len items.new ≡ vec_len items.old + 1 }
+    ensures capacity { vec_capacity items.old ≤ vec_capacity items.new }
+{
+    let end = items.len();
+    if items.insert(place.min(end), item).is_err() {
+        unreachable!()
+    }
+}
+
+/// Removes what stands at a place, where something does.
+pub(crate) fn remove_at<T: Drop>(items: &mut Vec<T>, place: usize)
+    ensures { items.new.items ≡ remove items.old.items place }
+{
+    if place < items.len() {
+        let _removed = items.remove(place);
+    }
+}
+
+/// Swaps an item with what stands at a place, where something does.
+pub(crate) fn swap_at<T>(items: &mut Vec<T>, place: usize, item: &mut T)
+    ensures items { items.new.items ≡ slice_set items.old.items place item.old }
+    ensures item { item.new ≡ slice_index_or items.old.items place item.old }
+{
+    if place < items.len() {
+        mem::swap(&mut items[place], item);
+    }
+}

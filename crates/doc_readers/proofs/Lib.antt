@@ -1,0 +1,4 @@
+pub mod CellLemmas
+pub mod RowIdLemmas
+pub mod ToldLemmas
+pub mod ColumnLemmas

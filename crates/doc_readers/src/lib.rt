@@ -1,0 +1,20 @@
+//! What a store tells of a document, and the tests of ids, rows and values that several crates make.
+//!
+//! Stands on `cell_types` (values and names) and `doc_model` (documents, and what a store answers).
+//! Used by the crates that test, expand and apply actions.
+//!
+//! Promises: each call is the part of the definitions that its clause names, and takes no memory.
+//! Where a document is asked for its columns or rows it has to be whole.
+//! Not promised: speed. A column is found by a walk.
+//! Read first: told.rt.
+#![tactic(auto)]
+
+mod base_values;
+mod known_ids;
+mod row_ids;
+mod told;
+
+pub use base_values::{are_base, is_base, is_short};
+pub use known_ids::{is_acl_id, is_metadata_id, is_schema_id};
+pub use row_ids::holds_row;
+pub use told::{cell_in, find_column, has_column, has_table, rows_in};

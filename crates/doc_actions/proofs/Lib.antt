@@ -1,0 +1,2 @@
+pub mod RowIdLemmas
+pub mod ToldLemmas

@@ -1,0 +1,11 @@
+mod AllowedLemmas
+mod FitLemmas
+mod NumberLemmas
+mod ObjectionLemmas
+mod RecordStepLemmas
+mod RetypedLemmas
+mod SchemaStepLemmas
+mod StepsValid
+mod UnopposedLemmas
+mod ViewLemmas
+mod WalkLemmas

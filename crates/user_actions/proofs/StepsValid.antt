@@ -1,0 +1,54 @@
+-- The steps of user actions are valid, each at its place.
+use Rattle.std.proofs.Common.{ℕ, Bool, true, false, cond, ◌&&◌, List, [], ◌∷◌, map, ◌≡◌, refl}
+use Rattle.std.specs.Str.{bytes_eq}
+use Rattle.cell_types.specs.NameRule.{is_name}
+use Rattle.doc_model.specs.declared.action.DocAction.{DocAction}
+use Rattle.doc_model.specs.declared.action.DocAction.TheVariants as action
+use Rattle.doc_model.specs.declared.user_action.UserAction.{UserAction}
+use Rattle.doc_model.specs.declared.user_action.UserAction.TheVariants.{Add, Update, Remove, AddTable, RemoveTable, RenameTable, AddColumn, RemoveColumn, RenameColumn, ModifyColumn}
+use Rattle.doc_model.specs.Apply.{all_valid}
+use Rattle.doc_model.specs.Document.{Document}
+use Rattle.doc_model.specs.DocumentLaws.{IsWhole}
+use Rattle.doc_model.specs.Valid.{valid}
+use Rattle.doc_model.specs.ViewEdits.{if_any}
+use Rattle.doc_model.proofs.Choices.{both_true}
+use Rattle.name_rules.specs.FreeName.{free_name}
+use Rattle.user_actions.specs.Allowed.{is_allowed}
+use Rattle.user_actions.specs.Infos.{is_plain}
+use Rattle.user_actions.specs.StepLaws.{action_of, HasFresh, is_well_formed}
+use Rattle.user_actions.specs.Steps.{all_fitted, column_ids, column_said, direct, last_row, numbers_after, row_ids, steps_of, table_ids, table_said}
+use Rattle.user_actions.proofs.FitLemmas.{all_base-fit, is_base-fit}
+use Rattle.user_actions.proofs.RecordStepLemmas.{valid-add, valid-update, valid-remove}
+use Rattle.user_actions.proofs.RetypedLemmas.{valid-modified}
+use Rattle.user_actions.proofs.SchemaStepLemmas.{valid-add_table, valid-remove_table, valid-rename_table, valid-add_column, valid-remove_column, valid-rename_column}
+
+-- one action
+one_valid : (s : Document) (a : DocAction) → valid s a ≡ true → all_valid s (a ∷ []) ≡ true
+one_valid s a h = both_true (valid s a) true h refl
+
+-- none, or one
+any_valid : (s : Document) (rows : List ℕ) (a : DocAction) → valid s a ≡ true → all_valid s (map action_of (if_any rows (direct a))) ≡ true
+any_valid s [] a h = refl
+any_valid s (r ∷ rows) a h = one_valid s a h
+
+-- none where the ids are the same
+other_valid : (s : Document) (b : Bool) (a : DocAction) → (b ≡ false → valid s a ≡ true) → all_valid s (map action_of (cond b [] (direct a ∷ []))) ≡ true
+other_valid s true a h = refl
+other_valid s false a h = one_valid s a (h refl)
+
+pub all_valid-steps_of : (s : Document) → IsWhole s → (a : UserAction) → is_allowed s a ≡ true → is_well_formed a ≡ true → HasFresh s a → all_valid s (map action_of (steps_of s a)) ≡ true
+all_valid-steps_of s w (Add table single count explicit ks) h whole fresh = one_valid s (action.BulkAdd table (numbers_after (last_row s table) count) (all_fitted s table ks)) (valid-add all_base-fit s table count ks h whole)
+all_valid-steps_of s w (Update table single rows ks) h whole fresh =
+    any_valid s (row_ids rows) (action.BulkUpdate table (row_ids rows) (all_fitted s table ks)) (valid-update all_base-fit s w table rows ks h whole)
+all_valid-steps_of s w (Remove table single rows) h whole fresh = one_valid s (action.BulkRemove table (row_ids rows)) (valid-remove all_base-fit s table rows h)
+all_valid-steps_of s w (AddTable table cs) h whole fresh = one_valid s (table_said s table cs) (valid-add_table s table cs fresh.0.0 fresh.0.1 fresh.1)
+all_valid-steps_of s w (RemoveTable table) h whole fresh = one_valid s (action.RemoveTable table) (valid-remove_table s table (λ t. true) h)
+all_valid-steps_of s w (RenameTable table new) h whole fresh =
+    other_valid s (bytes_eq table new) (action.RenameTable table (free_name (table_ids s) new))
+    (λ differs. valid-rename_table s table (free_name (table_ids s) new) (λ t. is_name new) h (fresh differs).0 (fresh differs).1)
+all_valid-steps_of s w (AddColumn table c) h whole fresh = one_valid s (action.AddColumn table (column_said s table c)) (valid-add_column s table c (λ t. is_name c.id && is_plain c) h fresh.0 fresh.1)
+all_valid-steps_of s w (RemoveColumn table column) h whole fresh = one_valid s (action.RemoveColumn table column) (valid-remove_column s table column h)
+all_valid-steps_of s w (RenameColumn table column new) h whole fresh =
+    other_valid s (bytes_eq column new) (action.RenameColumn table column (free_name (column_ids s table) new))
+    (λ differs. valid-rename_column s table column new (free_name (column_ids s table) new) h (fresh differs).0 (fresh differs).1)
+all_valid-steps_of s w (ModifyColumn table c) h whole fresh = valid-modified is_base-fit s w table c h

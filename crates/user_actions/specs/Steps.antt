@@ -1,0 +1,145 @@
+-- The document actions that a user action stands for.
+use Rattle.std.specs.Prelude.{ℕ, suc, zero, ℤ, ◌+◌, false, true, cond, not, List, [], ◌∷◌, ◌++◌, map, filter, length, max, Some, None, unwrap_or}
+use Rattle.std.specs.Str.{bytes_eq}
+use Rattle.cell_types.specs.declared.column_type.ColType.{ColType}
+use Rattle.cell_types.specs.declared.column_type.ColType.TheVariants as type
+use Rattle.cell_types.specs.Conversion.{fit}
+use Rattle.cell_types.specs.Reference.{row_number}
+use Rattle.doc_model.specs.declared.action.DocAction.{DocAction}
+use Rattle.doc_model.specs.declared.action.DocAction.TheVariants as action
+use Rattle.doc_model.specs.declared.action.Step.{Step}
+use Rattle.doc_model.specs.declared.column.CellColumn.{CellColumn}
+use Rattle.doc_model.specs.declared.column.ColDef.{ColDef}
+use Rattle.doc_model.specs.declared.column.ColInfo.{ColInfo}
+use Rattle.doc_model.specs.declared.user_action.UserAction.{UserAction}
+use Rattle.doc_model.specs.declared.user_action.UserAction.TheVariants as user
+use Rattle.doc_model.specs.declared.user_action.UserCol.{UserCol}
+use Rattle.doc_model.specs.declared.user_action.UserColumn.{UserColumn}
+use Rattle.doc_model.specs.ByIds.{find_id}
+use Rattle.doc_model.specs.Column.{column_id}
+use Rattle.doc_model.specs.Counts.{greatest}
+use Rattle.doc_model.specs.Document.{Document, table_id}
+use Rattle.doc_model.specs.Grid.{Grid, cell}
+use Rattle.doc_model.specs.MetadataIds.{tables_id, columns_id}
+use Rattle.doc_model.specs.Same.{same_type, same_value}
+use Rattle.doc_model.specs.ViewEdits.{if_any}
+use Rattle.doc_readers.specs.Parts.{grid_at}
+use Rattle.name_rules.specs.FreeName.{free_name}
+use Rattle.user_actions.specs.Infos.{type_or}
+
+-- an action that the rules are asked about, and one that only follows from it
+abbrev pub direct : DocAction → Step
+direct a = record { action = a; direct = true }
+
+abbrev pub indirect : DocAction → Step
+indirect a = record { action = a; direct = false }
+
+-- the greatest row of a table, 0 where it has none
+abbrev pub last_row : Document → List ℕ → ℕ
+last_row s table = greatest (grid_at s table).rows
+
+-- so many numbers after this one
+abbrev pub numbers_after : ℕ → ℕ → List ℕ
+numbers_after n zero = []
+numbers_after n (suc count) = (n + 1) ∷ numbers_after (n + 1) count
+
+-- the type of a column
+abbrev pub type_in : Grid ColDef → List ℕ → ColType
+type_in g c = elim (find_id column_id c g.columns) [ None ↦ type.Any | Some d ↦ d.info.ty ]
+
+-- the given values as the column holds them
+abbrev pub fitted : Grid ColDef → UserColumn → CellColumn
+fitted g k = record { id = k.id; values = map (fit (type_in g k.id)) k.values }
+
+abbrev pub all_fitted : Document → List ℕ → List UserColumn → List CellColumn
+all_fitted s table ks = map (fitted (grid_at s table)) ks
+
+-- row ids as they were written
+abbrev pub row_ids : List ℤ → List ℕ
+row_ids rows = map (λ n. unwrap_or (row_number n) 0) rows
+
+-- what a data column becomes as the user says; a type that is not given stays as it was
+abbrev pub info_said : ColType → UserCol → ColInfo
+info_said other c =
+    record { ty = unwrap_or (type_or other c.ty) other; is_formula = false; formula = [] }
+
+-- a new column beside those of these ids, which that row describes
+abbrev pub new_column : List (List ℕ) → ℕ → UserCol → ColDef
+new_column taken row c =
+    record { id = free_name taken c.id; info = info_said type.Any c; row = row }
+
+-- new columns, each beside those before it, and the rows after that one
+abbrev pub new_columns : List (List ℕ) → ℕ → List UserCol → List ColDef
+new_columns taken row [] = []
+new_columns taken row (c ∷ cs) =
+    new_column taken (row + 1) c ∷ new_columns (taken ++ free_name taken c.id ∷ []) (row + 1) cs
+
+-- the ids of all tables, and of a table's columns
+abbrev pub table_ids : Document → List (List ℕ)
+table_ids s = map table_id s
+
+abbrev pub column_ids : Document → List ℕ → List (List ℕ)
+column_ids s table = map column_id (grid_at s table).columns
+
+-- a new column behind the others
+abbrev pub column_said : Document → List ℕ → UserCol → ColDef
+column_said s table c = new_column (column_ids s table) (last_row s columns_id + 1) c
+
+-- a new table of new columns
+abbrev pub table_said : Document → List ℕ → List UserCol → DocAction
+table_said s table cs =
+    action.AddTable (free_name (table_ids s) table) (last_row s tables_id + 1)
+    (new_columns [] (last_row s columns_id) cs)
+
+-- the rows in which a cell of the column is another one in a column of the type
+abbrev pub rows_changed : Grid ColDef → List ℕ → ColType → List ℕ
+rows_changed g c ty =
+    filter (λ r. not (same_value (cell column_id g c r) (fit ty (cell column_id g c r)))) g.rows
+
+-- the cells of these rows as a column of the type holds them
+abbrev pub column_refitted : Grid ColDef → List ℕ → ColType → List ℕ → CellColumn
+column_refitted g c ty rows =
+    record { id = c; values = map (λ r. fit ty (cell column_id g c r)) rows }
+
+-- a column of another type, and then the cells that this changes
+abbrev pub retyped : List ℕ → Grid ColDef → ColDef → ColInfo → List Step
+retyped table g d info =
+    cond (same_type d.info.ty info.ty) []
+    (direct (action.ModifyColumn table d.id info)
+    ∷ if_any (rows_changed g d.id info.ty)
+    (indirect (action.BulkUpdate table (rows_changed g d.id info.ty)
+    (column_refitted g d.id info.ty (rows_changed g d.id info.ty) ∷ []))))
+
+-- a column as the user says
+abbrev pub modified : List ℕ → Grid ColDef → UserCol → List Step
+modified table g c =
+    elim (find_id column_id c.id g.columns) [
+      | None ↦ []
+      | Some d ↦ retyped table g d (info_said d.info.ty c)
+    ]
+
+-- the document actions of a user action; a rename to the own id is none
+abbrev pub steps_of : Document → UserAction → List Step
+steps_of s (user.Add table single count explicit ks) =
+    direct (action.BulkAdd table (numbers_after (last_row s table) count) (all_fitted s table ks)) ∷ []
+steps_of s (user.Update table single rows ks) =
+    if_any (row_ids rows) (direct (action.BulkUpdate table (row_ids rows) (all_fitted s table ks)))
+steps_of s (user.Remove table single rows) = direct (action.BulkRemove table (row_ids rows)) ∷ []
+steps_of s (user.AddTable table cs) = direct (table_said s table cs) ∷ []
+steps_of s (user.RemoveTable table) = direct (action.RemoveTable table) ∷ []
+steps_of s (user.RenameTable table new) =
+    cond (bytes_eq table new) [] (direct (action.RenameTable table (free_name (table_ids s) new)) ∷ [])
+steps_of s (user.AddColumn table c) = direct (action.AddColumn table (column_said s table c)) ∷ []
+steps_of s (user.RemoveColumn table column) = direct (action.RemoveColumn table column) ∷ []
+steps_of s (user.RenameColumn table column new) =
+    cond (bytes_eq column new) []
+    (direct (action.RenameColumn table column (free_name (column_ids s table) new)) ∷ [])
+steps_of s (user.ModifyColumn table c) = modified table (grid_at s table) c
+
+-- the greatest of the new rows of an action, 0 where it makes none
+abbrev pub last_new_row : Document → UserAction → ℕ
+last_new_row s (user.Add table single count explicit ks) = last_row s table + count
+last_new_row s (user.AddTable table cs) =
+    max (last_row s tables_id + 1) (last_row s columns_id + length cs)
+last_new_row s (user.AddColumn table c) = last_row s columns_id + 1
+last_new_row s _ = 0

@@ -1,0 +1,35 @@
+//! User actions: why one is refused, and the document actions that it stands for.
+//!
+//! Stands on `doc_model` (documents, views and user actions), `doc_readers` (what a store tells),
+//! `name_rules` (free ids) and `cell_types`. No other crate uses it yet.
+//!
+//! Promises: `refuse` answers the first objection of specs/Objections.antt, from the action and the
+//! view alone; `one_table_law` says that the view of the table that the action names is enough.
+//! `steps` gives the document actions of specs/Steps.antt, over any store of a whole document, and
+//! nothing exactly where a new row would pass the last row id; each step is valid at its place. It
+//! wants an action that the document allows; `unopposed_law` says that each action is allowed that
+//! is not refused in some view of the document.
+//! Not promised: limits. Formulas, references and the tables of access rules are refused, since they
+//! are not built; what cannot come then has no steps.
+//! Read first: specs/Objections.antt and refusing.rt, then specs/Steps.antt and expanding.rt.
+#![tactic(auto)]
+
+mod expanding;
+mod infos;
+mod laws;
+mod objection;
+mod record_steps;
+mod refusing;
+mod retyping;
+mod rows;
+mod schema_steps;
+mod tables;
+#[cfg(test)]
+mod tests;
+mod told;
+mod values;
+
+pub use expanding::steps;
+pub use laws::{one_table_law, unopposed_law};
+pub use objection::Objection;
+pub use refusing::refuse;

@@ -1,0 +1,192 @@
+//! The steps of record actions.
+
+ghost use Rattle.std.specs.Prelude.{◌≡◌, ◌<◌, ◌+◌, [], ◌∷◌, true, map, IfOk, MatchOption, unwrap_or};
+ghost use Rattle.std.specs.List.{list_all};
+ghost use Rattle.cell_types.specs.Conversion.{fit};
+ghost use Rattle.cell_types.specs.Reference.{row_number};
+ghost use Rattle.doc_model.specs.DocumentLaws.{IsWhole};
+ghost use Rattle.doc_model.specs.ViewEdits.{if_any};
+ghost use Rattle.doc_readers.specs.Parts.{grid_at};
+ghost use Rattle.doc_model.specs.declared.action.DocAction.TheVariants.{BulkAdd, BulkRemove, BulkUpdate};
+ghost use Rattle.user_actions.specs.Steps.{all_fitted, direct, fitted, last_row, numbers_after, row_ids};
+ghost use Rattle.user_actions.specs.Allowed.{has_name};
+
+use crate::rows::row_number;
+use crate::told::{last_row, name_of};
+use cell_types::{CellValue, ColType, Name, RowList, ValueList, convert};
+use doc_model::{
+    CellColumn, ColumnList, DocAction, DocTables, LAST_ROW_ID, Step, StepList, UserColumn,
+};
+use doc_readers::find_column;
+use std::alloc::{AllocError, Global};
+
+// So many rows after the last one; nothing where they would pass the last row id.
+fn new_rows(alloc: Global, last: u32, count: u32) -> Result<Option<RowList>, AllocError>
+    ensures { IfOk result (λ o. MatchOption o (4294967295 < last + count) (λ rows. rows ≡ numbers_after last count)) }
+{
+    if LAST_ROW_ID < last as u64 + count as u64 {
+        return Ok(None);
+    }
+    let mut rows = Vec::with_capacity(alloc, count as usize)?;
+    for place in 0..count {
+        rows.push(last + place + 1)?;
+    }
+    Ok(Some(RowList::from(rows)))
+}
+
+// The rows that were written.
+fn row_ids(alloc: Global, rows: &[i64]) -> Result<RowList, AllocError>
+    ensures { IfOk result (λ l. l ≡ row_ids rows.now) }
+{
+    let mut ids = Vec::with_capacity(alloc, rows.len())?;
+    for row in rows {
+        ids.push(row_id(*row))?;
+    }
+    Ok(RowList::from(ids))
+}
+
+fn row_id(number: i64) -> u32
+    ensures { result ≡ unwrap_or (row_number number) 0 }
+{
+    match row_number(number) {
+        Some(row) => row,
+        None => 0,
+    }
+}
+
+// The values as a column of the type holds them.
+fn fit_values(alloc: Global, ty: &ColType, values: &[CellValue]) -> Result<ValueList, AllocError>
+    ensures { IfOk result (λ l. l ≡ map (fit ty.now) values.now) }
+{
+    let mut made = Vec::with_capacity(alloc, values.len())?;
+    for value in values {
+        made.push(convert(alloc, ty, value)?)?;
+    }
+    Ok(ValueList::from(made))
+}
+
+fn fitted<D: DocTables>(
+    alloc: Global,
+    tables: &D,
+    table: &Name,
+    column: &UserColumn,
+) -> Result<CellColumn, AllocError>
+    requires whole { IsWhole (D.document tables.now) }
+    requires name { has_name column.now ≡ true }
+    ensures { IfOk result (λ k. k ≡ fitted (grid_at (D.document tables.now) table.now) column.now) }
+{
+    let id = name_of(alloc, column.id.as_str())?;
+    let given = column.values.as_slice();
+    let values = match find_column(tables, table, &id) {
+        Some(known) => fit_values(alloc, &known.info.ty, given)?,
+        None => fit_values(alloc, &ColType::Any, given)?,
+    };
+    Ok(CellColumn { id, values })
+}
+
+// The given columns as the table holds them.
+fn all_fitted<D: DocTables>(
+    alloc: Global,
+    tables: &D,
+    table: &Name,
+    columns: &[UserColumn],
+) -> Result<ColumnList, AllocError>
+    requires whole { IsWhole (D.document tables.now) }
+    requires names { list_all has_name columns.now ≡ true }
+    ensures { IfOk result (λ l. l ≡ all_fitted (D.document tables.now) table.now columns.now) }
+{
+    let mut made = Vec::with_capacity(alloc, columns.len())?;
+    for column in columns {
+        made.push(fitted(alloc, tables, table, column)?)?;
+    }
+    Ok(ColumnList::from(made))
+}
+
+/// The list of one action that rules are asked about.
+pub(crate) fn direct(alloc: Global, action: DocAction) -> Result<StepList, AllocError>
+    ensures { IfOk result (λ l. l ≡ direct action ∷ []) }
+{
+    let mut steps = StepList::new(alloc);
+    steps.push(Step {
+        action,
+        direct: true,
+    })?;
+    Ok(steps)
+}
+
+/// The steps that add records; nothing where their rows would pass the last row id.
+pub(crate) fn add_steps<D: DocTables>(
+    alloc: Global,
+    tables: &D,
+    table: &Name,
+    count: u32,
+    columns: &[UserColumn],
+) -> Result<Option<StepList>, AllocError>
+    requires whole { IsWhole (D.document tables.now) }
+    requires names { list_all has_name columns.now ≡ true }
+    ensures { IfOk result (λ o. MatchOption o (4294967295 < last_row (D.document tables.now) table.now + count) (λ l. l ≡ direct (BulkAdd table.now (numbers_after (last_row (D.document tables.now) table.now) count) (all_fitted (D.document tables.now) table.now columns.now)) ∷ [])) }
+{
+    let Some(rows) = new_rows(alloc, last_row(tables, table), count)? else {
+        return Ok(None);
+    };
+    let action = DocAction::BulkAdd {
+        table: table.clone()?,
+        rows,
+        columns: all_fitted(alloc, tables, table, columns)?,
+    };
+    Ok(Some(direct(alloc, action)?))
+}
+
+// The action that updates records.
+fn update<D: DocTables>(
+    alloc: Global,
+    tables: &D,
+    table: &Name,
+    rows: &[i64],
+    columns: &[UserColumn],
+) -> Result<DocAction, AllocError>
+    requires whole { IsWhole (D.document tables.now) }
+    requires names { list_all has_name columns.now ≡ true }
+    ensures { IfOk result (λ a. a ≡ BulkUpdate table.now (row_ids rows.now) (all_fitted (D.document tables.now) table.now columns.now)) }
+{
+    Ok(DocAction::BulkUpdate {
+        table: table.clone()?,
+        rows: row_ids(alloc, rows)?,
+        columns: all_fitted(alloc, tables, table, columns)?,
+    })
+}
+
+/// The steps that update records.
+pub(crate) fn update_steps<D: DocTables>(
+    alloc: Global,
+    tables: &D,
+    table: &Name,
+    rows: &[i64],
+    columns: &[UserColumn],
+) -> Result<StepList, AllocError>
+    requires whole { IsWhole (D.document tables.now) }
+    requires names { list_all has_name columns.now ≡ true }
+    ensures { IfOk result (λ l. l ≡ if_any (row_ids rows.now) (direct (BulkUpdate table.now (row_ids rows.now) (all_fitted (D.document tables.now) table.now columns.now)))) }
+{
+    if rows.is_empty() {
+        return Ok(StepList::new(alloc));
+    }
+    let action = update(alloc, tables, table, rows, columns)?;
+    let steps = direct(alloc, action)?;
+    Ok(steps)
+}
+
+/// The steps that remove records.
+pub(crate) fn remove_steps(
+    alloc: Global,
+    table: &Name,
+    rows: &[i64],
+) -> Result<StepList, AllocError>
+    ensures { IfOk result (λ l. l ≡ direct (BulkRemove table.now (row_ids rows.now)) ∷ []) }
+{
+    let action = DocAction::BulkRemove {
+        table: table.clone()?,
+        rows: row_ids(alloc, rows)?,
+    };
+    direct(alloc, action)
+}

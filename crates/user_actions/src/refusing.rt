@@ -1,0 +1,271 @@
+//! What stands against a user action, by its user's view.
+
+ghost use Rattle.std.specs.Prelude.{◌≡◌, IfOk, MatchResult, Some, None, List, Option, ℕ};
+ghost use Rattle.std.specs.List.{list_all, list_any, AllByRecursion};
+ghost use Rattle.doc_model.specs.declared.view.ViewTable.{ViewTable};
+ghost use Rattle.doc_model.specs.Changes.{IsView, grid};
+ghost use Rattle.doc_model.specs.Rows.{IsAscending};
+ghost use Rattle.doc_model.specs.ViewEdits.{IsShown};
+ghost use Rattle.user_actions.specs.declared.objection.Objection.{Objection};
+ghost use Rattle.user_actions.specs.declared.objection.Objection.TheVariants.{BadValue};
+ghost use Rattle.user_actions.specs.Codes.{refusal_of};
+ghost use Rattle.user_actions.specs.Infos.{is_plain};
+ghost use Rattle.user_actions.specs.Kinds.{table_of};
+ghost use Rattle.user_actions.specs.Objections.{against, has_good_id, in_records, in_schema, objection_to, on_change, on_column, on_columns, on_name, on_info, on_rows, on_table, on_values, to_records, to_schema};
+
+use crate::Objection;
+use crate::infos::is_plain;
+use crate::rows::{are_once, are_rows};
+use crate::tables::{find_column, find_table, has_column};
+use crate::values::{are_all_base, are_shown, is_any_computed};
+use doc_model::{Refusal, UserAction, UserCol, UserColumn, View, ViewTable};
+use doc_readers::{is_acl_id, is_metadata_id, is_schema_id};
+use name_rules::is_name;
+use std::alloc::{AllocError, Global};
+
+// The table of a record action.
+fn records_table<'a>(tables: &'a [ViewTable], id: &str) -> Result<&'a ViewTable, Objection>
+    requires { AllByRecursion (λ t. IsShown (grid t)) tables.now }
+    ensures table { MatchResult result (λ t. (rest : ViewTable → Option Objection) → in_records tables.now id.now rest ≡ rest t.now) (λ o. (rest : ViewTable → Option Objection) → in_records tables.now id.now rest ≡ Some o) }
+    ensures ascending { MatchResult result (λ t. IsAscending t.now.rows) (λ _. Unit {0}) }
+{
+    if is_schema_id(id) {
+        return Err(Objection::MetaTable);
+    }
+    if is_acl_id(id) {
+        return Err(Objection::NoSuchTable);
+    }
+    match find_table(tables, id) {
+        Some(table) => Ok(table),
+        None => Err(Objection::NoSuchTable),
+    }
+}
+
+// The table of a schema action.
+fn schema_table<'a>(tables: &'a [ViewTable], id: &str) -> Result<&'a ViewTable, Objection>
+    ensures { MatchResult result (λ t. (rest : ViewTable → Option Objection) → in_schema tables.now id.now rest ≡ rest t.now) (λ o. (rest : ViewTable → Option Objection) → in_schema tables.now id.now rest ≡ Some o) }
+{
+    if is_metadata_id(id) {
+        return Err(Objection::MetaTable);
+    }
+    match find_table(tables, id) {
+        Some(table) => Ok(table),
+        None => Err(Objection::NoSuchTable),
+    }
+}
+
+fn on_values(given: &[UserColumn]) -> Option<Objection>
+    ensures { result ≡ on_values given.now }
+{
+    if !are_all_base(given) {
+        return Some(Objection::BadValue);
+    }
+    None
+}
+
+// The columns that an action gives values; the next objection is that a row id is given.
+fn on_columns(table: &ViewTable, explicit: bool, given: &[UserColumn]) -> Option<Objection>
+    ensures { result ≡ on_columns table.now given.now (against explicit BadValue (on_values given.now)) }
+{
+    let columns = table.columns.as_slice();
+    if !are_shown(columns, given) {
+        return Some(Objection::NoSuchColumn);
+    }
+    if is_any_computed(columns, given) {
+        return Some(Objection::FormulaColumn);
+    }
+    if explicit {
+        return Some(Objection::BadValue);
+    }
+    on_values(given)
+}
+
+// The rows that an action names; the next objection comes from its columns.
+fn on_rows(
+    alloc: Global,
+    table: &ViewTable,
+    rows: &[i64],
+    next: Option<Objection>,
+) -> Result<Option<Objection>, AllocError>
+    requires { IsAscending table.now.rows }
+    ensures { IfOk result (λ o. o ≡ on_rows table.now rows.now next) }
+{
+    if !are_once(alloc, rows)? {
+        return Ok(Some(Objection::DuplicateRow));
+    }
+    if !are_rows(table.rows.as_slice(), rows) {
+        return Ok(Some(Objection::NoSuchRow));
+    }
+    Ok(next)
+}
+
+fn on_name(id: &str, next: Option<Objection>) -> Option<Objection>
+    ensures { result ≡ on_name id.now next }
+{
+    if !is_name(id) {
+        return Some(Objection::BadName);
+    }
+    next
+}
+
+fn on_column(table: &ViewTable, column: &str, next: Option<Objection>) -> Option<Objection>
+    ensures { result ≡ on_column table.now column.now next }
+{
+    if !has_column(table.columns.as_slice(), column) {
+        return Some(Objection::NoSuchColumn);
+    }
+    next
+}
+
+fn on_info(column: &UserCol) -> Option<Objection>
+    ensures { result ≡ on_info column.now }
+{
+    if !is_plain(column) {
+        return Some(Objection::BadValue);
+    }
+    None
+}
+
+// What is said of a column that is there.
+fn on_change(table: &ViewTable, column: &UserCol) -> Option<Objection>
+    ensures { result ≡ on_change table.now column.now }
+{
+    match find_column(table.columns.as_slice(), column.id.as_str()) {
+        None => Some(Objection::NoSuchColumn),
+        Some(known) if known.is_formula || !is_plain(column) => Some(Objection::BadValue),
+        Some(_) => None,
+    }
+}
+
+fn have_good_ids(columns: &[UserCol]) -> bool
+    ensures { result ≡ list_all has_good_id columns.now }
+{
+    columns.iter().all(|column| is_name(column.id.as_str()))
+}
+
+fn are_plain(columns: &[UserCol]) -> bool
+    ensures { result ≡ list_all is_plain columns.now }
+{
+    columns.iter().all(|column| is_plain(column))
+}
+
+// A new table.
+fn on_table(table: &str, columns: &[UserCol]) -> Option<Objection>
+    ensures { result ≡ on_table table.now columns.now }
+{
+    if !is_name(table) || !have_good_ids(columns) {
+        return Some(Objection::BadName);
+    }
+    if !are_plain(columns) {
+        return Some(Objection::BadValue);
+    }
+    None
+}
+
+// What stands against a record action.
+fn to_records(
+    alloc: Global,
+    table: &ViewTable,
+    action: &UserAction,
+) -> Result<Option<Objection>, AllocError>
+    requires { IsAscending table.now.rows }
+    ensures { IfOk result (λ o. o ≡ to_records table.now action.now) }
+{
+    match action {
+        UserAction::Add {
+            explicit,
+            columns,
+            ..
+        } => Ok(on_columns(table, *explicit, columns.as_slice())),
+        UserAction::Update { rows, columns, .. } => {
+            let next = on_columns(table, false, columns.as_slice());
+            on_rows(alloc, table, rows.as_slice(), next)
+        }
+        UserAction::Remove { rows, .. } => on_rows(alloc, table, rows.as_slice(), None),
+        _ => Ok(None),
+    }
+}
+
+// What stands against a schema action on a table that is there.
+fn to_schema(table: &ViewTable, action: &UserAction) -> Option<Objection>
+    ensures { result ≡ to_schema table.now action.now }
+{
+    match action {
+        UserAction::RenameTable { new, .. } => on_name(new.as_str(), None),
+        UserAction::AddColumn { column, .. } => on_name(column.id.as_str(), on_info(column)),
+        UserAction::RemoveColumn { column, .. } => on_column(table, column.as_str(), None),
+        UserAction::RenameColumn { column, new, .. } => {
+            on_column(table, column.as_str(), on_name(new.as_str(), None))
+        }
+        UserAction::ModifyColumn { column, .. } => on_change(table, column),
+        _ => None,
+    }
+}
+
+/// The table that the action names.
+pub(crate) fn table_of(action: &UserAction) -> &str
+    ensures { result.now ≡ table_of action.now }
+{
+    match action {
+        UserAction::Add { table, .. }
+        | UserAction::Update { table, .. }
+        | UserAction::Remove { table, .. }
+        | UserAction::AddTable { table, .. }
+        | UserAction::RemoveTable { table }
+        | UserAction::RenameTable { table, .. }
+        | UserAction::AddColumn { table, .. }
+        | UserAction::RemoveColumn { table, .. }
+        | UserAction::RenameColumn { table, .. }
+        | UserAction::ModifyColumn { table, .. } => table.as_str(),
+    }
+}
+
+// What stands against a user action.
+fn objection_to(
+    alloc: Global,
+    tables: &[ViewTable],
+    action: &UserAction,
+) -> Result<Option<Objection>, AllocError>
+    requires { AllByRecursion (λ t. IsShown (grid t)) tables.now }
+    ensures { IfOk result (λ o. o ≡ objection_to tables.now action.now) }
+{
+    match action {
+        UserAction::AddTable { table, columns } => {
+            if is_metadata_id(table.as_str()) {
+                return Ok(Some(Objection::MetaTable));
+            }
+            Ok(on_table(table.as_str(), columns.as_slice()))
+        }
+        UserAction::Add { .. } | UserAction::Update { .. } | UserAction::Remove { .. } => {
+            match records_table(tables, table_of(action)) {
+                Ok(table) => to_records(alloc, table, action),
+                Err(objection) => Ok(Some(objection)),
+            }
+        }
+        _ => match schema_table(tables, table_of(action)) {
+            Ok(table) => Ok(to_schema(table, action)),
+            Err(objection) => Ok(Some(objection)),
+        },
+    }
+}
+
+/// Why the action at that place of its bundle is refused, by its user's view alone; nothing where
+/// nothing stands against it. Limits and access rules are not asked here.
+///
+/// Errors: want of memory. Cost: the tables, the columns of the one that is named times those that
+/// are given, and the rows and values that are given.
+/// Source: docs/PROTOCOL.md, "refusals".
+pub fn refuse(
+    alloc: Global,
+    view: &View,
+    action: &UserAction,
+    index: u32,
+) -> Result<Option<Refusal>, AllocError>
+    requires { IsView view.now.tables }
+    ensures { IfOk result (λ r. r ≡ refusal_of index (objection_to view.now.tables action.now)) }
+{
+    match objection_to(alloc, view.tables.as_slice(), action)? {
+        Some(objection) => Ok(Some(objection.refusal(index))),
+        None => Ok(None),
+    }
+}

@@ -1,0 +1,213 @@
+//! The steps that give a column another type.
+
+ghost use Rattle.std.specs.Prelude.{◌≡◌, [], ◌∷◌, true, not, option_to_list, IfOk};
+ghost use Rattle.cell_types.specs.Conversion.{fit};
+ghost use Rattle.cell_types.specs.NameRule.{is_name};
+ghost use Rattle.doc_model.specs.Column.{column_id};
+ghost use Rattle.doc_model.specs.DocumentLaws.{IsWhole};
+ghost use Rattle.doc_model.specs.Grid.{cell};
+ghost use Rattle.doc_model.specs.Same.{same_type, same_value};
+ghost use Rattle.doc_model.specs.ViewEdits.{if_any};
+ghost use Rattle.doc_model.specs.declared.action.DocAction.TheVariants.{BulkUpdate, ModifyColumn};
+ghost use Rattle.doc_readers.specs.Parts.{grid_at};
+ghost use Rattle.user_actions.specs.Steps.{column_refitted, direct, indirect, modified, retyped, rows_changed};
+
+use crate::record_steps::direct;
+use crate::schema_steps::info_said;
+use crate::told::name_of;
+use cell_types::{CellValue, ColType, Name, RowList, Same, ValueList, convert};
+use doc_model::{
+    CellColumn, ColDef, ColInfo, ColumnList, DocAction, DocTables, Step, StepList, UserCol,
+};
+use doc_readers::{cell_in, find_column, rows_in};
+use std::alloc::{AllocError, Global};
+
+fn is_same_value(left: &CellValue, right: &CellValue) -> bool
+    ensures { result ≡ same_value left.now right.now }
+{
+    left.same_as(right)
+}
+
+fn is_same_type(left: &ColType, right: &ColType) -> bool
+    ensures { result ≡ same_type left.now right.now }
+{
+    left.same_as(right)
+}
+
+// Whether the cell is another one in a column of the type.
+fn is_changed<D: DocTables>(
+    alloc: Global,
+    tables: &D,
+    table: &Name,
+    column: &Name,
+    ty: &ColType,
+    row: u32,
+) -> Result<bool, AllocError>
+    ensures { IfOk result (λ b. b ≡ not (same_value (cell column_id (grid_at (D.document tables.now) table.now) column.now row) (fit ty.now (cell column_id (grid_at (D.document tables.now) table.now) column.now row)))) }
+{
+    let cell = cell_in(tables, table, column, row)?;
+    let fitted = convert(alloc, ty, &cell)?;
+    Ok(!is_same_value(&cell, &fitted))
+}
+
+// The rows in which a cell of the column is another one in a column of the type.
+fn rows_changed<D: DocTables>(
+    alloc: Global,
+    tables: &D,
+    table: &Name,
+    column: &Name,
+    ty: &ColType,
+) -> Result<RowList, AllocError>
+    requires { IsWhole (D.document tables.now) }
+    ensures { IfOk result (λ l. l ≡ rows_changed (grid_at (D.document tables.now) table.now) column.now ty.now) }
+{
+    let rows = rows_in(tables, table);
+    let mut changed = Vec::new(alloc);
+    for row in rows {
+        if is_changed(alloc, tables, table, column, ty, *row)? {
+            changed.push(*row)?;
+        }
+    }
+    Ok(RowList::from(changed))
+}
+
+// The cell as a column of the type holds it.
+fn refitted<D: DocTables>(
+    alloc: Global,
+    tables: &D,
+    table: &Name,
+    column: &Name,
+    ty: &ColType,
+    row: u32,
+) -> Result<CellValue, AllocError>
+    ensures { IfOk result (λ v. v ≡ fit ty.now (cell column_id (grid_at (D.document tables.now) table.now) column.now row)) }
+{
+    let cell = cell_in(tables, table, column, row)?;
+    convert(alloc, ty, &cell)
+}
+
+// The cells of these rows as a column of the type holds them.
+fn column_refitted<D: DocTables>(
+    alloc: Global,
+    tables: &D,
+    table: &Name,
+    column: &Name,
+    ty: &ColType,
+    rows: &[u32],
+) -> Result<CellColumn, AllocError>
+    ensures { IfOk result (λ k. k ≡ column_refitted (grid_at (D.document tables.now) table.now) column.now ty.now rows.now) }
+{
+    let mut values = Vec::with_capacity(alloc, rows.len())?;
+    for row in rows {
+        values.push(refitted(alloc, tables, table, column, ty, *row)?)?;
+    }
+    let id = column.clone()?;
+    let values = ValueList::from(values);
+    Ok(CellColumn { id, values })
+}
+
+// The update of the cells that a type changes.
+fn update_changed<D: DocTables>(
+    alloc: Global,
+    tables: &D,
+    table: &Name,
+    column: &Name,
+    ty: &ColType,
+    rows: RowList,
+) -> Result<Step, AllocError>
+    ensures { IfOk result (λ s. s ≡ indirect (BulkUpdate table.now rows (column_refitted (grid_at (D.document tables.now) table.now) column.now ty.now rows ∷ []))) }
+{
+    let cells = column_refitted(alloc, tables, table, column, ty, rows.as_slice())?;
+    let mut columns = ColumnList::new(alloc);
+    columns.push(cells)?;
+    let action = DocAction::BulkUpdate {
+        table: table.clone()?,
+        rows,
+        columns,
+    };
+    Ok(Step {
+        action,
+        direct: false,
+    })
+}
+
+fn modify(table: &Name, column: &Name, info: ColInfo) -> Result<DocAction, AllocError>
+    ensures { IfOk result (λ a. a ≡ ModifyColumn table.now column.now info) }
+{
+    Ok(DocAction::ModifyColumn {
+        table: table.clone()?,
+        column: column.clone()?,
+        info,
+    })
+}
+
+// The update of the cells that a type changes, where there are any.
+fn update_if_any<D: DocTables>(
+    alloc: Global,
+    tables: &D,
+    table: &Name,
+    column: &Name,
+    ty: &ColType,
+    rows: RowList,
+) -> Result<Option<Step>, AllocError>
+    ensures { IfOk result (λ o. option_to_list o ≡ if_any rows (indirect (BulkUpdate table.now rows (column_refitted (grid_at (D.document tables.now) table.now) column.now ty.now rows ∷ [])))) }
+{
+    if rows.is_empty() {
+        return Ok(None);
+    }
+    let update = update_changed(alloc, tables, table, column, ty, rows)?;
+    Ok(Some(update))
+}
+
+// A step, and then another one where there is one.
+fn both(alloc: Global, first: DocAction, second: Option<Step>) -> Result<StepList, AllocError>
+    ensures { IfOk result (λ l. l ≡ direct first ∷ option_to_list second) }
+{
+    let mut steps = direct(alloc, first)?;
+    if let Some(step) = second {
+        steps.push(step)?;
+    }
+    Ok(steps)
+}
+
+// A column of another type, and then the cells that this changes.
+fn retyped<D: DocTables>(
+    alloc: Global,
+    tables: &D,
+    table: &Name,
+    known: &ColDef,
+    info: ColInfo,
+) -> Result<StepList, AllocError>
+    requires { IsWhole (D.document tables.now) }
+    ensures { IfOk result (λ l. l ≡ retyped table.now (grid_at (D.document tables.now) table.now) known.now info) }
+{
+    if is_same_type(&known.info.ty, &info.ty) {
+        return Ok(StepList::new(alloc));
+    }
+    let rows = rows_changed(alloc, tables, table, &known.id, &info.ty)?;
+    let update = update_if_any(alloc, tables, table, &known.id, &info.ty, rows)?;
+    let modify = modify(table, &known.id, info)?;
+    let steps = both(alloc, modify, update)?;
+    Ok(steps)
+}
+
+/// The steps that change what a column is.
+pub(crate) fn modify_steps<D: DocTables>(
+    alloc: Global,
+    tables: &D,
+    table: &Name,
+    column: &UserCol,
+) -> Result<StepList, AllocError>
+    requires whole { IsWhole (D.document tables.now) }
+    requires name { is_name column.now.id ≡ true }
+    ensures { IfOk result (λ l. l ≡ modified table.now (grid_at (D.document tables.now) table.now) column.now) }
+{
+    let id = name_of(alloc, column.id.as_str())?;
+    match find_column(tables, table, &id) {
+        Some(known) => {
+            let info = info_said(alloc, &known.info.ty, column)?;
+            retyped(alloc, tables, table, known, info)
+        }
+        None => Ok(StepList::new(alloc)),
+    }
+}

@@ -1,0 +1,246 @@
+//! The steps of schema actions.
+
+ghost use Rattle.std.specs.Prelude.{◌≡◌, ◌<◌, ◌+◌, [], ◌∷◌, true, false, cond, length, max, bytes_eq, IfOk, MatchOption};
+ghost use Rattle.std.specs.List.{list_all};
+ghost use Rattle.std.specs.Option.{IfSome};
+ghost use Rattle.cell_types.specs.NameRule.{is_name};
+ghost use Rattle.cell_types.specs.declared.column_type.ColType.TheVariants.{Any};
+ghost use Rattle.doc_model.specs.DocumentLaws.{IsWhole};
+ghost use Rattle.doc_model.specs.MetadataIds.{columns_id, tables_id};
+ghost use Rattle.doc_model.specs.declared.action.DocAction.TheVariants.{AddColumn, RenameColumn, RenameTable};
+ghost use Rattle.name_rules.specs.FreeName.{free_name};
+ghost use Rattle.user_actions.specs.Objections.{has_good_id};
+ghost use Rattle.user_actions.specs.StepLaws.{AreFresh, IsFresh};
+ghost use Rattle.user_actions.specs.Steps.{column_ids, column_said, direct, info_said, last_row, new_column, new_columns, table_ids, table_said};
+
+use crate::infos::type_of;
+use crate::record_steps::direct;
+use crate::told::{column_ids, columns_table, last_row, name_of, table_ids, tables_table};
+use cell_types::{CellText, ColType, Name};
+use doc_model::{
+    ColDef, ColDefList, ColInfo, DocAction, DocTables, LAST_ROW_ID, StepList, UserCol,
+};
+use name_rules::free_name;
+use std::alloc::{AllocError, Global};
+
+// A new id beside the taken ones.
+fn free_id(alloc: Global, taken: &[Name], wanted: &str) -> Result<Name, AllocError>
+    requires { is_name wanted.now ≡ true }
+    ensures made { IfOk result (λ n. n ≡ free_name taken.now wanted.now) }
+    ensures fresh { IfOk result (λ _. IsFresh taken.now wanted.now) }
+{
+    let wanted = name_of(alloc, wanted)?;
+    let id = free_name(alloc, &wanted, taken)?;
+    Ok(id)
+}
+
+fn type_said(other: &ColType, column: &UserCol) -> Result<ColType, AllocError>
+    ensures { IfOk result (λ t. t ≡ (info_said other.now column.now).ty) }
+{
+    match &column.ty {
+        Some(text) => match type_of(text.as_str()) {
+            Some(ty) => Ok(ty),
+            None => other.clone(),
+        },
+        None => other.clone(),
+    }
+}
+
+/// What a data column becomes as the user says.
+pub(crate) fn info_said(
+    alloc: Global,
+    other: &ColType,
+    column: &UserCol,
+) -> Result<ColInfo, AllocError>
+    ensures { IfOk result (λ i. i ≡ info_said other.now column.now) }
+{
+    Ok(ColInfo {
+        ty: type_said(other, column)?,
+        is_formula: false,
+        formula: CellText::empty(alloc),
+    })
+}
+
+// A new column beside those of these ids, which that row describes.
+fn new_column(
+    alloc: Global,
+    taken: &[Name],
+    row: u32,
+    column: &UserCol,
+) -> Result<ColDef, AllocError>
+    requires { has_good_id column.now ≡ true }
+    ensures made { IfOk result (λ d. d ≡ new_column taken.now row column.now) }
+    ensures fresh { IfOk result (λ _. IsFresh taken.now column.now.id) }
+{
+    Ok(ColDef {
+        id: free_id(alloc, taken, column.id.as_str())?,
+        info: info_said(alloc, &ColType::Any, column)?,
+        row,
+    })
+}
+
+// The columns of a new table; nothing where their rows would pass the last row id.
+fn new_columns(
+    alloc: Global,
+    last: u32,
+    columns: &[UserCol],
+) -> Result<Option<ColDefList>, AllocError>
+    requires { list_all has_good_id columns.now ≡ true }
+    ensures made { IfOk result (λ o. MatchOption o (4294967295 < last + length columns.now) (λ l. l ≡ new_columns [] last columns.now)) }
+    ensures fresh { IfOk result (λ o. IfSome o (λ _. AreFresh [] columns.now)) }
+{
+    if LAST_ROW_ID - (last as u64) < columns.len() as u64 {
+        return Ok(None);
+    }
+    let mut taken = Vec::new(alloc);
+    let mut made = Vec::with_capacity(alloc, columns.len())?;
+    for place in 0..columns.len() {
+        let row = last + place as u32 + 1;
+        let column = new_column(alloc, &taken, row, &columns[place])?;
+        taken.push(column.id.clone()?)?;
+        made.push(column)?;
+    }
+    Ok(Some(ColDefList::from(made)))
+}
+
+// The action that adds a table; nothing where a row would pass the last row id.
+fn table_said<D: DocTables>(
+    alloc: Global,
+    tables: &D,
+    table: &str,
+    columns: &[UserCol],
+) -> Result<Option<DocAction>, AllocError>
+    requires whole { IsWhole (D.document tables.now) }
+    requires name { is_name table.now ≡ true }
+    requires names { list_all has_good_id columns.now ≡ true }
+    ensures made { IfOk result (λ o. MatchOption o (4294967295 < max (last_row (D.document tables.now) tables_id + 1) (last_row (D.document tables.now) columns_id + length columns.now)) (λ a. a ≡ table_said (D.document tables.now) table.now columns.now)) }
+    ensures fresh { IfOk result (λ o. IfSome o (λ _. IsFresh (table_ids (D.document tables.now)) table.now × AreFresh [] columns.now)) }
+{
+    let row = last_row(tables, tables_table(tables));
+    let last = last_row(tables, columns_table(tables));
+    let Some(columns) = new_columns(alloc, last, columns)? else {
+        return Ok(None);
+    };
+    if row == u32::MAX {
+        return Ok(None);
+    }
+    let taken = table_ids(alloc, tables)?;
+    Ok(Some(DocAction::AddTable {
+        table: free_id(alloc, &taken, table)?,
+        row: row + 1,
+        columns,
+    }))
+}
+
+// The action that adds a column; nothing where its row would pass the last row id.
+fn column_said<D: DocTables>(
+    alloc: Global,
+    tables: &D,
+    table: &Name,
+    column: &UserCol,
+) -> Result<Option<DocAction>, AllocError>
+    requires whole { IsWhole (D.document tables.now) }
+    requires name { has_good_id column.now ≡ true }
+    ensures made { IfOk result (λ o. MatchOption o (4294967295 < last_row (D.document tables.now) columns_id + 1) (λ a. a ≡ AddColumn table.now (column_said (D.document tables.now) table.now column.now))) }
+    ensures fresh { IfOk result (λ o. IfSome o (λ _. IsFresh (column_ids (D.document tables.now) table.now) column.now.id)) }
+{
+    let last = last_row(tables, columns_table(tables));
+    if last == u32::MAX {
+        return Ok(None);
+    }
+    let taken = column_ids(alloc, tables, table)?;
+    Ok(Some(DocAction::AddColumn {
+        table: table.clone()?,
+        column: new_column(alloc, &taken, last + 1, column)?,
+    }))
+}
+
+/// The steps that rename a table.
+pub(crate) fn rename_table_steps<D: DocTables>(
+    alloc: Global,
+    tables: &D,
+    table: &Name,
+    new: &str,
+) -> Result<StepList, AllocError>
+    requires whole { IsWhole (D.document tables.now) }
+    requires name { is_name new.now ≡ true }
+    ensures fresh { IfOk result (λ _. bytes_eq table.now new.now ≡ false → IsFresh (table_ids (D.document tables.now)) new.now) }
+    ensures made { IfOk result (λ l. l ≡ cond (bytes_eq table.now new.now) [] (direct (RenameTable table.now (free_name (table_ids (D.document tables.now)) new.now)) ∷ [])) }
+{
+    if table.as_str() == new {
+        return Ok(StepList::new(alloc));
+    }
+    let known = table_ids(alloc, tables)?;
+    let action = DocAction::RenameTable {
+        table: table.clone()?,
+        new: free_id(alloc, &known, new)?,
+    };
+    let steps = direct(alloc, action)?;
+    Ok(steps)
+}
+
+/// The steps that rename a column.
+pub(crate) fn rename_column_steps<D: DocTables>(
+    alloc: Global,
+    tables: &D,
+    table: &Name,
+    column: &str,
+    new: &str,
+) -> Result<StepList, AllocError>
+    requires whole { IsWhole (D.document tables.now) }
+    requires old { is_name column.now ≡ true }
+    requires name { is_name new.now ≡ true }
+    ensures fresh { IfOk result (λ _. bytes_eq column.now new.now ≡ false → IsFresh (column_ids (D.document tables.now) table.now) new.now) }
+    ensures made { IfOk result (λ l. l ≡ cond (bytes_eq column.now new.now) [] (direct (RenameColumn table.now column.now (free_name (column_ids (D.document tables.now) table.now) new.now)) ∷ [])) }
+{
+    if column == new {
+        return Ok(StepList::new(alloc));
+    }
+    let taken = column_ids(alloc, tables, table)?;
+    let action = DocAction::RenameColumn {
+        table: table.clone()?,
+        column: name_of(alloc, column)?,
+        new: free_id(alloc, &taken, new)?,
+    };
+    let steps = direct(alloc, action)?;
+    Ok(steps)
+}
+
+/// The steps that add a table; nothing where a row would pass the last row id.
+pub(crate) fn add_table_steps<D: DocTables>(
+    alloc: Global,
+    tables: &D,
+    table: &str,
+    columns: &[UserCol],
+) -> Result<Option<StepList>, AllocError>
+    requires whole { IsWhole (D.document tables.now) }
+    requires name { is_name table.now ≡ true }
+    requires names { list_all has_good_id columns.now ≡ true }
+    ensures fresh { IfOk result (λ o. IfSome o (λ _. IsFresh (table_ids (D.document tables.now)) table.now × AreFresh [] columns.now)) }
+    ensures made { IfOk result (λ o. MatchOption o (4294967295 < max (last_row (D.document tables.now) tables_id + 1) (last_row (D.document tables.now) columns_id + length columns.now)) (λ l. l ≡ direct (table_said (D.document tables.now) table.now columns.now) ∷ [])) }
+{
+    let Some(action) = table_said(alloc, tables, table, columns)? else {
+        return Ok(None);
+    };
+    let steps = direct(alloc, action)?;
+    Ok(Some(steps))
+}
+
+/// The steps that add a column; nothing where its row would pass the last row id.
+pub(crate) fn add_column_steps<D: DocTables>(
+    alloc: Global,
+    tables: &D,
+    table: &Name,
+    column: &UserCol,
+) -> Result<Option<StepList>, AllocError>
+    requires whole { IsWhole (D.document tables.now) }
+    requires name { has_good_id column.now ≡ true }
+    ensures fresh { IfOk result (λ o. IfSome o (λ _. IsFresh (column_ids (D.document tables.now) table.now) column.now.id)) }
+    ensures made { IfOk result (λ o. MatchOption o (4294967295 < last_row (D.document tables.now) columns_id + 1) (λ l. l ≡ direct (AddColumn table.now (column_said (D.document tables.now) table.now column.now)) ∷ [])) }
+{
+    let Some(action) = column_said(alloc, tables, table, column)? else {
+        return Ok(None);
+    };
+    let steps = direct(alloc, action)?;
+    Ok(Some(steps))
+}

@@ -1,0 +1,93 @@
+//! A document as one line of text.
+//!
+//! `T` and the rows of the table of tables, `C` and those of the table of columns; then each plain
+//! table: its id, its columns, a formula behind a `=`, and each row with its cells, null as `-`.
+
+use cell_types::{CellText, CellValue, Name};
+use doc_model::{ColDef, DocTables};
+use row_tables::RowTables;
+use std::alloc::{AllocError, Global};
+
+fn write_rows(text: &mut String, mark: &str, rows: &[u32]) -> Result<(), AllocError> {
+    text.push_str(mark)?;
+    for row in rows {
+        write!(text, " {row}")?;
+    }
+    Ok(())
+}
+
+fn write_column(text: &mut String, column: &ColDef) -> Result<(), AllocError> {
+    write!(text, " {}", column.id.as_str())?;
+    if column.info.is_formula {
+        write!(text, "={}", column.info.formula.as_str())?;
+    }
+    Ok(())
+}
+
+fn write_cell(text: &mut String, value: &CellValue) -> Result<(), AllocError> {
+    match value {
+        CellValue::Null => text.push_str(" -"),
+        CellValue::Int(number) => write!(text, " {number}"),
+        CellValue::Text(shown) => write!(text, " {}", shown.as_str()),
+        _ => text.push_str(" ?"),
+    }
+}
+
+fn write_cells(
+    text: &mut String,
+    document: &RowTables,
+    table: &Name,
+    row: u32,
+) -> Result<(), AllocError> {
+    write!(text, "; {row}:")?;
+    for place in 0..9 {
+        if let Some(column) = document.column(table, place) {
+            if let Some(value) = document.cell(table, &column.id, row) {
+                write_cell(text, value)?;
+            }
+        }
+    }
+    Ok(())
+}
+
+fn write_table(text: &mut String, document: &RowTables, table: &Name) -> Result<(), AllocError> {
+    write!(text, "; {}", table.as_str())?;
+    for place in 0..9 {
+        if let Some(column) = document.column(table, place) {
+            write_column(text, column)?;
+        }
+    }
+    if let Some(rows) = document.rows(table) {
+        for row in rows {
+            write_cells(text, document, table, *row)?;
+        }
+    }
+    Ok(())
+}
+
+// The rows of the table at a place.
+fn rows_at(document: &RowTables, place: usize) -> &[u32] {
+    match document.table(place) {
+        Some(table) => document.rows(table).unwrap_or(&[]),
+        None => &[],
+    }
+}
+
+/// Adds the document in that form, up to five plain tables of nine columns.
+pub(crate) fn write_reading(text: &mut String, document: &RowTables) -> Result<(), AllocError> {
+    write_rows(text, "T", rows_at(document, 0))?;
+    write_rows(text, "; C", rows_at(document, 1))?;
+    for place in 4..9 {
+        if let Some(table) = document.table(place) {
+            write_table(text, document, table)?;
+        }
+    }
+    Ok(())
+}
+
+/// The document in that form.
+pub(crate) fn reading(alloc: Global, document: &RowTables) -> Result<String, AllocError> {
+    let mut text = String::new(alloc);
+    write_reading(&mut text, document)?;
+    Ok(text)
+}

@@ -2,7 +2,7 @@
 use Rattle.std.proofs.Common.{◌≡◌, ℕ, List, Option, Some, None, Result, Ok, Err, IfOk, IfSome, IfNone, option_and_then, sym, ◌∙◌, ap, refl}
 use Rattle.serde_json.specs.Data.{Data}
 use Rattle.grist_json.specs.Json.{json_at, SpellsBy}
-use Rattle.grist_json.proofs.StepLemmas.{some_same}
+use Rattle.action_lines.proofs.StepLemmas.{some_same}
 
 module _ {X : Type 0} (from : Data → Option X) (stands : X → Data → Type 0) where
   found_in : ((d : Data) (x : X) → from d ≡ Some x → stands x d) → (o : Option Data) (x : X) → option_and_then from o ≡ Some x → (d : Data) × (o ≡ Some d) × stands x d

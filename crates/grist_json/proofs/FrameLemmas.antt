@@ -6,11 +6,11 @@ use Rattle.cell_types.specs.NameRule.{is_name}
 use Rattle.doc_model.specs.declared.request.Request.{Request}
 use Rattle.doc_model.specs.declared.request.Request.TheVariants.{Bad}
 use Rattle.grist_json.specs.declared.frames.Frame.{Frame}
-use Rattle.grist_json.specs.Fields.{field, field_text, is_done}
+use Rattle.action_lines.specs.Fields.{field, field_text, is_done}
 use Rattle.grist_json.specs.Reading.{request_from}
 use Rattle.grist_json.specs.Frames.{frame_data, Asks, IsFrame, SpellsFrame, request_or_bad, frame_from, frame_at}
-use Rattle.grist_json.proofs.StepLemmas.{bind_some, guard_then, guard_some, none≢some}
-use Rattle.grist_json.proofs.FieldLemmas.{object_takes, field_takes, field_text_takes, done_takes}
+use Rattle.action_lines.proofs.StepLemmas.{bind_some, guard_then, guard_some, none≢some}
+use Rattle.action_lines.proofs.FieldLemmas.{object_takes, field_takes, field_text_takes, done_takes}
 use Rattle.grist_json.proofs.RequestLemmas.{request_takes, request_again}
 use Rattle.grist_json.proofs.Exactly.{found_by, none_by, once_by}
 

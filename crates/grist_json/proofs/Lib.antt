@@ -1,8 +1,4 @@
 pub mod JsonLemmas
-pub mod StepLemmas
-pub mod FieldLemmas
-pub mod NumberLemmas
-pub mod ColumnLemmas
 pub mod Exactly
 pub mod RequestLemmas
 pub mod FrameLemmas

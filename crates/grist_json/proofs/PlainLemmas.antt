@@ -17,8 +17,8 @@ use Rattle.grist_json.specs.declared.verdict.RetValue.{RetValue}
 use Rattle.grist_json.specs.declared.verdict.RetValue.TheVariants as ret
 use Rattle.grist_json.specs.declared.verdict.Verdict.{Verdict}
 use Rattle.grist_json.specs.declared.verdict.Verdict.TheVariants.{Done, Changes, Bundle, Undone, Refused, Limited, Denied}
-use Rattle.grist_json.specs.Numbers.{int_data}
-use Rattle.grist_json.specs.Values.{row_data, item_data, value_data, values_data}
+use Rattle.action_lines.specs.Numbers.{int_data, row_data}
+use Rattle.grist_json.specs.Values.{item_data, value_data, values_data}
 use Rattle.grist_json.specs.Actions.{formula_data, column_data, info_data, put_column, columns_data, action_data}
 use Rattle.grist_json.specs.Replies.{id_data, ret_data, verdict_data}
 use Rattle.grist_json.specs.Lines.{stream_data}

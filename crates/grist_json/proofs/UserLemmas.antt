@@ -6,12 +6,12 @@ use Rattle.serde_json.specs.Find.{as_object}
 use Rattle.doc_model.specs.declared.user.User.{User}
 use Rattle.grist_json.specs.declared.users.UserLine.TheVariants as line
 use Rattle.grist_json.specs.Json.{json_at, IsJson}
-use Rattle.grist_json.specs.Fields.{field, field_text, is_done}
-use Rattle.grist_json.specs.Numbers.{int_data, is_id, id_from}
+use Rattle.action_lines.specs.Fields.{field, field_text, is_done}
+use Rattle.action_lines.specs.Numbers.{int_data, is_id, id_from}
 use Rattle.grist_json.specs.Users.{fits, user_data, IsUser, SpellsUser, has_user, Tells, user_fields, user_from, user_or_bad, line_or_other, user_at}
-use Rattle.grist_json.proofs.StepLemmas.{bind_some, guard_then, guard_some, some_same, none≢some}
-use Rattle.grist_json.proofs.FieldLemmas.{object_takes, field_takes, field_text_takes, done_takes}
-use Rattle.grist_json.proofs.NumberLemmas.{id_takes, id_again}
+use Rattle.action_lines.proofs.StepLemmas.{bind_some, guard_then, guard_some, some_same, none≢some}
+use Rattle.action_lines.proofs.FieldLemmas.{object_takes, field_takes, field_text_takes, done_takes}
+use Rattle.action_lines.proofs.NumberLemmas.{id_takes, id_again}
 use Rattle.grist_json.proofs.Exactly.{once_by}
 
 fields_data : User → List ℕ → Data

@@ -6,8 +6,9 @@ use Rattle.cell_types.specs.NameRule.{is_name}
 use Rattle.doc_model.specs.declared.request.Request.{Request}
 use Rattle.doc_model.specs.declared.request.Request.TheVariants.{Bad}
 use Rattle.grist_json.specs.declared.frames.Frame.{Frame}
-use Rattle.grist_json.specs.Json.{◌>>=◌, SpellsBy, json_at}
-use Rattle.grist_json.specs.Fields.{field, field_text, is_done}
+use Rattle.grist_json.specs.Json.{SpellsBy, json_at}
+use Rattle.action_lines.specs.Steps.{◌>>=◌}
+use Rattle.action_lines.specs.Fields.{field, field_text, is_done}
 use Rattle.grist_json.specs.Requests.{IsRequest}
 use Rattle.grist_json.specs.Reading.{request_from}
 

@@ -15,9 +15,3 @@ IsJson bytes d = json_at bytes ≡ Some d
 -- the bytes are the text of JSON that stands for the thing
 abbrev pub SpellsBy : {X : Type 0} → (X → Data → Type 0) → X → List ℕ → Type 0
 SpellsBy stands x bytes = (d : Data) × IsJson bytes d × stands x d
-
--- one step of reading, and then the next
-infixl 10 ◌>>=◌
-abbrev pub ◌>>=◌ : {A B : Type 0} → Option A → (A → Option B) → Option B
-(Some x) >>= f = f x
-None >>= f = None

@@ -1,8 +1,4 @@
 pub mod Json
-pub mod Fields
-pub mod Items
-pub mod Numbers
-pub mod Columns
 pub mod Requests
 pub mod Reading
 pub mod Frames

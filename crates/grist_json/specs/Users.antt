@@ -6,9 +6,10 @@ use Rattle.serde_json.specs.Find.{as_object, get_member}
 use Rattle.doc_model.specs.declared.user.User.{User}
 use Rattle.grist_json.specs.declared.users.UserLine.{UserLine}
 use Rattle.grist_json.specs.declared.users.UserLine.TheVariants as line
-use Rattle.grist_json.specs.Json.{◌>>=◌, IsJson, SpellsBy, json_at}
-use Rattle.grist_json.specs.Fields.{field, field_text, is_done}
-use Rattle.grist_json.specs.Numbers.{int_data, is_id, id_from}
+use Rattle.grist_json.specs.Json.{IsJson, SpellsBy, json_at}
+use Rattle.action_lines.specs.Steps.{◌>>=◌}
+use Rattle.action_lines.specs.Fields.{field, field_text, is_done}
+use Rattle.action_lines.specs.Numbers.{int_data, is_id, id_from}
 
 -- access and sizes of a good user; owners alone are good so far
 abbrev pub fits : List ℕ → List ℕ → List ℕ → List ℕ → Bool

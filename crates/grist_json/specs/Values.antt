@@ -1,33 +1,18 @@
 -- The JSON of values.
 use Rattle.std.specs.Prelude.{ℕ, List, codes, map}
-use Rattle.serde_json.specs.Data.{Data, null, boolean, number, unsigned, string, array, no_items, item}
+use Rattle.serde_json.specs.Data.{Data, null, boolean, string, array, no_items, item}
 use Rattle.serde_json.specs.View.{items_of}
-use Rattle.cell_types.specs.declared.value.ErrKind.{ErrKind}
-use Rattle.cell_types.specs.declared.value.ErrKind.TheVariants as kind
 use Rattle.cell_types.specs.declared.value.CellItem.{CellItem}
 use Rattle.cell_types.specs.declared.value.CellItem.TheVariants as one
 use Rattle.cell_types.specs.declared.value.CellValue.{CellValue}
 use Rattle.cell_types.specs.declared.value.CellValue.TheVariants as value
 use Rattle.cell_types.specs.declared.value.RowRef.{RowRef}
-use Rattle.grist_json.specs.Numbers.{int_data}
-
--- an error by its name
-abbrev pub error_name : ErrKind → List ℕ
-error_name kind.Circular = codes "CircularRefError"
-error_name kind.ZeroDivision = codes "ZeroDivisionError"
-error_name kind.WrongType = codes "TypeError"
-error_name kind.Attribute = codes "AttributeError"
-error_name kind.Key = codes "KeyError"
-error_name kind.Name = codes "NameError"
-error_name kind.Overflow = codes "OverflowError"
-error_name kind.Syntax = codes "SyntaxError"
+use Rattle.action_lines.specs.Numbers.{int_data, row_data}
+use Rattle.action_lines.specs.Marks.{error_name}
 
 -- things as an array
 abbrev pub array_of : {X : Type 0} → (X → Data) → List X → Data
 array_of shown xs = array (items_of (map shown xs))
-
-abbrev pub row_data : ℕ → Data
-row_data n = number (unsigned n)
 
 abbrev pub rows_data : List ℕ → Data
 rows_data rows = array_of row_data rows

@@ -4,9 +4,9 @@ ghost use Rattle.serde_json.specs.View.{view};
 ghost use Rattle.grist_json.specs.Frames.{frame_from, frame_at, SpellsFrame};
 ghost use Rattle.grist_json.specs.declared.frames.Frame.{Frame};
 
-use crate::fields::Fields;
 use crate::json_text::json_of;
 use crate::requests::request_of;
+use action_lines::Fields;
 use cell_types::{CellText, Name};
 use doc_model::Request;
 use name_rules::is_name;

@@ -1,7 +1,7 @@
 //! Lines of JSON: what requests, frames and users they spell, and how replies are printed.
 //!
-//! Stands on `doc_model` and `cell_types` (what is read and printed), `name_rules` (names of sessions)
-//! and `serde_json` (the text of JSON). Used by the core and the program.
+//! Stands on `action_lines` (user actions), `doc_model` and `cell_types` (what is read and printed),
+//! `name_rules` (names of sessions) and `serde_json` (the text of JSON). Used by the core and the program.
 //!
 //! Promises: each reader answers the thing that the bytes spell, and nothing exactly where there is
 //! none; bytes spell at most one thing. Each writer gives the compact text, keys sorted, of the JSON
@@ -10,14 +10,10 @@
 //! Read first: requests.rt, then frames.rt and printed_replies.rt.
 #![tactic(auto)]
 
-mod columns;
-mod fields;
 mod frames;
-mod items;
 mod json_text;
 mod laws;
 mod line;
-mod numbers;
 mod printed_actions;
 mod printed_replies;
 mod printed_values;

@@ -1,7 +1,8 @@
 //! Values of cells as JSON.
 ghost use Rattle.std.specs.Prelude.{◌≡◌, IfOk};
 ghost use Rattle.serde_json.specs.View.{view};
-ghost use Rattle.grist_json.specs.Values.{row_data, error_name, error_data, item_data, value_data, list_data, rows_data, values_data};
+ghost use Rattle.action_lines.specs.Marks.{error_name};
+ghost use Rattle.grist_json.specs.Values.{error_data, item_data, value_data, list_data, rows_data, values_data};
 
 use cell_types::{CellItem, CellValue, ErrKind};
 use serde_json::{Value, json};

@@ -2,15 +2,13 @@
 ghost use Rattle.std.specs.Prelude.{◌≡◌, IfOk, Err};
 ghost use Rattle.serde_json.specs.View.{view};
 ghost use Rattle.grist_json.specs.Requests.{Spells, IsRead, request_at};
-ghost use Rattle.grist_json.specs.Reading.{open_from, sync_from, add_from, actions_from, apply_from, request_from};
+ghost use Rattle.grist_json.specs.Reading.{open_from, word_from, bare_from, apply_from, request_from};
 ghost use Rattle.doc_model.specs.declared.request.Request.{Request};
 
-use crate::columns::columns_of;
-use crate::fields::Fields;
-use crate::items::Items;
 use crate::json_text::json_of;
+use action_lines::{Fields, read_actions};
 use cell_types::CellText;
-use doc_model::{Request, UserAction, UserActionList};
+use doc_model::Request;
 use serde_json::Value;
 use std::alloc::{AllocError, Global};
 
@@ -46,9 +44,20 @@ fn open_of(alloc: Global, value: &Value) -> Result<Option<Request>, AllocError>
     }))
 }
 
-#[tactic(auto, unfolding(crate::specs::Reading::sync_from))]
-fn sync_of(value: &Value) -> Option<Request>
-    ensures { result ≡ sync_from (view value.now) }
+// The request of that word, where it is one that has nothing but its word.
+fn word_of(word: &str) -> Option<Request>
+    ensures { result ≡ word_from word.now }
+{
+    match word {
+        "sync" => Some(Request::Sync),
+        "closeDoc" => Some(Request::Close),
+        _ => None,
+    }
+}
+
+#[tactic(auto, unfolding(crate::specs::Reading::bare_from))]
+fn bare_of(value: &Value) -> Option<Request>
+    ensures { result ≡ bare_from (view value.now) }
 {
     let Some(mut fields) = Fields::of(value) else {
         return None;
@@ -59,79 +68,7 @@ fn sync_of(value: &Value) -> Option<Request>
     if !fields.is_done() {
         return None;
     }
-    if method != "sync" {
-        return None;
-    }
-    Some(Request::Sync)
-}
-
-// The action that adds one record to the table that there is.
-#[tactic(auto, unfolding(crate::specs::Reading::add_from))]
-fn add_of(alloc: Global, value: &Value) -> Result<Option<UserAction>, AllocError>
-    ensures { IfOk result (λ o. o ≡ add_from (view value.now)) }
-{
-    let Some(mut items) = Items::of(value) else {
-        return Ok(None);
-    };
-    let Some(name) = items.take_text() else {
-        return Ok(None);
-    };
-    let Some(table) = items.take_text() else {
-        return Ok(None);
-    };
-    let Some(row) = items.take() else {
-        return Ok(None);
-    };
-    let Some(members) = items.take() else {
-        return Ok(None);
-    };
-    if !items.is_done() {
-        return Ok(None);
-    }
-    if name != "AddRecord" {
-        return Ok(None);
-    }
-    if table != "Table1" {
-        return Ok(None);
-    }
-    if !row.is_null() {
-        return Ok(None);
-    }
-    let Some(fields) = Fields::of(members) else {
-        return Ok(None);
-    };
-    let Some(columns) = columns_of(alloc, fields)? else {
-        return Ok(None);
-    };
-    Ok(Some(UserAction::Add {
-        table: CellText::copy_of(alloc, "Table1")?,
-        single: true,
-        count: 1,
-        explicit: false,
-        columns,
-    }))
-}
-
-// The list of one action.
-#[tactic(auto, unfolding(crate::specs::Reading::actions_from))]
-fn actions_of(alloc: Global, value: &Value) -> Result<Option<UserActionList>, AllocError>
-    ensures { IfOk result (λ o. o ≡ actions_from (view value.now)) }
-{
-    let Some(mut items) = Items::of(value) else {
-        return Ok(None);
-    };
-    let Some(first) = items.take() else {
-        return Ok(None);
-    };
-    if !items.is_done() {
-        return Ok(None);
-    }
-    let Some(action) = add_of(alloc, first)? else {
-        return Ok(None);
-    };
-    let mut actions = UserActionList::new(alloc);
-    actions.push(action)?;
-    Ok(Some(actions))
+    word_of(method)
 }
 
 #[tactic(auto, unfolding(crate::specs::Reading::apply_from))]
@@ -153,7 +90,7 @@ fn apply_of(alloc: Global, value: &Value) -> Result<Option<Request>, AllocError>
     if method != "applyUserActions" {
         return Ok(None);
     }
-    let Some(actions) = actions_of(alloc, actions)? else {
+    let Some(actions) = read_actions(alloc, actions)? else {
         return Ok(None);
     };
     Ok(Some(Request::Apply { actions }))
@@ -167,7 +104,7 @@ pub(crate) fn request_of(alloc: Global, value: &Value) -> Result<Option<Request>
     if let Some(request) = open_of(alloc, value)? {
         return Ok(Some(request));
     }
-    if let Some(request) = sync_of(value) {
+    if let Some(request) = bare_of(value) {
         return Ok(Some(request));
     }
     apply_of(alloc, value)

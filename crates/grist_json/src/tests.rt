@@ -1,291 +1,139 @@
-//! Plan: what lines spell (`spelled_requests`, `lines_that_spell_none`, `spelled_frames`,
-//! `bytes_that_are_no_text`, `spelled_users`, `texts_at_their_bound`), and what is printed (`printed_values`,
-//! `printed_columns`, `printed_replies`, `printed_refusals`, `printed_frame`). The expected texts are those
-//! of the stored cases and of the protocol.
+//! Plan: what lines spell (`spelled_requests`, `lines_that_spell_none`, `spelled_frames`, `spelled_users`),
+//! and what is printed (`printed_values`, `printed_columns`, `printed_replies`, `printed_refusals`,
+//! `printed_frame`). The expected texts are those of the stored cases and of the protocol, a row a line;
+//! what is read is shown as `Debug` shows it.
 
 use crate::*;
 use cell_types::*;
 use doc_model::*;
 use std::test::Fail;
 
-// A short text for a request.
-fn request_text(rt: &HostRuntime, request: &Request) -> Result<String, Fail> {
-    let mut text = String::new(rt.alloc());
-    match request {
-        Request::Open { token } => {
-            text.push_str("open ")?;
-            text.push_str(token.as_str())?;
-        }
-        Request::Sync => text.push_str("sync")?,
-        Request::Apply { actions } => {
-            for action in actions.as_slice() {
-                if let UserAction::Add {
-                    table,
-                    single,
-                    count,
-                    explicit,
-                    columns,
-                } = action
-                {
-                    if table.as_str() == "Table1" && *single && *count == 1 && !*explicit {
-                        text.push_str("add")?;
-                    }
-                    for column in columns.as_slice() {
-                        text.push_str(" ")?;
-                        text.push_str(column.id.as_str())?;
-                        for value in column.values.as_slice() {
-                            match value {
-                                CellValue::Int(number) => write!(text, ":{number}")?,
-                                CellValue::Text(words) => write!(text, ":\"{}\"", words.as_str())?,
-                                _ => text.push_str("?")?,
-                            }
-                        }
-                    }
-                }
-            }
-        }
-        Request::Bad => text.push_str("bad")?,
-        _ => text.push_str("?")?,
-    }
-    Ok(text)
-}
+const REQUESTS: &str =
+    r#"{"method":"openDoc","token":"ta"} => Open { token: CellText { text: "ta" } }
+  {"token":"", "method":"openDoc"}  => Open { token: CellText { text: "" } }
+{"method":"sync"} => Sync
+{"method":"closeDoc"} => Close
+{"actions":[],"method":"applyUserActions"} => Apply { actions: Sequence { items: [] } }
+{"method":"applyUserActions","actions":[["AddRecord","T",null,{"A":1.5,"B":7,"A":2}],["RemoveTable","U"]]} => Apply { actions: Sequence { items: [Add { table: CellText { text: "T" }, single: true, count: 1, explicit: false, columns: Sequence { items: [UserColumn { id: CellText { text: "A" }, values: Sequence { items: [Int(2)] } }, UserColumn { id: CellText { text: "B" }, values: Sequence { items: [Int(7)] } }] } }, RemoveTable { table: CellText { text: "U" } }] } }"#;
+
+// The first is the empty line.
+const NO_REQUESTS: &str = r#"
+{"bundle":1,"method":"undo"}
+{"method":"fetchTable","table":"Table1"}
+{"method":"sync"} x
+{"method":"openDoc","token":"t","x":1e999}
+{"method":"openDoc","token":"\ud800"}
+{"method":"sync","x":1}
+{"method":"Sync"}
+{"x":1}
+null
+{"method":"openDoc","token":5}
+{"method":"openDoc","token":"ta","x":1}
+{"actions":[],"method":"applyUserActions","x":1}
+{"actions":{},"method":"applyUserActions"}
+{"actions":[],"method":"apply"}
+{"method":"applyUserActions"}
+{"method":"closeDoc","x":1}
+{"actions":[["RemoveTable","T"],["RemoveTable"]],"method":"applyUserActions"}
+{"actions":[["AddRecord","T",null,{"A":-0}]],"method":"applyUserActions"}"#;
+
+const FRAMES: &str = r#"nonsense => -
+{"line":{"method":"sync"},"session":"s1","x":1} => -
+{"line":{"method":"sync"},"session":"_"} => -
+{"line":{"method":"sync"},"session":"1s"} => -
+{"line":{"method":"sync"},"session":"rec"} => -
+{"line":{"method":"sync"},"session":"sssssssssssssssssssssssssssssssssssssssssssssssssssssssssssssssss"} => -
+{"line":{"method":"sync"},"session":"s1"} x => -
+{"line":{"method":"sync"},"session":"ssssssssssssssssssssssssssssssssssssssssssssssssssssssssssssssss"} => ssssssssssssssssssssssssssssssssssssssssssssssssssssssssssssssss Sync
+{"line":{"method":"sync"},"session":"séance"} => séance Sync
+{"line":{"method":"sync"},"session":"٣x"} => -
+{"line":{"method":"sync"},"session":"ж"} => ж Sync
+{"line":[[[[[[[[[[[[[[[[[[[[[[[[[[[[[[[[[[[[[[[[[[[[[[[[[[[[[[[[[[[[[[[[[[[[[[[[[[[[[[[[[[[[[[[[[[[[[[[[[[[[[[[[[[[[[[[[[[[[[[[[[[[[[[]]]]]]]]]]]]]]]]]]]]]]]]]]]]]]]]]]]]]]]]]]]]]]]]]]]]]]]]]]]]]]]]]]]]]]]]]]]]]]]]]]]]]]]]]]]]]]]]]]]]]]]]]]]]]]]]]]]]]]]]]]]]]],"session":"s1"} => s1 Bad
+{"line":[[[[[[[[[[[[[[[[[[[[[[[[[[[[[[[[[[[[[[[[[[[[[[[[[[[[[[[[[[[[[[[[[[[[[[[[[[[[[[[[[[[[[[[[[[[[[[[[[[[[[[[[[[[[[[[[[[[[[[[[[[[[[[[]]]]]]]]]]]]]]]]]]]]]]]]]]]]]]]]]]]]]]]]]]]]]]]]]]]]]]]]]]]]]]]]]]]]]]]]]]]]]]]]]]]]]]]]]]]]]]]]]]]]]]]]]]]]]]]]]]]]]]]]]]]]]]],"session":"s1"} => -
+{"line":5,"session":"s9"} => s9 Bad
+{"line":{"method":"sync","method":"openDoc","token":"zz","token":"ta"},"session":"s1"} => s1 Open { token: CellText { text: "ta" } }"#;
+
+const USERS: &str =
+    r#"{"user":{"access":"owners","email":"ann@x.org","id":1,"name":"Ann","token":"ta"}} => Ann ann@x.org 1 ta
+{"user":5,"user":{"access":"owners","email":"no","email":"ann@x.org","id":1,"name":"Ann","token":"zz","token":"ta"}} => Ann ann@x.org 1 ta
+{"user":null} => bad
+{"user":{"access":"owners","email":"b@x.org","id":-1,"name":"B","token":"tb"}} => bad
+{"user":{"access":"owners","email":"b@x.org","id":2,"name":"B","token":""}} => bad
+{"user":{"access":"admins","email":"b@x.org","id":2,"name":"B","token":"tb"}} => bad
+{"user":{"access":null,"email":"nel@x.org","id":4,"name":"Nel","token":"tn"}} => bad
+{"user":{"access":"editors","email":"e","id":1,"name":"E","token":"te"}} => bad
+nonsense => -
+{"line":{"method":"sync"},"session":"s1"} => -"#;
 
 #[test]
 fn spelled_requests(rt: HostRuntime) -> Result<(), Fail> {
-    let rows = [
-        ("{\"method\":\"openDoc\",\"token\":\"ta\"}", "open ta"),
-        (" {\"token\":\"\", \"method\":\"openDoc\"}\u{d}", "open "),
-        ("{\"method\":\"sync\"}", "sync"),
-        (
-            "{\"actions\":[[\"AddRecord\",\"Table1\",null,{}]],\"method\":\"applyUserActions\"}",
-            "add",
-        ),
-        (
-            "{\"method\":\"applyUserActions\",\"actions\":[[\"AddRecord\",\"Table1\",null,{\"C\":\"x\",\"A\":-9223372036854775808}]]}",
-            "add A:-9223372036854775808 C:\"x\"",
-        ),
-        (
-            "{\"actions\":[[\"AddRecord\",\"Table1\",null,{\"A\":1,\"B\":7,\"A\":2}]],\"method\":\"applyUserActions\"}",
-            "add A:2 B:7",
-        ),
-        (
-            "{\"actions\":[[\"AddRecord\",\"Table1\",null,{\"A\":1.5,\"A\":9223372036854775807}]],\"method\":\"applyUserActions\"}",
-            "add A:9223372036854775807",
-        ),
-        (
-            "{\"actions\":[[\"AddRecord\",\"Table1\",null,{\"B\":\"\\u0001\\n\\\\/\"}]],\"method\":\"applyUserActions\"}",
-            "add B:\"\u{1}\u{a}\\/\"",
-        ),
-    ];
-    for (line, wanted) in rows {
-        match read_request(rt.alloc(), line.as_bytes()) {
-            Ok(request) => {
-                let text = request_text(&rt, &request)?;
-                assert!(rt; text.as_str() == wanted, "{line} gave {text}");
-            }
-            Err(fault) => assert!(rt; false, "{line} gave {fault:?}"),
-        }
-    }
-    Ok(())
-}
-
-#[test]
-fn lines_that_spell_none(rt: HostRuntime) -> Result<(), Fail> {
-    let lines = [
-        "{\"method\":\"closeDoc\"}",
-        "{\"bundle\":1,\"method\":\"undo\"}",
-        "{\"method\":\"fetchTable\",\"table\":\"Table1\"}",
-        "{\"actions\":[],\"method\":\"applyUserActions\"}",
-        "{\"actions\":[[\"AddRecord\",\"Table1\",null,{\"D\":1}]],\"method\":\"applyUserActions\"}",
-        "{\"actions\":[[\"AddRecord\",\"Table2\",null,{\"A\":1}]],\"method\":\"applyUserActions\"}",
-        "{\"actions\":[[\"AddRecord\",\"Table1\",null,{\"A\":null}]],\"method\":\"applyUserActions\"}",
-        "",
-        "{\"method\":\"sync\"} x",
-        "{\"method\":\"openDoc\",\"token\":\"t\",\"x\":1e999}",
-        "{\"method\":\"openDoc\",\"token\":\"\\ud800\"}",
-        "{\"method\":\"sync\",\"x\":1}",
-        "{\"x\":1}",
-        "{\"method\":\"openDoc\",\"token\":5}",
-        "{\"method\":\"openDoc\",\"token\":\"ta\",\"x\":1}",
-        "{\"actions\":[],\"method\":\"applyUserActions\",\"x\":1}",
-        "{\"method\":\"undo\"}",
-        "{\"bundle\":-1,\"method\":\"undo\"}",
-        "{\"bundle\":1.0,\"method\":\"undo\"}",
-        "{\"bundle\":\"1\",\"method\":\"undo\"}",
-        "{\"bundle\":null,\"method\":\"undo\"}",
-        "{\"method\":\"closeDoc\",\"x\":1}",
-        "{\"actions\":[[\"AddRecord\",\"Table1\",null,{\"A\":-0}]],\"method\":\"applyUserActions\"}",
-        "{\"actions\":[[\"AddRecord\",\"Table1\",null,{\"A\":9223372036854775808}]],\"method\":\"applyUserActions\"}",
-    ];
-    for line in lines {
+    for row in REQUESTS.lines() {
+        let (line, wanted) = row.split_once(" => ").ok_or("no row")?;
         let read = read_request(rt.alloc(), line.as_bytes());
-        assert!(rt; matches!(&read, Err(ReadFault::BadLine)), "{line} was read");
-    }
-    Ok(())
-}
-
-// A short text for a frame.
-fn frame_text(rt: &HostRuntime, line: &[u8]) -> Result<String, Fail> {
-    let mut text = String::new(rt.alloc());
-    match read_frame(rt.alloc(), line)? {
-        Some(frame) => {
-            text.push_str(frame.session.as_str())?;
-            text.push_str(" ")?;
-            let asked = request_text(rt, &frame.request)?;
-            text.push_str(asked.as_str())?;
-        }
-        None => text.push_str("-")?,
-    }
-    Ok(text)
-}
-
-#[test]
-fn spelled_frames(rt: HostRuntime) -> Result<(), Fail> {
-    let rows = [
-        ("nonsense", "-"),
-        (
-            "{\"line\":{\"method\":\"sync\"},\"session\":\"s1\",\"x\":1}",
-            "-",
-        ),
-        ("{\"line\":{\"method\":\"sync\"},\"session\":\"_\"}", "-"),
-        ("{\"line\":{\"method\":\"sync\"},\"session\":\"1s\"}", "-"),
-        ("{\"line\":{\"method\":\"sync\"},\"session\":\"rec\"}", "-"),
-        (
-            "{\"line\":{\"method\":\"sync\"},\"session\":\"sssssssssssssssssssssssssssssssssssssssssssssssssssssssssssssssss\"}",
-            "-",
-        ),
-        ("{\"line\":{\"method\":\"sync\"},\"session\":\"s1\"} x", "-"),
-        (
-            "{\"line\":{\"method\":\"sync\"},\"session\":\"ssssssssssssssssssssssssssssssssssssssssssssssssssssssssssssssss\"}",
-            "ssssssssssssssssssssssssssssssssssssssssssssssssssssssssssssssss sync",
-        ),
-        (
-            "{\"line\":{\"method\":\"sync\"},\"session\":\"séance\"}",
-            "séance sync",
-        ),
-        ("{\"line\":{\"method\":\"sync\"},\"session\":\"٣x\"}", "-"),
-        (
-            "{\"line\":{\"method\":\"sync\"},\"session\":\"ж\"}",
-            "ж sync",
-        ),
-        (
-            "{\"line\":[[[[[[[[[[[[[[[[[[[[[[[[[[[[[[[[[[[[[[[[[[[[[[[[[[[[[[[[[[[[[[[[[[[[[[[[[[[[[[[[[[[[[[[[[[[[[[[[[[[[[[[[[[[[[[[[[[[[[[[[[[[[[[]]]]]]]]]]]]]]]]]]]]]]]]]]]]]]]]]]]]]]]]]]]]]]]]]]]]]]]]]]]]]]]]]]]]]]]]]]]]]]]]]]]]]]]]]]]]]]]]]]]]]]]]]]]]]]]]]]]]]]]]]]]]]],\"session\":\"s1\"}",
-            "s1 bad",
-        ),
-        (
-            "{\"line\":[[[[[[[[[[[[[[[[[[[[[[[[[[[[[[[[[[[[[[[[[[[[[[[[[[[[[[[[[[[[[[[[[[[[[[[[[[[[[[[[[[[[[[[[[[[[[[[[[[[[[[[[[[[[[[[[[[[[[[[[[[[[[[[]]]]]]]]]]]]]]]]]]]]]]]]]]]]]]]]]]]]]]]]]]]]]]]]]]]]]]]]]]]]]]]]]]]]]]]]]]]]]]]]]]]]]]]]]]]]]]]]]]]]]]]]]]]]]]]]]]]]]]]]]]]]]]],\"session\":\"s1\"}",
-            "-",
-        ),
-        (
-            "{\"line\":[[[[[[[[[[[[[[[[[[[[[[[[[[[[[[[[[[[[[[[[[[[[[[[[[[[[[[[[[[[[[[[[[[[[[[[[[[[[[[[[[[[[[[[[[[[[[[[[[[[[[[[[[[[[[[[[[[[[[[[[[[[[[[[[[[[[[[[[[[[[[[[[[[[[[[[[[[[[[[[[[[[[[[[[[[[[[[[[[[[[[[[[[[[[[[[[[[[[[[[[]]]]]]]]]]]]]]]]]]]]]]]]]]]]]]]]]]]]]]]]]]]]]]]]]]]]]]]]]]]]]]]]]]]]]]]]]]]]]]]]]]]]]]]]]]]]]]]]]]]]]]]]]]]]]]]]]]]]]]]]]]]]]]]]]]]]]]]]]]]]]]]]]]]]]]]]]]]]]]]]]]]]]]]]]]]]]]]]]]]]]]]]]]]]]]]]]]]]]]]],\"session\":\"s1\"}",
-            "-",
-        ),
-        (
-            "{\"line\":{\"actions\":[[\"AddRecord\",\"Table1\",null,{\"A\":[[[[[[[[[[[[[[[[[[[[[[[[[[[[[[[[[[[[[[[[[[[[[[[[[[[[[[[[[[[[[[[[[[[[[[[[[[[[[[[[[[[[[[[[[[[[[[[[[[[[[[[[[[[[[[[[[[[[[[[[[[[[[[[[[[[[[[[[[[[[[[[[[[[[[[[[[[[[[[[[[[[[[[[[[[[[[[[[[[[[[[[[[[[[[[[[[[[[[[[[]]]]]]]]]]]]]]]]]]]]]]]]]]]]]]]]]]]]]]]]]]]]]]]]]]]]]]]]]]]]]]]]]]]]]]]]]]]]]]]]]]]]]]]]]]]]]]]]]]]]]]]]]]]]]]]]]]]]]]]]]]]]]]]]]]]]]]]]]]]]]]]]]]]]]]]]]]]]]]]]]]]]]]]]]]]]]]]]]]]]]]]]]]]]]]]]]]]]]]]]}]],\"method\":\"applyUserActions\"},\"session\":\"s1\"}",
-            "-",
-        ),
-        (
-            "{\"line\":5,\"session\":\"s9\",\"line\":{\"method\":\"sync\",\"method\":\"openDoc\",\"token\":\"zz\",\"token\":\"ta\"},\"session\":\"s1\"}",
-            "s1 open ta",
-        ),
-    ];
-    for (line, wanted) in rows {
-        let text = frame_text(&rt, line.as_bytes())?;
-        assert!(rt; text.as_str() == wanted, "{line} gave {text}");
-    }
-    Ok(())
-}
-
-#[test]
-fn bytes_that_are_no_text(rt: HostRuntime) -> Result<(), Fail> {
-    let mut line = Vec::from_slice(
-        rt.alloc(),
-        b"{\"line\":{\"method\":\"sync\"},\"session\":\"s1",
-    )?;
-    line.push(0xe9)?;
-    line.extend_from_slice(b"\"}")?;
-    let text = frame_text(&rt, &line)?;
-    assert!(rt; text.as_str() == "-");
-    let text = frame_text(&rt, &[0xff, 0xfe])?;
-    assert!(rt; text.as_str() == "-");
-    let text = frame_text(&rt, b"{\"line\":5,\"session\":\"s\x011\"}")?;
-    assert!(rt; text.as_str() == "-");
-    Ok(())
-}
-
-#[test]
-fn spelled_users(rt: HostRuntime) -> Result<(), Fail> {
-    let rows = [
-        (
-            "{\"user\":{\"access\":\"owners\",\"email\":\"ann@x.org\",\"id\":1,\"name\":\"Ann\",\"token\":\"ta\"}}",
-            "Ann ann@x.org 1 ta",
-        ),
-        (
-            "{\"user\":5,\"user\":{\"access\":\"owners\",\"email\":\"no\",\"email\":\"ann@x.org\",\"id\":1,\"name\":\"Ann\",\"token\":\"zz\",\"token\":\"ta\"}}",
-            "Ann ann@x.org 1 ta",
-        ),
-        ("{\"user\":null}", "bad"),
-        (
-            "{\"user\":{\"access\":\"owners\",\"email\":\"b@x.org\",\"id\":-1,\"name\":\"B\",\"token\":\"tb\"}}",
-            "bad",
-        ),
-        (
-            "{\"user\":{\"access\":\"owners\",\"email\":\"b@x.org\",\"id\":2,\"name\":\"B\",\"token\":\"\"}}",
-            "bad",
-        ),
-        (
-            "{\"user\":{\"access\":\"admins\",\"email\":\"b@x.org\",\"id\":2,\"name\":\"B\",\"token\":\"tb\"}}",
-            "bad",
-        ),
-        (
-            "{\"user\":{\"access\":null,\"email\":\"nel@x.org\",\"id\":4,\"name\":\"Nel\",\"token\":\"tn\"}}",
-            "bad",
-        ),
-        (
-            "{\"user\":{\"access\":\"editors\",\"email\":\"e\",\"id\":1,\"name\":\"E\",\"token\":\"te\"}}",
-            "bad",
-        ),
-        ("nonsense", "-"),
-        ("{\"line\":{\"method\":\"sync\"},\"session\":\"s1\"}", "-"),
-    ];
-    for (line, wanted) in rows {
-        let text = match read_user(rt.alloc(), line.as_bytes())? {
-            UserLine::User(user) => {
-                let name = user.name.as_str();
-                let email = user.email.as_str();
-                let id = user.id;
-                let token = user.token.as_str();
-                format!(in rt.alloc(); "{name} {email} {id} {token}")?
-            }
-            UserLine::Bad => String::from_str(rt.alloc(), "bad")?,
-            UserLine::Other => String::from_str(rt.alloc(), "-")?,
+        let text = match &read {
+            Ok(request) => format!(in rt.alloc(); "{request:?}")?,
+            Err(fault) => format!(in rt.alloc(); "{fault:?}")?,
         };
         assert!(rt; text.as_str() == wanted, "{line} gave {text}");
     }
     Ok(())
 }
 
-// The line that adds a text of that many bytes.
-fn long_line(rt: &HostRuntime, size: usize) -> Result<String, Fail> {
-    let mut line = String::from_str(
-        rt.alloc(),
-        "{\"actions\":[[\"AddRecord\",\"Table1\",null,{\"A\":\"",
-    )?;
-    for _ in 0..size {
-        line.push_str("t")?;
+#[test]
+fn lines_that_spell_none(rt: HostRuntime) -> Result<(), Fail> {
+    for line in NO_REQUESTS.lines() {
+        let read = read_request(rt.alloc(), line.as_bytes());
+        assert!(rt; matches!(&read, Err(ReadFault::BadLine)), "{line} was read");
     }
-    line.push_str("\"}]],\"method\":\"applyUserActions\"}")?;
-    Ok(line)
+    Ok(())
+}
+
+// The session and the request of a frame; `-` where the bytes are none.
+fn frame_text(rt: &HostRuntime, line: &[u8]) -> Result<String, Fail> {
+    match read_frame(rt.alloc(), line)? {
+        Some(frame) => {
+            let session = frame.session.as_str();
+            Ok(format!(in rt.alloc(); "{session} {:?}", frame.request)?)
+        }
+        None => Ok(String::from_str(rt.alloc(), "-")?),
+    }
 }
 
 #[test]
-fn texts_at_their_bound(rt: HostRuntime) -> Result<(), Fail> {
-    let line = long_line(&rt, 65_536)?;
-    let read = read_request(rt.alloc(), line.as_bytes());
-    assert!(rt; matches!(&read, Ok(Request::Apply { actions: _ })));
-    let line = long_line(&rt, 65_537)?;
-    let read = read_request(rt.alloc(), line.as_bytes());
-    assert!(rt; matches!(&read, Err(ReadFault::BadLine)));
+fn spelled_frames(rt: HostRuntime) -> Result<(), Fail> {
+    for row in FRAMES.lines() {
+        let (line, wanted) = row.split_once(" => ").ok_or("no row")?;
+        let text = frame_text(&rt, line.as_bytes())?;
+        assert!(rt; text.as_str() == wanted, "{line} gave {text}");
+    }
+    assert!(rt; frame_text(&rt, &[0xff, 0xfe])?.as_str() == "-");
+    let text = frame_text(&rt, b"{\"line\":5,\"session\":\"s\x011\"}")?;
+    assert!(rt; text.as_str() == "-");
+    Ok(())
+}
+
+// What a line says of a user, in short.
+fn user_text(rt: &HostRuntime, line: &str) -> Result<String, Fail> {
+    match read_user(rt.alloc(), line.as_bytes())? {
+        UserLine::User(user) => {
+            let name = user.name.as_str();
+            let email = user.email.as_str();
+            let id = user.id;
+            let token = user.token.as_str();
+            Ok(format!(in rt.alloc(); "{name} {email} {id} {token}")?)
+        }
+        UserLine::Bad => Ok(String::from_str(rt.alloc(), "bad")?),
+        UserLine::Other => Ok(String::from_str(rt.alloc(), "-")?),
+    }
+}
+
+#[test]
+fn spelled_users(rt: HostRuntime) -> Result<(), Fail> {
+    for row in USERS.lines() {
+        let (line, wanted) = row.split_once(" => ").ok_or("no row")?;
+        let text = user_text(&rt, line)?;
+        assert!(rt; text.as_str() == wanted, "{line} gave {text}");
+    }
     Ok(())
 }
 

@@ -3,9 +3,8 @@ ghost use Rattle.std.specs.Prelude.{◌≡◌, IfOk};
 ghost use Rattle.serde_json.specs.View.{view};
 ghost use Rattle.grist_json.specs.Users.{fits, user_fields, user_from, has_user, line_from, user_at, Tells};
 
-use crate::fields::Fields;
 use crate::json_text::json_of;
-use crate::numbers::id_of;
+use action_lines::{Fields, id_of};
 use cell_types::CellText;
 use doc_model::User;
 use serde_json::Value;

@@ -1,0 +1,12 @@
+pub mod StepLemmas
+pub mod FieldLemmas
+pub mod ItemLemmas
+pub mod NumberLemmas
+pub mod MarkLemmas
+pub mod ValueLemmas
+pub mod KindLemmas
+pub mod ColumnLemmas
+pub mod InfoLemmas
+pub mod RecordLemmas
+pub mod SchemaLemmas
+pub mod ActionLemmas

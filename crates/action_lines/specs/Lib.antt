@@ -1,0 +1,13 @@
+pub mod Steps
+pub mod Fields
+pub mod Items
+pub mod Numbers
+pub mod Marks
+pub mod Values
+pub mod ReadValues
+pub mod Kinds
+pub mod Columns
+pub mod RecordActions
+pub mod Infos
+pub mod SchemaActions
+pub mod Actions

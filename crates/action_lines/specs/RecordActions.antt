@@ -1,0 +1,74 @@
+-- Actions on records: what stands behind the table in their JSON.
+use Rattle.std.specs.Prelude.{◌≡◌, ◌^◌, ℕ, ℤ, List, Bool, true, nat_lt, length, Option, Some, None, is_some, if◌then◌else◌}
+use Rattle.std.specs.List.{list_any}
+use Rattle.serde_json.specs.Data.{Data, object, Items, no_items, item, Members}
+use Rattle.serde_json.specs.Find.{as_object}
+use Rattle.doc_model.specs.declared.user_action.UserAction.{UserAction}
+use Rattle.doc_model.specs.declared.user_action.UserAction.TheVariants.{Add, Update, Remove}
+use Rattle.doc_model.specs.declared.user_action.UserColumn.{UserColumn}
+use Rattle.action_lines.specs.Steps.{◌>>=◌}
+use Rattle.action_lines.specs.Items.{only_item, two_items, given_from, AreGiven}
+use Rattle.action_lines.specs.Numbers.{int_from, IsInt, new_row_from, IsNewRow}
+use Rattle.action_lines.specs.Columns.{AreColumns, columns_from}
+
+-- the number of rows fits 32 bits
+abbrev pub is_count : ℕ → Bool
+is_count n = nat_lt n (2 ^ 32)
+
+-- some row was given by its id
+abbrev pub is_explicit : List (Option ℤ) → Bool
+is_explicit ids = list_any is_some ids
+
+-- row,{col:value} or [row,..],{col:[value,..]}: so many rows and these columns are added
+pub record IsAdd (single : Bool) (count : ℕ) (explicit : Bool) (columns : List UserColumn) (rest : Items) : Type 0 where
+  pub ids : List (Option ℤ)
+  pub rows : Data
+  pub members : Members
+  pub given : AreGiven IsNewRow single ids rows
+  pub counted : length ids ≡ count
+  pub few : is_count count ≡ true
+  pub told : is_explicit ids ≡ explicit
+  pub filled : AreColumns single count None columns members
+  pub whole : rest ≡ item rows (item (object members) no_items)
+
+-- the same for rows that are there
+pub record IsUpdate (single : Bool) (ids : List ℤ) (columns : List UserColumn) (rest : Items) : Type 0 where
+  pub rows : Data
+  pub members : Members
+  pub given : AreGiven IsInt single ids rows
+  pub filled : AreColumns single (length ids) None columns members
+  pub whole : rest ≡ item rows (item (object members) no_items)
+
+-- row or [row,..]
+pub record IsRemove (single : Bool) (ids : List ℤ) (rest : Items) : Type 0 where
+  pub rows : Data
+  pub given : AreGiven IsInt single ids rows
+  pub whole : rest ≡ item rows no_items
+
+-- ---- reading
+
+abbrev pub count_from : List (Option ℤ) → Option ℕ
+count_from ids = if is_count (length ids) then Some (length ids) else None
+
+unfoldable pub add_from : Bool → List ℕ → Items → Option UserAction
+add_from single table rest = do
+  two ← two_items rest
+  ids ← given_from new_row_from single two.0
+  count ← count_from ids
+  members ← as_object two.1
+  columns ← columns_from single count members
+  Some (Add table single count (is_explicit ids) columns)
+
+unfoldable pub update_from : Bool → List ℕ → Items → Option UserAction
+update_from single table rest = do
+  two ← two_items rest
+  ids ← given_from int_from single two.0
+  members ← as_object two.1
+  columns ← columns_from single (length ids) members
+  Some (Update table single ids columns)
+
+unfoldable pub remove_from : Bool → List ℕ → Items → Option UserAction
+remove_from single table rest = do
+  rows ← only_item rest
+  ids ← given_from int_from single rows
+  Some (Remove table single ids)

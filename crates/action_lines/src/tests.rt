@@ -1,0 +1,160 @@
+//! Plan: the action that JSON stands for, in each form (`spelled_actions`), the values in one
+//! (`spelled_values`), and JSON that stands for none (`no_actions`). What is expected is written out by hand
+//! from the protocol, a row a line.
+
+use crate::*;
+use doc_model::UserAction;
+use serde_json::Value;
+use std::test::Fail;
+
+const ACTIONS: &str =
+    r#"["AddRecord","T",null,{}] => [Add { table: CellText { text: "T" }, single: true, count: 1, explicit: false, columns: Sequence { items: [] } }]
+["AddRecord","T",-5,{"b":2,"a":1,"b":3}] => [Add { table: CellText { text: "T" }, single: true, count: 1, explicit: true, columns: Sequence { items: [UserColumn { id: CellText { text: "a" }, values: Sequence { items: [Int(1)] } }, UserColumn { id: CellText { text: "b" }, values: Sequence { items: [Int(3)] } }] } }]
+["BulkAddRecord","T",[null,7],{"B":[1,2],"A":["x",null]}] => [Add { table: CellText { text: "T" }, single: false, count: 2, explicit: true, columns: Sequence { items: [UserColumn { id: CellText { text: "A" }, values: Sequence { items: [Text(CellText { text: "x" }), Null] } }, UserColumn { id: CellText { text: "B" }, values: Sequence { items: [Int(1), Int(2)] } }] } }]
+["BulkAddRecord","",[],{"A":[]}] => [Add { table: CellText { text: "" }, single: false, count: 0, explicit: false, columns: Sequence { items: [UserColumn { id: CellText { text: "A" }, values: Sequence { items: [] } }] } }]
+["UpdateRecord","T",3,{"A":false}] => [Update { table: CellText { text: "T" }, single: true, rows: Sequence { items: [3] }, columns: Sequence { items: [UserColumn { id: CellText { text: "A" }, values: Sequence { items: [Bool(false)] } }] } }]
+["BulkUpdateRecord","T",[2,-1],{"A":[5,6]}] => [Update { table: CellText { text: "T" }, single: false, rows: Sequence { items: [2, -1] }, columns: Sequence { items: [UserColumn { id: CellText { text: "A" }, values: Sequence { items: [Int(5), Int(6)] } }] } }]
+["RemoveRecord","T",3] => [Remove { table: CellText { text: "T" }, single: true, rows: Sequence { items: [3] } }]
+["BulkRemoveRecord","T",[3,3,0]] => [Remove { table: CellText { text: "T" }, single: false, rows: Sequence { items: [3, 3, 0] } }]
+["AddTable","T",[{"id":"A"},{"id":"","type":"Int","isFormula":true,"formula":"1"}]] => [AddTable { table: CellText { text: "T" }, columns: Sequence { items: [UserCol { id: CellText { text: "A" }, ty: None, is_formula: None, formula: None }, UserCol { id: CellText { text: "" }, ty: Some(CellText { text: "Int" }), is_formula: Some(true), formula: Some(CellText { text: "1" }) }] } }]
+["RemoveTable","T"] => [RemoveTable { table: CellText { text: "T" } }]
+["RenameTable","T","U"] => [RenameTable { table: CellText { text: "T" }, new: CellText { text: "U" } }]
+["AddColumn","T","D",{"type":"Text"}] => [AddColumn { table: CellText { text: "T" }, column: UserCol { id: CellText { text: "D" }, ty: Some(CellText { text: "Text" }), is_formula: None, formula: None } }]
+["RemoveColumn","T","D"] => [RemoveColumn { table: CellText { text: "T" }, column: CellText { text: "D" } }]
+["RenameColumn","T","D","E"] => [RenameColumn { table: CellText { text: "T" }, column: CellText { text: "D" }, new: CellText { text: "E" } }]
+["ModifyColumn","T","D",{"formula":"$A","isFormula":false}] => [ModifyColumn { table: CellText { text: "T" }, column: UserCol { id: CellText { text: "D" }, ty: None, is_formula: Some(false), formula: Some(CellText { text: "$A" }) } }]"#;
+
+const NO_ACTIONS: &str = r#"["addRecord","T",null,{}]
+["AddRecord"]
+["AddRecord","T",null]
+["AddRecord","T",null,{},1]
+["AddRecord",5,null,{}]
+["AddRecord","T",null,[]]
+["AddRecord","T",[null],{}]
+["AddRecord","T",1.5,{}]
+["AddRecord","T",null,{"A":1.5}]
+["BulkAddRecord","T",null,{}]
+["BulkAddRecord","T",[true],{}]
+["BulkAddRecord","T",[null,null],{"A":[1]}]
+["BulkAddRecord","T",[null],{"A":[1,2]}]
+["BulkAddRecord","T",[null],{"A":1}]
+["UpdateRecord","T",null,{}]
+["UpdateRecord","T",[1],{}]
+["BulkUpdateRecord","T",[null],{"A":[1]}]
+["BulkUpdateRecord","T",[1,2],{"A":[1]}]
+["RemoveRecord","T",9223372036854775808]
+["RemoveRecord","T",1,2]
+["BulkRemoveRecord","T",1]
+["BulkRemoveRecord","T",["1"]]
+["AddTable","T",[{"type":"Int"}]]
+["AddTable","T",[{"id":"A","type":null}]]
+["AddTable","T",{"id":"A"}]
+["AddTable","T",[{"id":"A","label":"a"}]]
+["AddColumn","T","D"]
+["AddColumn","T","D",{"id":"D"}]
+["AddColumn","T","D",{"isFormula":null}]
+["AddColumn","T",1,{}]
+["ModifyColumn","T","A",{"formula":1}]
+["ModifyColumn","T","A",{"zip":"x"}]
+["RemoveTable","T",1]
+["RenameTable","T",null]
+["RemoveColumn","T"]
+["RenameColumn","T","D"]
+5
+[]
+{}
+[["RemoveTable"]]"#;
+
+const VALUES: &str = r#"null => [Null]
+true => [Bool(true)]
+-9223372036854775808 => [Int(-9223372036854775808)]
+9223372036854775808 => -
+-0 => -
+1.0 => -
+1e3 => -
+"é" => [Text(CellText { text: "é" })]
+["L",null,1,"a",true,["d",5],["R","U",3]] => [List(Sequence { items: [Null, Int(1), Text(CellText { text: "a" }), Bool(true), Date(5), Rec(RowRef { table: Name { text: CellText { text: "U" } }, row: 3 })] })]
+["L",["L"]] => -
+["L",["r","U",[]]] => -
+["L",["C"]] => -
+["L",1.5] => -
+["d",-86400] => [Date(-86400)]
+["d",1.0] => -
+["d"] => -
+["d",1,2] => -
+["R","éééééééééééééééééééééééééééééééééééééééééééééééééééééééééééééééé",4294967295] => [Rec(RowRef { table: Name { text: CellText { text: "éééééééééééééééééééééééééééééééééééééééééééééééééééééééééééééééé" } }, row: 4294967295 })]
+["R","ééééééééééééééééééééééééééééééééééééééééééééééééééééééééééééééééx",1] => -
+["R","",1] => -
+["R","U",4294967296] => -
+["R","U",-1] => -
+["R",5,1] => -
+["r","U",[2,1,0]] => [RecSet(RowSet { table: Name { text: CellText { text: "U" } }, rows: Sequence { items: [2, 1, 0] } })]
+["r","U",2] => -
+["r","U",[-1]] => -
+["E","KeyError"] => [Err(Key)]
+["E","SyntaxError"] => [Err(Syntax)]
+["E","keyError"] => -
+["E"] => -
+["C"] => [Censored]
+["C",1] => -
+["x",1] => -
+[] => -
+{} => -
+{"A":1.5} => -"#;
+
+// The actions of a list of this one, as `Debug` shows them; `-` where it is none.
+fn shown(rt: &HostRuntime, action: &str) -> Result<String, Fail> {
+    let text = format!(in rt.alloc(); "[{action}]")?;
+    let value = Value::from_str(rt.alloc(), text.as_str())?;
+    match read_actions(rt.alloc(), &value)? {
+        Some(actions) => Ok(format!(in rt.alloc(); "{:?}", actions.as_slice())?),
+        None => Ok(String::from_str(rt.alloc(), "-")?),
+    }
+}
+
+#[test]
+fn spelled_actions(rt: HostRuntime) -> Result<(), Fail> {
+    for row in ACTIONS.lines() {
+        let (action, wanted) = row.split_once(" => ").ok_or("no row")?;
+        let text = shown(&rt, action)?;
+        assert!(rt; text.as_str() == wanted, "{action} gave {text}");
+    }
+    Ok(())
+}
+
+#[test]
+fn no_actions(rt: HostRuntime) -> Result<(), Fail> {
+    for action in NO_ACTIONS.lines() {
+        let text = shown(&rt, action)?;
+        assert!(rt; text.as_str() == "-", "{action} gave {text}");
+    }
+    Ok(())
+}
+
+// The values of an action with this one, as `Debug` shows them; `-` where it is none.
+fn shown_value(rt: &HostRuntime, value: &str) -> Result<String, Fail> {
+    let text = format!(in rt.alloc(); "[[\"UpdateRecord\",\"T\",1,{{\"A\":{value}}}]]")?;
+    let value = Value::from_str(rt.alloc(), text.as_str())?;
+    let Some(actions) = read_actions(rt.alloc(), &value)? else {
+        return Ok(String::from_str(rt.alloc(), "-")?);
+    };
+    let mut text = String::new(rt.alloc());
+    for action in actions.as_slice() {
+        if let UserAction::Update { columns, .. } = action {
+            for column in columns.as_slice() {
+                write!(text, "{:?}", column.values.as_slice())?;
+            }
+        }
+    }
+    Ok(text)
+}
+
+#[test]
+fn spelled_values(rt: HostRuntime) -> Result<(), Fail> {
+    for row in VALUES.lines() {
+        let (value, wanted) = row.split_once(" => ").ok_or("no row")?;
+        let text = shown_value(&rt, value)?;
+        assert!(rt; text.as_str() == wanted, "{value} gave {text}");
+    }
+    Ok(())
+}

@@ -44,7 +44,7 @@ code_inside st h kept (request.Apply actions) n e = absurd (cc)
 code_inside st h kept (request.Undo bundle) n e = numbered_refusal 1 n st h e
 code_inside st h kept request.Sync n e = absurd (cc)
 code_inside st h kept (request.Fetch table) n e = numbered_refusal 1 n st h e
-code_inside st h kept request.Close n e = absurd (cc)
+code_inside st h kept request.Close n e = numbered_refusal 1 n st h e
 code_inside st h kept request.Gone n e = absurd (cc)
 
 pub code_behind : (st : State) (r : Request) → (r ≡ request.Gone → ⊥) → from_behind st r ≡ answered st.document None (refusal 21)
@@ -58,17 +58,17 @@ code_behind st request.Sync other = refl
 code_behind st (request.Fetch table) other = refl
 code_behind st request.Close other = refl
 
-pub code_sync : (st : State) (h : Holder) (kept : Bool) (r : Request) → refusal_inside r ≡ None → (r ≡ request.Gone → ⊥) → (r ≡ request.Close → ⊥) → ((actions : List UserAction) → r ≡ request.Apply actions → ⊥)
+pub code_sync : (st : State) (h : Holder) (kept : Bool) (r : Request) → refusal_inside r ≡ None → (r ≡ request.Gone → ⊥) → ((actions : List UserAction) → r ≡ request.Apply actions → ⊥)
     → from_inside st h kept r ≡ answered st.document (Some h) verdict.Done
-code_sync st h kept request.Sync e g c a = refl
-code_sync st h kept request.Bad e g c a = absurd (cc)
-code_sync st h kept request.TooLong e g c a = absurd (cc)
-code_sync st h kept (request.Open token) e g c a = absurd (cc)
-code_sync st h kept (request.Apply actions) e g c a = absurd (a actions refl)
-code_sync st h kept (request.Undo bundle) e g c a = absurd (cc)
-code_sync st h kept (request.Fetch table) e g c a = absurd (cc)
-code_sync st h kept request.Close e g c a = absurd (c refl)
-code_sync st h kept request.Gone e g c a = absurd (g refl)
+code_sync st h kept request.Sync e g a = refl
+code_sync st h kept request.Bad e g a = absurd (cc)
+code_sync st h kept request.TooLong e g a = absurd (cc)
+code_sync st h kept (request.Open token) e g a = absurd (cc)
+code_sync st h kept (request.Apply actions) e g a = absurd (a actions refl)
+code_sync st h kept (request.Undo bundle) e g a = absurd (cc)
+code_sync st h kept (request.Fetch table) e g a = absurd (cc)
+code_sync st h kept request.Close e g a = absurd (cc)
+code_sync st h kept request.Gone e g a = absurd (g refl)
 
 abbrev pub parted : List (List CellValue) → Verdicts
 parted rows = record { outcome = quiet; document = document_of rows; is_bundle = false; holder = None }

@@ -78,7 +78,7 @@ inside_few n st h kept (request.Apply actions) le = bundle_few n h st.document k
 inside_few n st h kept (request.Undo bundle) le = omega (arith, le)
 inside_few n st h kept request.Sync le = omega (arith, le)
 inside_few n st h kept (request.Fetch table) le = omega (arith, le)
-inside_few n st h kept request.Close le = tt
+inside_few n st h kept request.Close le = omega (arith, le)
 inside_few n st h kept request.Gone le = tt
 
 behind_few : (n : ℕ) (st : State) (r : Request) → HoldsFew (n + 1) (from_behind st r).holder

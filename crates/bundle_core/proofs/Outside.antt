@@ -16,7 +16,7 @@ use Rattle.bundle_core.specs.Held.{document_of, HasThree, opening_actions}
 use Rattle.bundle_core.specs.Mailbox.{quiet, shows_view, replies}
 use Rattle.bundle_core.specs.Requests.{refusal_outside}
 use Rattle.bundle_core.specs.SessionState.{SessionState, open_of}
-use Rattle.bundle_core.specs.State.{State, Verdicts, answered, refusal, from_outside, user_of, session_bound}
+use Rattle.bundle_core.specs.State.{State, Verdicts, answered, refusal, from_outside, user_of, session_bound, bundle_refusal}
 use Rattle.bundle_core.specs.View.{view}
 use Rattle.bundle_core.proofs.Answering.{answers_outside, answers_gone, answers_opened, open_with}
 use Rattle.bundle_core.proofs.HeldLaws.{view-document_of, changes-opening}
@@ -29,11 +29,11 @@ code_outside users st request.Bad n e = numbered_refusal 1 n st e
 code_outside users st request.TooLong n e = numbered_refusal 2 n st e
 code_outside users st (request.Open token) n e = absurd (cc)
 code_outside users st request.Gone n e = absurd (cc)
-code_outside users st (request.Apply actions) n e = numbered_refusal 3 n st e
-code_outside users st (request.Undo bundle) n e = numbered_refusal 3 n st e
+code_outside users st (request.Apply actions) n e = numbered_refusal (bundle_refusal actions) n st e
+code_outside users st (request.Undo bundle) n e = numbered_refusal 1 n st e
 code_outside users st request.Sync n e = numbered_refusal 3 n st e
-code_outside users st (request.Fetch table) n e = numbered_refusal 3 n st e
-code_outside users st request.Close n e = numbered_refusal 3 n st e
+code_outside users st (request.Fetch table) n e = numbered_refusal 1 n st e
+code_outside users st request.Close n e = numbered_refusal 1 n st e
 
 gone_outside : (users : List User) (st : State) (r : Request) → refusal_outside r ≡ None → ((token : List ℕ) → r ≡ request.Open token → ⊥)
     → from_outside users st r ≡ record { outcome = quiet; document = st.document; is_bundle = false; holder = None }

@@ -68,6 +68,11 @@ is_built (Add table single count explicit columns) =
     is_one_for_table table single count explicit && are_built columns
 is_built _ = false
 
+-- a bundle of one such record
+abbrev pub is_built_bundle : List UserAction → Bool
+is_built_bundle (action ∷ []) = is_built action
+is_built_bundle _ = false
+
 abbrev pub given_column : UserColumn → CellColumn
 given_column k = record { id = k.id; values = k.values }
 

@@ -9,7 +9,8 @@ ghost use Rattle.bundle_core.specs.Requests.{refusal_outside, refusal_inside};
 ghost use Rattle.doc_model.specs.ByIds.{IsByIds};
 ghost use Rattle.doc_model.specs.declared.request.Request.TheVariants.{Open, Apply};
 ghost use Rattle.bundle_core.specs.Held.{HasThree, built_columns, opening_actions};
-ghost use Rattle.bundle_core.specs.State.{user_of};
+ghost use Rattle.bundle_core.specs.Judgement.{is_built_bundle};
+ghost use Rattle.bundle_core.specs.State.{user_of, bundle_refusal};
 ghost use Rattle.grist_json.specs.Lines.{reply_text};
 ghost use Rattle.bundle_core.specs.SessionState.{SessionState};
 
@@ -27,15 +28,34 @@ use std::alloc::{AllocError, Global};
 /// How many sessions may be open.
 pub const MAX_SESSIONS: usize = 1_024;
 
-// Why a request of a session that is not open is refused, but for one that opens it.
+// Why a request of a session that is not open is refused, but for one that opens it; what is not built
+// yet is no request.
 fn refusal_outside(request: &Request) -> Option<u8>
     ensures { result ≡ refusal_outside request.now }
 {
     match request {
-        Request::Bad => Some(1),
         Request::TooLong => Some(2),
         Request::Open { .. } | Request::Gone => None,
-        _ => Some(3),
+        Request::Apply { actions } => Some(bundle_refusal(actions.as_slice())),
+        Request::Sync => Some(3),
+        _ => Some(1),
+    }
+}
+
+// Why a bundle of a session that is not open is refused; one that is not built yet is no request.
+fn bundle_refusal(actions: &[UserAction]) -> u8
+    ensures { result ≡ bundle_refusal actions.now }
+{
+    if is_built_bundle(actions) { 3 } else { 1 }
+}
+
+// A bundle that is one record for Table1.
+fn is_built_bundle(actions: &[UserAction]) -> bool
+    ensures { result ≡ is_built_bundle actions.now }
+{
+    match actions {
+        [action] => is_built(action),
+        _ => false,
     }
 }
 
@@ -44,10 +64,10 @@ fn refusal_inside(request: &Request) -> Option<u8>
     ensures { result ≡ refusal_inside request.now }
 {
     match request {
-        Request::Bad | Request::Undo { .. } | Request::Fetch { .. } => Some(1),
+        Request::Bad | Request::Undo { .. } | Request::Fetch { .. } | Request::Close => Some(1),
         Request::TooLong => Some(2),
         Request::Open { .. } => Some(4),
-        Request::Apply { .. } | Request::Sync | Request::Close | Request::Gone => None,
+        Request::Apply { .. } | Request::Sync | Request::Gone => None,
     }
 }
 
@@ -218,7 +238,6 @@ fn answer_inside(
     }
     match &entry.request {
         Request::Apply { actions } => judge(alloc, users, rows, sessions, place, entry, actions),
-        Request::Close => leave(alloc, sessions, place, &Verdict::Done),
         _ => stay(alloc, sessions, place, &Verdict::Done),
     }
 }

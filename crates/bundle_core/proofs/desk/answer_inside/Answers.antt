@@ -55,23 +55,6 @@ returns-in-Some c =
       err = c.stay.ensures.err;
     }
 
-pub returns-in-Close : goal.returns-in-Close
-returns-in-Close c =
-    let rows = c.args.rows.now.items in
-    let xs = c.args.sessions.now.items in
-    let e = c.args.entry.now in
-    let d = c.index.result.now in
-    let h = (get_or xs c.args.place d).holder in
-    let quick : (get_or xs c.args.place d).lagging ≡ false = ap (λ (s : SessionState). s.lagging) (sym c.index.ensures) ∙ sym c.is_lagging.ensures ∙ c.if-is_lagging.false in
-    let comes = inside c.args.users.now rows xs c.args.place e c.requires.finds d _ quick (λ l. ap (from_inside (state_of rows l) h e.kept) c.in-Close.is) in
-    record {
-      ok = IfOk-weaker c.leave-in-Close.result _ _ (λ v left. find_leaves c.args.users.now rows xs c.args.place e c.requires.finds d Done _ v.items comes left) c.leave-in-Close.ensures.ok;
-      three = c.requires.three;
-      few_rows = omega (arith);
-      err_rows = on_err_always c.leave-in-Close.result refl;
-      err = c.leave-in-Close.ensures.err;
-    }
-
 pub returns-in_default-request : goal.returns-in_default-request
 returns-in_default-request c =
     let rows = c.args.rows.now.items in
@@ -81,7 +64,7 @@ returns-in_default-request c =
     let h = (get_or xs c.args.place d).holder in
     let quick : (get_or xs c.args.place d).lagging ≡ false = ap (λ (s : SessionState). s.lagging) (sym c.index.ensures) ∙ sym c.is_lagging.ensures ∙ c.if-is_lagging.false in
     let comes = inside c.args.users.now rows xs c.args.place e c.requires.finds d _ quick
-    (λ l. code_sync (state_of rows l) h e.kept e.request (sym c.refusal_inside.ensures ∙ c.in_default-refusal_inside.is) c.in_default.not-Gone c.in_default-request.not-Close (λ actions is. c.in_default-request.not-Apply actions is)) in
+    (λ l. code_sync (state_of rows l) h e.kept e.request (sym c.refusal_inside.ensures ∙ c.in_default-refusal_inside.is) c.in_default.not-Gone (λ actions is. c.in_default-request.not-Apply actions is)) in
     record {
       ok = IfOk-weaker c.stay-in_default-request.result _ _ (λ v kept. find_stays c.args.users.now rows xs c.args.place e c.requires.finds d Done _ v.items c.requires.three comes kept) c.stay-in_default-request.ensures.ok;
       three = c.requires.three;

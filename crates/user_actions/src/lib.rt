@@ -15,6 +15,7 @@
 #![tactic(auto)]
 
 mod expanding;
+mod expansion;
 mod infos;
 mod laws;
 mod objection;
@@ -24,12 +25,15 @@ mod retyping;
 mod rows;
 mod schema_steps;
 mod tables;
+mod tally;
 #[cfg(test)]
 mod tests;
 mod told;
 mod values;
 
 pub use expanding::steps;
+pub use expansion::{Expansion, expand};
 pub use laws::{one_table_law, unopposed_law};
 pub use objection::Objection;
 pub use refusing::refuse;
+pub use tally::Tally;

@@ -1,0 +1,23 @@
+//! Laws over views and their parts.
+
+ghost use Rattle.view_parts.specs.PartLaws.{AllowedLaw, AskedLaw, PartLaw, ViewLaw};
+
+/// A view of a whole document is a view.
+pub fn view_law()
+    ensures { ViewLaw }
+{}
+
+/// The part that actions are about tells all the changes that they make.
+pub fn part_law()
+    ensures { PartLaw }
+{}
+
+/// What stands against a user action rests on the table and the rows alone that it names.
+pub fn asked_law()
+    ensures { AskedLaw }
+{}
+
+/// The document allows what nothing stands against in a view of it.
+pub fn allowed_law()
+    ensures { AllowedLaw }
+{}

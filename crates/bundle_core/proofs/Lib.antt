@@ -1,17 +1,12 @@
-pub mod Added
 pub mod Answering
 pub mod Bundling
 pub mod CoreLaws
-pub mod HeldLaws
 pub mod Inside
-pub mod JudgeLaws
 pub mod Keeping
-pub mod Numbers
 pub mod Outside
 pub mod Places
 pub mod Prepared
 pub mod Readied
-pub mod RecordCells
 pub mod SessionLaws
 pub mod Spots
 pub mod ToldLaws

@@ -1,15 +1,17 @@
 -- A core: what it was given, and what it answers.
 use Rattle.std.specs.Prelude.{ℕ, ◌+◌, ◌-◌, ◌≤◌, ◌≡◌, Bool, true, false, not, ◌&&◌, ◌||◌, List, [], ◌∷◌, ◌++◌, length, sum_by, nat_le, nat_lt, min, Option, Some, None, is_some, if◌then◌else◌}
 use Rattle.std.specs.List.{AllByRecursion}
-use Rattle.cell_types.specs.declared.value.CellValue.{CellValue}
 use Rattle.doc_model.specs.declared.entry.Entry.{Entry}
 use Rattle.doc_model.specs.declared.request.Request.{Request}
 use Rattle.doc_model.specs.declared.request.Request.TheVariants as request
 use Rattle.doc_model.specs.declared.user.User.{User}
 use Rattle.doc_model.specs.ByIds.{IsByIds}
+use Rattle.doc_model.specs.Document.{Document}
+use Rattle.doc_model.specs.DocumentLaws.{IsWhole}
 use Rattle.doc_model.specs.NewDocument.{new_document}
+use Rattle.user_actions.specs.declared.tally.Tally.{Tally}
+use Rattle.user_actions.specs.Tallies.{IsTally}
 use Rattle.bundle_core.specs.Desk.{kept_name, state_of, IsCounted}
-use Rattle.bundle_core.specs.Held.{HasThree}
 use Rattle.bundle_core.specs.SessionState.{SessionState}
 use Rattle.bundle_core.specs.State.{State, opening, run, session_of, given}
 
@@ -68,10 +70,11 @@ abbrev pub counted : List Entry → ℕ
 counted es = min (length es) entry_bound
 
 -- what a core keeps is the state that its history leads to
-pub record IsCore (users : List User) (es : List Entry) (rows : List (List CellValue)) (sessions : List SessionState) (bytes : Option ℕ) : Type 0 where
-  pub state : state_after users es ≡ state_of rows sessions
-  pub three : HasThree rows
-  pub few_rows : length rows ≤ counted es
+pub record IsCore (users : List User) (es : List Entry) (s : Document) (tally : Tally) (sessions : List SessionState) (bytes : Option ℕ) : Type 0 where
+  pub added : ℕ
+  pub state : state_after users es ≡ state_of s added sessions
+  pub whole : IsWhole s
+  pub tally : IsTally s tally
   pub by_name : IsByIds kept_name sessions
   pub few : AllByRecursion (IsCounted (counted es)) sessions
   pub left : bytes ≡ bytes_left (sum_by size_of es)

@@ -1,49 +1,44 @@
 -- What a core keeps of its state, and when it answers an entry as the state says.
-use Rattle.std.specs.Prelude.{◌≡◌, ℕ, ◌+◌, suc, zero, ◌<◌, ◌≤◌, true, take, drop, get_or, List, [], ◌∷◌, ◌++◌, map, length, option_to_list}
+use Rattle.std.specs.Prelude.{◌≡◌, ℕ, Bool, ◌+◌, suc, zero, ◌<◌, ◌≤◌, true, take, drop, get_or, List, [], ◌∷◌, ◌++◌, map, length, option_to_list, Option, Some, None}
 use Rattle.std.specs.List.{AllByRecursion}
-use Rattle.cell_types.specs.declared.value.CellValue.{CellValue}
 use Rattle.doc_model.specs.declared.entry.Entry.{Entry}
 use Rattle.doc_model.specs.declared.user.User.{User}
 use Rattle.doc_model.specs.declared.view.ViewAction.{ViewAction}
 use Rattle.doc_model.specs.Document.{Document}
-use Rattle.grist_json.specs.Lines.{stream_text}
 use Rattle.doc_model.specs.ByIds.{precedes, IsByIds}
-use Rattle.bundle_core.specs.Held.{document_of, HasThree}
 use Rattle.bundle_core.specs.SessionState.{SessionState, open_of, IsEmptied, IsReady, posted_state}
+use Rattle.grist_json.specs.declared.verdict.RetValue.{RetValue}
+use Rattle.grist_json.specs.declared.verdict.Verdict.TheVariants.{Bundle}
+use Rattle.grist_json.specs.Lines.{reply_text}
+use Rattle.bundle_core.specs.declared.made.Made.{Made}
+use Rattle.bundle_core.specs.Made.{told_of}
 use Rattle.bundle_core.specs.State.{State, step, given}
+use Rattle.bundle_core.specs.View.{view}
 
 abbrev pub kept_name : SessionState → List ℕ
 kept_name x = x.session
 
--- the state that these rows and sessions are
-abbrev pub state_of : List (List CellValue) → List SessionState → State
-state_of rows sessions = record {
-  document = document_of rows;
-  added = length rows;
-  open_sessions = map (open_of (document_of rows)) sessions;
-}
+-- the state of this document and these sessions, after so many accepted bundles
+abbrev pub state_of : Document → ℕ → List SessionState → State
+state_of s added sessions =
+    record { document = s; added = added; open_sessions = map (open_of s) sessions }
 
 -- the sessions before the place of a name, and those behind it
 pub record IsSpot (name : List ℕ) (before behind : List SessionState) : Type 0 where
   pub below : AllByRecursion (λ x. precedes x.session name ≡ true) before
   pub above : AllByRecursion (λ x. precedes name x.session ≡ true) behind
 
--- the entry is answered with these lines, and leads to these rows and sessions
-pub record Answers (users : List User) (rows rows' : List (List CellValue)) (sessions sessions' : List SessionState) (e : Entry) (lines : List (List ℕ)) : Type 0 where
-  pub state : step users (state_of rows sessions) e ≡ state_of rows' sessions'
-  pub lines_given : given users (state_of rows sessions) e ≡ lines
+-- the entry is answered with these lines, and leads to this document and these sessions, with so many
+-- accepted bundles more
+pub record Answers (users : List User) (s s' : Document) (sessions sessions' : List SessionState) (e : Entry) (lines : List (List ℕ)) : Type 0 where
+  pub more : ℕ
+  pub state : (added : ℕ) → step users (state_of s added sessions) e ≡ state_of s' (added + more) sessions'
+  pub lines_given : (added : ℕ) → given users (state_of s added sessions) e ≡ lines
 
 -- no session has been posted more lines, or had more bundles accepted, than there are entries
 pub record IsCounted (entries : ℕ) (x : SessionState) : Type 0 where
   pub made : x.made ≤ entries
   pub bundles : x.holder.bundles ≤ entries
-
--- rows are whole, sessions stand by name, and nothing is counted past the entries
-pub record IsKept (entries : ℕ) (rows : List (List CellValue)) (sessions : List SessionState) : Type 0 where
-  pub three : HasThree rows
-  pub few_rows : length rows ≤ entries
-  pub by_name : IsByIds kept_name sessions
-  pub counted : AllByRecursion (IsCounted entries) sessions
 
 -- the session of that name stands at that place
 pub record Finds (name : List ℕ) (sessions : List SessionState) (place : ℕ) : Type 0 where
@@ -74,23 +69,27 @@ pub record Stays (old new : List SessionState) (place : ℕ) (reply : List ℕ) 
   pub bundles : (d : SessionState) → after.holder.bundles ≡ (get_or old place d).holder.bundles
   pub given_lines : (d : SessionState) → lines ≡ (get_or old place d).waiting ++ reply ∷ []
 
--- the session of that place had a bundle accepted that shows these actions; the others were posted them
-pub record Bundles (old new : List SessionState) (place : ℕ) (actions : List ViewAction) (reply : List ℕ) (lines : List (List ℕ)) : Type 0 where
-  pub prepared : List SessionState
-  pub same : AreSame old prepared
-  pub ready : AllByRecursion (IsReady actions) prepared
-  pub after : SessionState
-  pub stands : new ≡ map posted_state (take place prepared) ++ after ∷ map posted_state (drop (suc place) prepared)
-  pub emptied_box : (d : SessionState) → IsEmptied (get_or prepared place d) after
-  pub made : (d : SessionState) → after.made ≡ (get_or prepared place d).made + 1
-  pub bundles : (d : SessionState) → after.holder.bundles ≡ (get_or prepared place d).holder.bundles + 1
-  pub given_lines : (d : SessionState) → lines ≡ (get_or prepared place d).waiting ++ stream_text ((get_or prepared place d).made + 1) actions ∷ reply ∷ []
-
 -- the number of the bundle that the session of that place has accepted next
 abbrev pub bundle_number : List SessionState → ℕ → ℕ
 bundle_number [] place = 0
 bundle_number (x ∷ xs) zero = x.holder.bundles + 1
 bundle_number (x ∷ xs) (suc place) = bundle_number xs place
+
+-- the user of the session of that place
+abbrev pub user_at : List SessionState → ℕ → Option User
+user_at [] place = None
+user_at (x ∷ xs) zero = Some x.holder.user
+user_at (x ∷ xs) (suc place) = user_at xs place
+
+-- what a user is told of what was made, in a document
+abbrev pub values_told : Option User → Document → List Made → List RetValue
+values_told None s ms = []
+values_told (Some user) s ms = map (told_of (view user s)) ms
+
+-- the reply to a bundle of the session of that place that leads to this document
+abbrev pub bundle_reply : List SessionState → ℕ → Document → List Made → List ℕ
+bundle_reply sessions place s ms =
+    reply_text (Bundle (bundle_number sessions place) (values_told (user_at sessions place) s ms))
 
 -- the session of that place was given what waited, its ready line and the reply; the others were posted theirs
 pub record Posts (old new : List SessionState) (place : ℕ) (reply : List ℕ) (lines : List (List ℕ)) : Type 0 where
@@ -100,3 +99,11 @@ pub record Posts (old new : List SessionState) (place : ℕ) (reply : List ℕ) 
   pub made : (d : SessionState) → after.made ≡ (get_or old place d).made + length (option_to_list (get_or old place d).ready)
   pub bundles : (d : SessionState) → after.holder.bundles ≡ (get_or old place d).holder.bundles + 1
   pub given_lines : (d : SessionState) → lines ≡ (get_or old place d).waiting ++ option_to_list (get_or old place d).ready ++ reply ∷ []
+
+-- the session of that place had a bundle accepted that owners are told so, and others; each session was
+-- posted what its user is told
+pub record Bundles (old new : List SessionState) (place : ℕ) (told : Bool → List ViewAction) (reply : List ℕ) (lines : List (List ℕ)) : Type 0 where
+  pub prepared : List SessionState
+  pub same : AreSame old prepared
+  pub ready : AllByRecursion (IsReady told) prepared
+  pub posts : Posts prepared new place reply lines

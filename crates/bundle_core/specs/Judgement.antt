@@ -1,101 +1,66 @@
--- The judgement of a bundle. What is built so far is one record for Table1.
-use Rattle.std.specs.Prelude.{ℕ, ◌+◌, Bool, true, false, ◌&&◌, not, nat_eq, nat_le, List, [], ◌∷◌, map, length, max, None, if◌then◌else◌, codes}
-use Rattle.std.specs.List.{list_all, list_any}
-use Rattle.std.specs.Str.{bytes_eq}
-use Rattle.cell_types.specs.declared.value.CellValue.{CellValue}
-use Rattle.cell_types.specs.declared.value.CellValue.TheVariants as value
-use Rattle.cell_types.specs.TextBound.{text_bound}
-use Rattle.doc_model.specs.declared.action.DocAction.{DocAction}
-use Rattle.doc_model.specs.declared.action.DocAction.TheVariants.{BulkAdd}
-use Rattle.doc_model.specs.declared.column.CellColumn.{CellColumn}
+-- The judgement of a bundle: action by action, and the first refusal is that of all.
+use Rattle.std.specs.Prelude.{ℕ, ◌+◌, Bool, cond, not, nat_lt, List, [], ◌∷◌, map, length, Option, Some, None}
+use Rattle.std.specs.List.{list_all}
+use Rattle.doc_model.specs.declared.limit.LimitKind.{LimitKind}
+use Rattle.doc_model.specs.declared.limit.LimitKind.TheVariants.{Actions}
 use Rattle.doc_model.specs.declared.user_action.UserAction.{UserAction}
-use Rattle.doc_model.specs.declared.user_action.UserAction.TheVariants.{Add}
-use Rattle.doc_model.specs.declared.user_action.UserColumn.{UserColumn}
-use Rattle.doc_model.specs.Apply.{apply}
+use Rattle.doc_model.specs.Counts.{bound_of, over}
 use Rattle.doc_model.specs.Document.{Document}
-use Rattle.doc_model.specs.ByIds.{are_distinct}
-use Rattle.doc_model.specs.Valid.{rows_of, valid}
 use Rattle.grist_json.specs.declared.verdict.Verdict.{Verdict}
-use Rattle.grist_json.specs.declared.verdict.Verdict.TheVariants.{Refused}
-use Rattle.grist_json.specs.declared.verdict.RetValue.{RetValue}
-use Rattle.grist_json.specs.declared.verdict.RetValue.TheVariants.{Id}
+use Rattle.grist_json.specs.declared.verdict.Verdict.TheVariants.{Limited, Refused}
+use Rattle.user_actions.specs.declared.objection.Objection.{Objection}
+use Rattle.user_actions.specs.Codes.{code_of}
+use Rattle.user_actions.specs.Objections.{objection_to}
+use Rattle.user_actions.specs.StepLaws.{action_of}
+use Rattle.user_actions.specs.Steps.{steps_of}
+use Rattle.user_actions.specs.Tallies.{after}
+use Rattle.view_parts.specs.Shown.{view}
+use Rattle.bundle_core.specs.declared.made.Made.{Made}
+use Rattle.bundle_core.specs.Forms.{is_in_form}
+use Rattle.bundle_core.specs.Made.{made_of}
 
--- accepted with the document after it and what it returns, or refused
+-- accepted with the document after it and what its actions made, or refused
 pub data Judgement : Type 0 where
-  accepted : Document → List RetValue → Judgement
+  accepted : Document → List Made → Judgement
   refused : Verdict → Judgement
 
-abbrev pub first_table : List ℕ
-first_table = codes "Table1"
+-- the limit that the action at that place of its bundle would pass
+abbrev pub limited : ℕ → Option LimitKind → Option Verdict
+limited i None = None
+limited i (Some kind) = Some (Limited kind (bound_of kind) (Some i))
 
--- the greatest of the numbers, or 0
-abbrev pub greatest : List ℕ → ℕ
-greatest [] = 0
-greatest (r ∷ rs) = max r (greatest rs)
+-- what stands against it, or else the limit
+abbrev pub opposed : ℕ → Option Objection → Option LimitKind → Option Verdict
+opposed i (Some this) kind = Some (Refused (code_of this) (Some i))
+opposed i None kind = limited i kind
 
--- the row that a record added now gets
-abbrev pub next_row : Document → List ℕ → ℕ
-next_row s table = greatest (rows_of s table) + 1
+-- why the action at that place of its bundle is refused: by the user's view of the document there, or
+-- by a limit that the document after its steps passes
+abbrev pub refusal_at : Bool → Document → ℕ → UserAction → Option Verdict
+refusal_at owner s i a = opposed i (objection_to (view owner s) a) (over (after s a))
 
--- a whole number, or a text that a cell may hold
-abbrev pub is_plain_value : CellValue → Bool
-is_plain_value (value.Int n) = true
-is_plain_value (value.Text t) = nat_le (length t) text_bound
-is_plain_value _ = false
+-- one action before those that are judged
+abbrev pub with_made : Made → Judgement → Judgement
+with_made m (accepted s ms) = accepted s (m ∷ ms)
+with_made m (refused v) = refused v
 
-abbrev pub user_column_id : UserColumn → List ℕ
-user_column_id k = k.id
+-- what an action made
+abbrev pub made_at : Document → UserAction → Made
+made_at s a = made_of a (map action_of (steps_of s a))
 
--- one plain value for one of the columns A, B, C
-abbrev pub is_plain_column : UserColumn → Bool
-is_plain_column k =
-    list_any (λ id. bytes_eq id k.id) (codes "A" ∷ codes "B" ∷ codes "C" ∷ [])
-    && (nat_eq (length k.values) 1 && list_all is_plain_value k.values)
+-- the judgement of actions from that place of their bundle on
+abbrev pub judge_from : Bool → Document → ℕ → List UserAction → Judgement
+judge_from owner s i [] = accepted s []
+judge_from owner s i (a ∷ as') =
+    elim (refusal_at owner s i a) [
+      | Some v ↦ refused v
+      | None ↦ with_made (made_at s a) (judge_from owner (after s a) (i + 1) as')
+    ]
 
--- the form for one record, for Table1
-abbrev pub is_one_for_table : List ℕ → Bool → ℕ → Bool → Bool
-is_one_for_table table single count explicit =
-    bytes_eq table first_table && (single && (nat_eq count 1 && not explicit))
-
--- different ones of the three columns, with plain values
-abbrev pub are_built : List UserColumn → Bool
-are_built columns =
-    nat_le (length columns) 3 && (are_distinct user_column_id columns && list_all is_plain_column columns)
-
--- one record for Table1
-abbrev pub is_built : UserAction → Bool
-is_built (Add table single count explicit columns) =
-    is_one_for_table table single count explicit && are_built columns
-is_built _ = false
-
--- a bundle of one such record
-abbrev pub is_built_bundle : List UserAction → Bool
-is_built_bundle (action ∷ []) = is_built action
-is_built_bundle _ = false
-
-abbrev pub given_column : UserColumn → CellColumn
-given_column k = record { id = k.id; values = k.values }
-
-abbrev pub columns_given : UserAction → List CellColumn
-columns_given (Add table single count explicit columns) = map (λ (k : UserColumn). given_column k) columns
-columns_given _ = []
-
--- a record of the table that holds these values, as a document action
-abbrev pub adding : Document → List CellColumn → DocAction
-adding s columns = BulkAdd first_table (next_row s first_table ∷ []) columns
-
--- what is not built is no request
-abbrev pub not_built : Verdict
-not_built = Refused 1 None
-
--- the record is added where it may be
-abbrev pub add_if_valid : Document → DocAction → ℕ → Judgement
-add_if_valid s action row = if valid s action then accepted (apply s action) (Id row ∷ []) else refused not_built
-
--- the judgement of a bundle
-abbrev pub judge : Document → List UserAction → Judgement
-judge s (action ∷ []) =
-    if is_built action
-    then add_if_valid s (adding s (columns_given action)) (next_row s first_table)
-    else refused not_built
-judge s _ = refused not_built
+-- the judgement of a bundle: what is not in its form is no request, and of too many actions the first
+-- one past the bound is named
+abbrev pub judge : Bool → Document → List UserAction → Judgement
+judge owner s as' =
+    cond (not (list_all is_in_form as')) (refused (Refused 1 None))
+    (cond (nat_lt (bound_of Actions) (length as')) (refused (Limited Actions (bound_of Actions) (Some (bound_of Actions))))
+    (judge_from owner s 0 as'))

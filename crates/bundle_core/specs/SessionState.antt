@@ -5,7 +5,7 @@ use Rattle.doc_model.specs.Document.{Document}
 use Rattle.grist_json.specs.Lines.{stream_text}
 use Rattle.bundle_core.specs.Mailbox.{is_full}
 use Rattle.bundle_core.specs.State.{Holder, Open}
-use Rattle.bundle_core.specs.View.{view}
+use Rattle.bundle_core.specs.View.{is_owner, view}
 
 -- a session without its view, which is the document's; a line that is ready to be posted, and for how
 -- many lines there is room
@@ -26,13 +26,14 @@ open_of s x = record {
   mailbox = record { view = view x.holder.user s; made = x.made; waiting = x.waiting; lagging = x.lagging };
 }
 
--- the line that tells these actions, unless the session lags
+-- the line that tells these actions; none where there are none, or where the session lags
 abbrev pub line_for : List ViewAction → SessionState → Option (List ℕ)
-line_for actions x = if x.lagging then None else Some (stream_text (x.made + 1) actions)
+line_for [] x = None
+line_for (a ∷ as') x = if x.lagging then None else Some (stream_text (x.made + 1) (a ∷ as'))
 
--- the line is ready, and there is room for it
-pub record IsReady (actions : List ViewAction) (x : SessionState) : Type 0 where
-  pub line : x.ready ≡ line_for actions x
+-- the line that tells what owners are told, or others, is ready, and there is room for it
+pub record IsReady (told : Bool → List ViewAction) (x : SessionState) : Type 0 where
+  pub line : x.ready ≡ line_for (told (is_owner x.holder.user)) x
   pub room : 0 < x.room
 
 -- what is the same after lines were made ready and room was made
@@ -43,14 +44,14 @@ pub record IsPrepared (old new : SessionState) : Type 0 where
   pub waiting : new.waiting ≡ old.waiting
   pub lagging : new.lagging ≡ old.lagging
 
--- the session after its line was posted, or could not be
+-- the session after its line was posted, or could not be, or where there is none
 abbrev pub after_post : SessionState → Option (List ℕ) → SessionState
 after_post x None = record {
   session = x.session;
   holder = x.holder;
   made = x.made;
   waiting = x.waiting;
-  lagging = true;
+  lagging = x.lagging;
   ready = None;
   room = x.room;
 }

@@ -7,14 +7,14 @@ use Rattle.doc_model.specs.declared.user.User.{User}
 use Rattle.doc_model.specs.declared.limit.LimitKind.TheVariants as limit
 use Rattle.doc_model.specs.declared.request.Request.{Request}
 use Rattle.doc_model.specs.declared.request.Request.TheVariants as request
-use Rattle.doc_model.specs.declared.user_action.UserAction.{UserAction}
 use Rattle.doc_model.specs.ByIds.{find_id, place, without_id}
 use Rattle.doc_model.specs.Document.{Document}
 use Rattle.grist_json.specs.declared.verdict.Verdict.{Verdict}
 use Rattle.grist_json.specs.declared.verdict.Verdict.TheVariants as verdict
-use Rattle.bundle_core.specs.Judgement.{Judgement, accepted, refused, judge, is_built_bundle}
+use Rattle.bundle_core.specs.Judgement.{Judgement, accepted, refused, judge}
+use Rattle.bundle_core.specs.Made.{told_of}
 use Rattle.bundle_core.specs.Mailbox.{Mailbox, Outcome, quiet, shows_view, says, Turn, due, own}
-use Rattle.bundle_core.specs.View.{view}
+use Rattle.bundle_core.specs.View.{is_owner, view}
 
 -- who has a session open, and how many of its bundles were accepted
 pub record Holder : Type 0 where
@@ -79,10 +79,6 @@ opened users st token =
           }
     ]
 
--- a session that is not open asks for a bundle; one that is not built is no request
-abbrev pub bundle_refusal : List UserAction → ℕ
-bundle_refusal actions = if is_built_bundle actions then 3 else 1
-
 -- a request of a session that is not open; what is not built yet is no request
 abbrev pub from_outside : List User → State → Request → Verdicts
 from_outside users st request.Bad = answered st.document None (refusal 1)
@@ -90,18 +86,18 @@ from_outside users st request.TooLong = answered st.document None (refusal 2)
 from_outside users st (request.Open token) = opened users st token
 from_outside users st request.Gone =
     record { outcome = quiet; document = st.document; is_bundle = false; holder = None }
-from_outside users st (request.Apply actions) = answered st.document None (refusal (bundle_refusal actions))
+from_outside users st (request.Apply actions) = answered st.document None (refusal 3)
 from_outside users st request.Sync = answered st.document None (refusal 3)
 from_outside users st (request.Undo bundle) = answered st.document None (refusal 1)
 from_outside users st (request.Fetch table) = answered st.document None (refusal 1)
-from_outside users st request.Close = answered st.document None (refusal 1)
+from_outside users st request.Close = answered st.document None (refusal 3)
 
 -- a bundle of an open session: accepted, it counts; the keeper's failure leaves everything
 abbrev pub bundle_of : Holder → Document → Bool → Judgement → Verdicts
 bundle_of h s kept (refused v) = answered s (Some h) v
-bundle_of h s false (accepted after values) = answered s (Some h) (refusal 19)
-bundle_of h s true (accepted after values) = record {
-  outcome = says (verdict.Bundle (h.bundles + 1) values);
+bundle_of h s false (accepted after ms) = answered s (Some h) (refusal 19)
+bundle_of h s true (accepted after ms) = record {
+  outcome = says (verdict.Bundle (h.bundles + 1) (map (told_of (view h.user after)) ms));
   document = after;
   is_bundle = true;
   holder = Some (record { user = h.user; bundles = h.bundles + 1 });
@@ -112,11 +108,11 @@ abbrev pub from_inside : State → Holder → Bool → Request → Verdicts
 from_inside st h kept request.Bad = answered st.document (Some h) (refusal 1)
 from_inside st h kept request.TooLong = answered st.document (Some h) (refusal 2)
 from_inside st h kept (request.Open token) = answered st.document (Some h) (refusal 4)
-from_inside st h kept (request.Apply actions) = bundle_of h st.document kept (judge st.document actions)
+from_inside st h kept (request.Apply actions) = bundle_of h st.document kept (judge (is_owner h.user) st.document actions)
 from_inside st h kept (request.Undo bundle) = answered st.document (Some h) (refusal 1)
 from_inside st h kept request.Sync = answered st.document (Some h) verdict.Done
 from_inside st h kept (request.Fetch table) = answered st.document (Some h) (refusal 1)
-from_inside st h kept request.Close = answered st.document (Some h) (refusal 1)
+from_inside st h kept request.Close = answered st.document None verdict.Done
 from_inside st h kept request.Gone =
     record { outcome = quiet; document = st.document; is_bundle = false; holder = None }
 

@@ -1,52 +1,126 @@
-//! An accepted bundle: one record for Table1, which every open session is told of.
+//! An accepted bundle: its actions are done, and each open session is told of them.
 
-ghost use Rattle.std.specs.Prelude.{false, ◌≡◌, ◌+◌, ◌<◌, ◌^◌, [], ◌∷◌, ◌++◌, ◌≤◌, length, map, codes, get_or, IfOk, OnOk, OnErr, vec_len, vec_capacity};
+ghost use Rattle.std.specs.Prelude.{Bool, false, true, ◌≡◌, ◌+◌, ◌<◌, ◌^◌, [], ◌∷◌, ◌++◌, ◌≤◌, length, map, get_or, IfOk, OnOk, OnErr, vec_len, vec_capacity};
 ghost use Rattle.std.specs.List.{AllByRecursion, insert};
+ghost use Rattle.doc_model.specs.Apply.{all_valid, apply_all};
+ghost use Rattle.doc_model.specs.DocumentLaws.{IsWhole};
 ghost use Rattle.grist_json.specs.Lines.{reply_text};
-ghost use Rattle.grist_json.specs.declared.verdict.RetValue.TheVariants.{Id};
 ghost use Rattle.grist_json.specs.declared.verdict.Verdict.TheVariants.{Bundle};
-ghost use Rattle.bundle_core.specs.Desk.{AreSame, Bundles, Posts, bundle_number};
-ghost use Rattle.bundle_core.specs.Held.{added_actions, column_value, record_cells};
+ghost use Rattle.view_parts.specs.Shown.{view};
+ghost use Rattle.bundle_core.specs.Desk.{AreSame, Bundles, Posts, bundle_number, bundle_reply};
+ghost use Rattle.bundle_core.specs.Made.{told_of};
+ghost use Rattle.bundle_core.specs.Plans.{told_changes};
 ghost use Rattle.bundle_core.specs.SessionState.{SessionState, IsReady, MayPost, posted_state};
+ghost use Rattle.bundle_core.specs.Telling.{told_by};
+ghost use Rattle.bundle_core.specs.View.{is_owner};
+ghost use Rattle.bundle_core.specs.Ways.{AllFit, went_back};
 
+use crate::judging::Plan;
+use crate::made::{Made, all_told};
 use crate::session::OpenSession;
-use crate::shown::{added, record_row};
+use crate::telling::{Told, see_parts, tell_changes};
 use crate::turns::{post_all, prepare_all};
-use cell_types::ValueList;
-use doc_model::{UserColumn, ViewActionList};
-use grist_json::{Line, RetValue, RetValueList, Verdict, write_reply};
+use crate::ways::{put_all, take_back_all};
+use doc_model::{DocAction, DocTables};
+use grist_json::{Line, Verdict, write_reply};
 use std::alloc::{AllocError, Global};
 
-/// Adds a record of these columns for the session of that place, and posts every other open session
-/// the line that shows it. All memory is taken before anything changes.
-pub(crate) fn accept(
+/// Does the actions of a bundle of the session of that place, and posts every other open session the
+/// line that tells them. All memory is taken before anything that can be seen changes.
+pub(crate) fn accept<D: DocTables>(
     alloc: Global,
-    rows: &mut Vec<ValueList>,
+    tables: &mut D,
     sessions: &mut Vec<OpenSession>,
     place: usize,
-    columns: &[UserColumn],
+    plan: &Plan,
 ) -> Result<Vec<Line>, AllocError>
     requires within { place < length sessions.old.items }
-    requires quick { (d : SessionState) → (get_or sessions.old.items place d).lagging ≡ false }
-    requires few_rows { length rows.old.items + 1 < 2 ^ 32 }
+    requires whole { IsWhole (D.document tables.old) }
+    requires valid { all_valid (D.document tables.old) plan.now.actions.items ≡ true }
     requires few { AllByRecursion (λ x. x.made < 2 ^ 62) sessions.old.items }
     requires few_bundles { AllByRecursion (λ x. x.holder.bundles < 2 ^ 62) sessions.old.items }
-    ensures rows { IfOk result (λ _. rows.new.items ≡ rows.old.items ++ record_cells columns.now ∷ []) }
+    ensures document { OnOk result (D.document tables.new ≡ apply_all (D.document tables.old) plan.now.actions.items) }
     ensures sessions { IfOk result (λ v. Bundles sessions.old.items sessions.new.items place
-        (added_actions (length rows.old.items + 1) (column_value columns.now (codes "A")) (column_value columns.now (codes "B")) (column_value columns.now (codes "C")))
-        (reply_text (Bundle (bundle_number sessions.old.items place) (Id (length rows.old.items + 1) ∷ []))) v.items) }
-    ensures err_rows { OnErr result (rows.new.items ≡ rows.old.items) }
+        (told_changes (D.document tables.old) plan.now.actions.items)
+        (bundle_reply sessions.old.items place (apply_all (D.document tables.old) plan.now.actions.items) plan.now.made.items) v.items) }
+    ensures err_document { OnErr result (D.document tables.new ≡ D.document tables.old) }
     ensures err { OnErr result (AreSame sessions.old.items sessions.new.items) }
 {
-    let row = (rows.len() + 1) as u32;
-    let number = sessions[place].bundles() + 1;
-    let reply = write_reply(alloc, &verdict_of(alloc, number, row)?)?;
-    let cells = record_row(alloc, columns)?;
-    let actions = added(alloc, row, columns)?;
-    rows.reserve(1)?;
-    ready_all(alloc, sessions, place, &actions)?;
-    rows.push_reserved(cells);
-    Ok(post(alloc, sessions, place, reply))
+    let mut backs = Vec::new(alloc);
+    match ready_bundle(alloc, tables, sessions, place, plan, &mut backs) {
+        Ok(reply) => Ok(post(alloc, sessions, place, reply)),
+        Err(fault) => {
+            take_back_all(tables, backs);
+            Err(fault)
+        }
+    }
+}
+
+// Does the actions, and makes ready the reply and each session's line.
+fn ready_bundle<D: DocTables>(
+    alloc: Global,
+    tables: &mut D,
+    sessions: &mut Vec<OpenSession>,
+    place: usize,
+    plan: &Plan,
+    backs: &mut Vec<D::Back>,
+) -> Result<Line, AllocError>
+    requires within { place < length sessions.old.items }
+    requires whole { IsWhole (D.document tables.old) }
+    requires valid { all_valid (D.document tables.old) plan.now.actions.items ≡ true }
+    requires few { AllByRecursion (λ x. x.made < 2 ^ 63) sessions.old.items }
+    requires few_bundles { AllByRecursion (λ x. x.holder.bundles < 2 ^ 62) sessions.old.items }
+    requires first { backs.old.items ≡ [] }
+    ensures document { OnOk result (D.document tables.new ≡ apply_all (D.document tables.old) plan.now.actions.items) }
+    ensures fit { AllFit D.undone D.fits backs.new.items (D.document tables.new) }
+    ensures back { went_back D.undone D.fits backs.new.items (D.document tables.new) ≡ D.document tables.old }
+    ensures reply { IfOk result (λ l. l ≡ bundle_reply sessions.old.items place (apply_all (D.document tables.old) plan.now.actions.items) plan.now.made.items) }
+    ensures same { AreSame sessions.old.items sessions.new.items }
+    ensures ready { OnOk result (AllByRecursion (IsReady (told_changes (D.document tables.old) plan.now.actions.items)) sessions.new.items) }
+    ensures room { IfOk result (λ _. (d : SessionState) → 1 < (get_or sessions.new.items place d).room) }
+    ensures length { length sessions.new.items ≡ length sessions.old.items }
+{
+    let told = done_and_told(alloc, tables, &plan.actions, backs)?;
+    let reply = reply_to(alloc, tables, &sessions[place], &plan.made)?;
+    ready_all(alloc, sessions, place, &told)?;
+    Ok(reply)
+}
+
+// Does the actions, and works out what users are told of them.
+fn done_and_told<D: DocTables>(
+    alloc: Global,
+    tables: &mut D,
+    actions: &[DocAction],
+    backs: &mut Vec<D::Back>,
+) -> Result<Told, AllocError>
+    requires whole { IsWhole (D.document tables.old) }
+    requires valid { all_valid (D.document tables.old) actions.now ≡ true }
+    requires first { backs.old.items ≡ [] }
+    ensures document { OnOk result (D.document tables.new ≡ apply_all (D.document tables.old) actions.now) }
+    ensures fit { AllFit D.undone D.fits backs.new.items (D.document tables.new) }
+    ensures back { went_back D.undone D.fits backs.new.items (D.document tables.new) ≡ D.document tables.old }
+    ensures told { IfOk result (λ t. (owner : Bool) → told_by t owner ≡ told_changes (D.document tables.old) actions.now owner) }
+{
+    let before = see_parts(alloc, tables, actions)?;
+    put_all(tables, actions, backs)?;
+    let after = see_parts(alloc, tables, actions)?;
+    tell_changes(alloc, &before, &after)
+}
+
+// The reply to a bundle of the session that made these things.
+fn reply_to<D: DocTables>(
+    alloc: Global,
+    tables: &D,
+    session: &OpenSession,
+    made: &[Made],
+) -> Result<Line, AllocError>
+    requires whole { IsWhole (D.document tables.now) }
+    requires few { session.now.holder.bundles < 2 ^ 62 }
+    ensures { IfOk result (λ l. l ≡ reply_text (Bundle (session.now.holder.bundles + 1) (map (told_of (view (is_owner session.now.holder.user) (D.document tables.now))) made.now))) }
+{
+    let values = all_told(alloc, tables, session.is_owner(), made)?;
+    let number = session.bundles() + 1;
+    write_reply(alloc, &Verdict::Bundle { number, values })
 }
 
 // Makes ready each session's line, and room for the two that the session of the bundle is given.
@@ -54,16 +128,16 @@ fn ready_all(
     alloc: Global,
     sessions: &mut Vec<OpenSession>,
     place: usize,
-    actions: &ViewActionList,
+    told: &Told,
 ) -> Result<(), AllocError>
     requires within { place < length sessions.old.items }
     requires few { AllByRecursion (λ x. x.made < 2 ^ 63) sessions.old.items }
     ensures same { AreSame sessions.old.items sessions.new.items }
-    ensures ready { OnOk result (AllByRecursion (IsReady actions.now) sessions.new.items) }
+    ensures ready { OnOk result (AllByRecursion (IsReady (told_by told.now)) sessions.new.items) }
     ensures room { IfOk result (λ _. (d : SessionState) → 1 < (get_or sessions.new.items place d).room) }
     ensures length { length sessions.new.items ≡ length sessions.old.items }
 {
-    prepare_vec(alloc, sessions, actions)?;
+    prepare_vec(alloc, sessions, told)?;
     let session = &mut sessions[place];
     session.make_room(2)
 }
@@ -71,25 +145,14 @@ fn ready_all(
 fn prepare_vec(
     alloc: Global,
     sessions: &mut Vec<OpenSession>,
-    actions: &ViewActionList,
+    told: &Told,
 ) -> Result<(), AllocError>
     requires { AllByRecursion (λ x. x.made < 2 ^ 63) sessions.old.items }
     ensures same { AreSame sessions.old.items sessions.new.items }
-    ensures ready { OnOk result (AllByRecursion (IsReady actions.now) sessions.new.items) }
+    ensures ready { OnOk result (AllByRecursion (IsReady (told_by told.now)) sessions.new.items) }
     ensures length { length sessions.new.items ≡ length sessions.old.items }
 {
-    prepare_all(alloc, sessions.as_mut_slice(), actions)
-}
-
-fn verdict_of(alloc: Global, number: u64, row: u32) -> Result<Verdict, AllocError>
-    ensures { IfOk result (λ v. v ≡ Bundle number (Id row ∷ [])) }
-{
-    let mut values = Vec::with_capacity(alloc, 1)?;
-    values.push(RetValue::Id(row))?;
-    Ok(Verdict::Bundle {
-        number,
-        values: RetValueList::from(values),
-    })
+    prepare_all(alloc, sessions.as_mut_slice(), told)
 }
 
 // Gives the session its own lines, and posts the others theirs.

@@ -8,11 +8,13 @@ ghost use Rattle.bundle_core.specs.State.{session_of};
 use crate::desk::answer;
 use crate::seek::place_of;
 use crate::session::OpenSession;
-use cell_types::{Name, Sequence, ValueList};
+use cell_types::{Name, Sequence};
 use doc_model::{Entry, EntryList, Request, UserList};
 use grist_json::Line;
+use row_tables::RowTables;
 use std::alloc::{AllocError, Global};
 use std::marker::Model;
+use user_actions::Tally;
 
 /// How many entries a history may have before a step answers that it is full.
 pub const MAX_ENTRIES: usize = 1_048_576;
@@ -37,7 +39,8 @@ pub enum Answer {
 #[derive(Drop)]
 pub struct Core {
     users: UserList,
-    rows: Vec<ValueList>,
+    tables: RowTables,
+    tally: Tally,
     sessions: Vec<OpenSession>,
     entries: Vec<Entry>,
     bytes_left: Option<u32>,
@@ -50,21 +53,24 @@ impl Model for Core {
 
     ghost view = { λ c. record { users = c.users; history = c.entries.items } };
 
-    ghost invariant = { λ c. IsCore c.users c.entries.items c.rows.items c.sessions.items c.bytes_left };
+    ghost invariant = { λ c. IsCore c.users c.entries.items c.tables c.tally c.sessions.items c.bytes_left };
 }
 
 impl Core {
     /// A core of a new document that nobody has opened yet.
-    pub fn new(alloc: Global, users: UserList) -> Self
-        ensures { result ≡ record { users = users; history = [] } }
+    ///
+    /// Errors: want of memory.
+    pub fn new(alloc: Global, users: UserList) -> Result<Self, AllocError>
+        ensures { IfOk result (λ c. c ≡ record { users = users; history = [] }) }
     {
-        Core {
+        Ok(Core {
             users,
-            rows: Vec::new(alloc),
+            tables: RowTables::new_document(alloc)?,
+            tally: Tally::of_new_document(),
             sessions: Vec::new(alloc),
             entries: Vec::new(alloc),
             bytes_left: Some(MAX_HISTORY_BYTES),
-        }
+        })
     }
 
     /// Takes one request of a session, and answers with the lines that the session is given.
@@ -107,7 +113,14 @@ impl Core {
     {
         self.entries.reserve(1)?;
         let users = self.users.as_slice();
-        let lines = answer(alloc, users, &mut self.rows, &mut self.sessions, &entry)?;
+        let lines = answer(
+            alloc,
+            users,
+            &mut self.tables,
+            &mut self.tally,
+            &mut self.sessions,
+            &entry,
+        )?;
         self.bytes_left = left_after(self.bytes_left, entry.size);
         self.entries.push_reserved(entry);
         Ok(LineList::from(lines))

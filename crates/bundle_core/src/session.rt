@@ -2,10 +2,13 @@
 
 ghost use Rattle.std.specs.Prelude.{◌≡◌, ◌<◌, ◌≤◌, ◌+◌, ◌^◌, [], ◌∷◌, ◌++◌, length, option_to_list, None, false, IfOk, OnOk, IsTrue, ◌↔◌};
 ghost use Rattle.bundle_core.specs.Mailbox.{is_full};
+ghost use Rattle.bundle_core.specs.Telling.{told_by};
+ghost use Rattle.bundle_core.specs.View.{is_owner};
 ghost use Rattle.bundle_core.specs.SessionState.{IsReady, IsPrepared, IsEmptied, MayPost, posted_state};
 
+use crate::telling::Told;
 use cell_types::Name;
-use doc_model::{User, ViewActionList};
+use doc_model::User;
 use grist_json::{Line, write_stream};
 use std::alloc::{AllocError, Global};
 use std::marker::Model;
@@ -98,6 +101,13 @@ impl OpenSession {
         &self.user
     }
 
+    /// Whether its user has access as an owner.
+    pub fn is_owner(&self) -> bool
+        ensures { result ≡ is_owner self.now.holder.user }
+    {
+        is_owner(&self.user)
+    }
+
     /// How many of its bundles were accepted.
     pub fn bundles(&self) -> u64
         ensures { result ≡ self.now.holder.bundles }
@@ -126,35 +136,38 @@ impl OpenSession {
         self.waiting.reserve(lines)
     }
 
-    /// Makes ready the line that tells the actions, unless the session lags. Nothing that can be seen
-    /// changes, whatever the answer.
-    pub fn prepare(&mut self, alloc: Global, actions: &ViewActionList) -> Result<(), AllocError>
+    /// Makes ready the line that tells what its user is told, unless that is nothing or the session
+    /// lags. Nothing that can be seen changes, whatever the answer.
+    pub fn prepare(&mut self, alloc: Global, told: &Told) -> Result<(), AllocError>
         requires few { self.old.made < 2 ^ 63 }
         ensures prepared { IsPrepared self.old self.new }
-        ensures ok { OnOk result (IsReady actions.now self.new) }
+        ensures ok { OnOk result (IsReady (told_by told.now) self.new) }
     {
         self.make_room(1)?;
         self.ready = None;
-        if !self.lagging {
+        let actions = told.by(self.is_owner());
+        if !self.lagging && !actions.is_empty() {
             self.ready = Some(write_stream(alloc, self.made + 1, actions)?);
         }
         Ok(())
     }
 
-    /// Puts the line that was made ready behind those that wait. Where too much waits, and where there
-    /// is none, the session lags from now on.
+    /// Puts the line that was made ready, where there is one, behind those that wait. Where too much
+    /// waits, the session lags from now on.
     pub fn post(&mut self)
         requires { MayPost self.old }
         ensures { self.new ≡ posted_state self.old }
     {
-        match self.ready.take() {
-            Some(line) if !self.is_full() => {
-                self.bytes += line.as_str().len() as u64;
-                self.waiting.push_reserved(line);
-                self.made += 1;
-            }
-            _ => self.lagging = true,
+        let Some(line) = self.ready.take() else {
+            return;
+        };
+        if self.is_full() {
+            self.lagging = true;
+            return;
         }
+        self.bytes += line.as_str().len() as u64;
+        self.waiting.push_reserved(line);
+        self.made += 1;
     }
 
     /// Gives the lines that wait, and then the reply.
@@ -201,6 +214,16 @@ impl OpenSession {
         let mut lines = self.waiting;
         lines.push_reserved(reply);
         lines
+    }
+}
+
+/// Whether the user has access as an owner.
+pub(crate) fn is_owner(user: &User) -> bool
+    ensures { result ≡ is_owner user.now }
+{
+    match &user.access {
+        Some(access) => access.as_str() == "owners",
+        None => false,
     }
 }
 

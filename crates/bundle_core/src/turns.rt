@@ -5,9 +5,10 @@ ghost use Rattle.std.specs.List.{AllByRecursion};
 ghost use Rattle.grist_json.specs.Lines.{reply_text};
 ghost use Rattle.bundle_core.specs.Desk.{AreSame, Leaves, Stays};
 ghost use Rattle.bundle_core.specs.SessionState.{SessionState, IsReady, MayPost, posted_state};
+ghost use Rattle.bundle_core.specs.Telling.{told_by};
 
 use crate::session::OpenSession;
-use doc_model::ViewActionList;
+use crate::telling::Told;
 use grist_json::{Line, Verdict, write_reply};
 use std::alloc::{AllocError, Global};
 
@@ -57,19 +58,19 @@ pub(crate) fn stay(
     Ok(session.give(alloc, reply))
 }
 
-/// Makes ready the line that tells the actions, for each session. At want of memory the sessions are
-/// the same.
+/// Makes ready the line that tells each session what its user is told. At want of memory the sessions
+/// are the same.
 pub(crate) fn prepare_all(
     alloc: Global,
     sessions: &mut [OpenSession],
-    actions: &ViewActionList,
+    told: &Told,
 ) -> Result<(), AllocError>
     requires { AllByRecursion (λ x. x.made < 2 ^ 63) sessions.old }
     ensures same { AreSame sessions.old sessions.new }
-    ensures ready { OnOk result (AllByRecursion (IsReady actions.now) sessions.new) }
+    ensures ready { OnOk result (AllByRecursion (IsReady (told_by told.now)) sessions.new) }
 {
     for session in sessions.iter_mut() {
-        session.prepare(alloc, actions)?;
+        session.prepare(alloc, told)?;
     }
     Ok(())
 }

@@ -2,7 +2,7 @@
 
 ghost use Rattle.view_parts.specs.PartLaws.{AllowedLaw, AskedLaw, PartLaw, ViewLaw};
 
-use user_actions::one_table_law;
+use user_actions::{one_table_law, unopposed_law};
 
 /// A view of a whole document is a view.
 pub fn view_law()
@@ -24,4 +24,6 @@ pub fn asked_law()
 /// The document allows what nothing stands against in a view of it.
 pub fn allowed_law()
     ensures { AllowedLaw }
-{}
+{
+    unopposed_law();
+}

@@ -1,0 +1,8 @@
+mod AskedLemmas
+mod PartLemmas
+mod PartLemmasCells
+mod PartLemmasChanges
+mod PartLemmasDocument
+mod PartLemmasEdits
+mod PartLemmasViews
+mod ViewLemmas

@@ -2,6 +2,8 @@
 
 ghost use Rattle.view_parts.specs.PartLaws.{AllowedLaw, AskedLaw, PartLaw, ViewLaw};
 
+use user_actions::{one_table_law, unopposed_law};
+
 /// A view of a whole document is a view.
 pub fn view_law()
     ensures { ViewLaw }
@@ -15,9 +17,13 @@ pub fn part_law()
 /// What stands against a user action rests on the table and the rows alone that it names.
 pub fn asked_law()
     ensures { AskedLaw }
-{}
+{
+    one_table_law();
+}
 
 /// The document allows what nothing stands against in a view of it.
 pub fn allowed_law()
     ensures { AllowedLaw }
-{}
+{
+    unopposed_law();
+}

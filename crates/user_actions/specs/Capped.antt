@@ -1,10 +1,12 @@
 -- Counts as far as 64 bits can tell them.
-use Rattle.std.specs.Prelude.{ℕ, ◌^◌, ◌-◌, min, cond, [], get_or}
+use Rattle.std.specs.Prelude.{ℕ, ◌^◌, ◌-◌, ◌≡◌, min, cond, List, [], get_or}
+use Rattle.doc_model.specs.CountLaws.{Sums}
 use Rattle.doc_model.specs.Counts.{grid_cells, grid_weight, Counts}
 use Rattle.doc_model.specs.Document.{Table, Document}
 use Rattle.doc_model.specs.MetadataIds.{is_schema_id}
 use Rattle.doc_model.specs.Schema.{no_grid}
 use Rattle.user_actions.specs.declared.limits.Counted.{Counted}
+use Rattle.user_actions.specs.declared.moves.Moved.{Moved}
 
 -- a count, or the greatest number of 64 bits where it is above it
 abbrev pub capped : ℕ → ℕ
@@ -36,3 +38,9 @@ noted c = record {
   cells = c.cells;
   weight = c.weight;
 }
+
+-- sums as they are noted
+pub record IsCapped (m : Moved) (n : Sums) : Type 0 where
+  pub tables : m.tables ≡ capped n.tables
+  pub cells : m.cells ≡ capped n.cells
+  pub weight : m.weight ≡ capped n.weight

@@ -19,6 +19,7 @@ mod expansion;
 mod infos;
 mod laws;
 mod limits;
+mod moves;
 mod objection;
 mod record_steps;
 mod refusing;

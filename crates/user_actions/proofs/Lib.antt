@@ -9,3 +9,5 @@ mod StepsValid
 mod UnopposedLemmas
 mod ViewLemmas
 mod WalkLemmas
+mod SumLemmas
+mod CountedLemmas

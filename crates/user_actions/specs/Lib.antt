@@ -8,3 +8,4 @@ pub mod StepLaws
 pub mod Allowed
 pub mod Unopposed
 pub mod Tallies
+pub mod Capped

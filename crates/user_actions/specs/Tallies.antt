@@ -1,6 +1,5 @@
 -- What is counted of a document from one action to the next, and what an action comes to by it.
-use Rattle.std.specs.Prelude.{ℕ, Bool, true, ◌&&◌, nat_le, List, map, ◌≡◌, Some, None}
-use Rattle.doc_model.specs.declared.action.DocAction.{DocAction}
+use Rattle.std.specs.Prelude.{Bool, true, ◌&&◌, nat_le, List, map, ◌≡◌, Some, None}
 use Rattle.doc_model.specs.declared.action.Step.{Step}
 use Rattle.doc_model.specs.declared.limit.LimitKind.TheVariants.{Columns, Rows, RowId}
 use Rattle.doc_model.specs.declared.user_action.UserAction.{UserAction}

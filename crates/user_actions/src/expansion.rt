@@ -14,10 +14,7 @@ use std::alloc::{AllocError, Global};
 #[derive(Clone, Debug, Drop)]
 pub enum Expansion {
     /// Its document actions, and the tally of the document after them.
-    Steps {
-        steps: StepList,
-        tally: Tally,
-    },
+    Steps { steps: StepList, tally: Tally },
     /// The first limit that would be passed after them.
     Limit(LimitKind),
 }

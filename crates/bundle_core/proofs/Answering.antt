@@ -2,22 +2,21 @@
 use Rattle.std.proofs.Common.{◌≡◌, ℕ, ◌+◌, Bool, true, false, List, [], ◌∷◌, ◌++◌, map, length, Option, Some, None, refl, sym, ap, ◌∙◌, option_map, if◌then◌else◌}
 use Rattle.std.proofs.lemmas.List.{map-append, append-nil}
 use Rattle.std.specs.List.{AllByRecursion}
-use Rattle.cell_types.specs.declared.value.CellValue.{CellValue}
 use Rattle.doc_model.specs.declared.entry.Entry.{Entry}
 use Rattle.doc_model.specs.declared.user.User.{User}
 use Rattle.doc_model.specs.ByIds.{find_id, place, without_id, precedes}
 use Rattle.doc_model.specs.Changes.{changes}
 use Rattle.doc_model.specs.Document.{Document}
+use Rattle.doc_model.specs.DocumentLaws.{IsWhole}
 use Rattle.doc_model.proofs.Choices.{each_mapped}
 use Rattle.grist_json.specs.declared.verdict.Verdict.{Verdict}
 use Rattle.grist_json.specs.Lines.{reply_text}
 use Rattle.bundle_core.specs.Desk.{state_of, IsSpot, Answers}
-use Rattle.bundle_core.specs.Held.{document_of, HasThree}
 use Rattle.bundle_core.specs.Mailbox.{Mailbox, quiet, shows_view, own, replies, emptied, posted_if_any}
 use Rattle.bundle_core.specs.SessionState.{SessionState, open_of}
 use Rattle.bundle_core.specs.State.{State, Open, Holder, Verdicts, session_name, session_of, mailbox_of, answered, from_outside, from_inside, from_behind, verdicts, posted_all, with_session, step, given}
 use Rattle.bundle_core.specs.View.{view}
-use Rattle.bundle_core.proofs.HeldLaws.{changes-again}
+use Rattle.bundle_core.proofs.ViewLaws.{changes-again}
 use Rattle.bundle_core.proofs.Spots.{find_absent_at, find_at, without_absent, without_at, place_absent, place_at}
 
 abbrev pub opens : Document → List SessionState → List Open
@@ -68,13 +67,10 @@ pub holder_of-fields : (h : Holder) (user : User) (bundles : ℕ) → h.user ≡
 holder_of-fields h user bundles a b =
     ap (λ u. let x : Holder = record { user = u; bundles = h.bundles } in x) a ∙ ap (λ n. let x : Holder = record { user = user; bundles = n } in x) b
 
-module _ (users : List User) (rows : List (List CellValue)) (before behind : List SessionState) (e : Entry) (spot : IsSpot e.session before behind) where
-  abbrev doc : Document
-  doc = document_of rows
-
+module _ (users : List User) (doc : Document) (before behind : List SessionState) (e : Entry) (spot : IsSpot e.session before behind) where
   -- a session that is not open
-  abbrev outside : State
-  outside = state_of rows (before ++ behind)
+  abbrev outside : ℕ → State
+  outside n = state_of doc n (before ++ behind)
 
   abbrev below : AllByRecursion (λ (o : Open). precedes o.session e.session ≡ true) (opens doc before)
   below = opens_below doc e.session before spot.below
@@ -82,17 +78,17 @@ module _ (users : List User) (rows : List (List CellValue)) (before behind : Lis
   abbrev above : AllByRecursion (λ (o : Open). precedes e.session o.session ≡ true) (opens doc behind)
   above = opens_above doc e.session behind spot.above
 
-  none_outside : session_of e.session outside ≡ None
-  none_outside =
+  none_outside : (n : ℕ) → session_of e.session (outside n) ≡ None
+  none_outside n =
       ap (find_id session_name e.session) (opens-append doc before behind)
       ∙ find_absent_at session_name e.session (opens doc before) (opens doc behind) below above
 
-  verdicts_outside : (w : Verdicts) → from_outside users outside e.request ≡ w → verdicts users outside e ≡ w
-  verdicts_outside w p =
-      ap (λ o. elim o as (λ _. Verdicts) [ None ↦ from_outside users outside e.request | Some x ↦ if x.mailbox.lagging then from_behind outside e.request else from_inside outside x.holder e.kept e.request ]) none_outside ∙ p
+  verdicts_outside : (n : ℕ) (w : Verdicts) → from_outside users (outside n) e.request ≡ w → verdicts users (outside n) e ≡ w
+  verdicts_outside n w p =
+      ap (λ o. elim o as (λ _. Verdicts) [ None ↦ from_outside users (outside n) e.request | Some x ↦ if x.mailbox.lagging then from_behind (outside n) e.request else from_inside (outside n) x.holder e.kept e.request ]) (none_outside n) ∙ p
 
-  mailbox_outside : mailbox_of e.session outside ≡ None
-  mailbox_outside = ap (option_map (λ (o : Open). o.mailbox)) none_outside
+  mailbox_outside : (n : ℕ) → mailbox_of e.session (outside n) ≡ None
+  mailbox_outside n = ap (option_map (λ (o : Open). o.mailbox)) (none_outside n)
 
   same_outside : without_id session_name e.session (opens doc (before ++ behind)) ≡ opens doc (before ++ behind)
   same_outside =
@@ -100,32 +96,31 @@ module _ (users : List User) (rows : List (List CellValue)) (before behind : Lis
       ∙ without_absent session_name e.session (opens doc before) (opens doc behind) below above
       ∙ sym (opens-append doc before behind)
 
-  state_outside : State → List Open → State
-  state_outside = λ st os. record { document = st.document; added = st.added; open_sessions = os }
-
-  pub answers_outside : (v : Verdict) → from_outside users outside e.request ≡ answered doc None v → Answers users rows rows (before ++ behind) (before ++ behind) e (reply_text v ∷ [])
+  pub answers_outside : (v : Verdict) → ((n : ℕ) → from_outside users (outside n) e.request ≡ answered doc None v) → Answers users doc doc (before ++ behind) (before ++ behind) e (reply_text v ∷ [])
   answers_outside v p = record {
-    state = step_by users outside e (answered doc None v) None (verdicts_outside _ p) mailbox_outside
-        ∙ ap (λ os. let st : State = record { document = doc; added = length rows; open_sessions = os } in st) same_outside;
-    lines_given = given_by users outside e (answered doc None v) None (verdicts_outside _ p) mailbox_outside;
+    more = 0;
+    state = λ n. step_by users (outside n) e (answered doc None v) None (verdicts_outside n _ (p n)) (mailbox_outside n)
+        ∙ ap (λ os. let st : State = record { document = doc; added = n; open_sessions = os } in st) same_outside;
+    lines_given = λ n. given_by users (outside n) e (answered doc None v) None (verdicts_outside n _ (p n)) (mailbox_outside n);
   }
 
   abbrev gone_quietly : Verdicts
   gone_quietly = record { outcome = quiet; document = doc; is_bundle = false; holder = None }
 
-  pub answers_gone : from_outside users outside e.request ≡ gone_quietly → Answers users rows rows (before ++ behind) (before ++ behind) e []
+  pub answers_gone : ((n : ℕ) → from_outside users (outside n) e.request ≡ gone_quietly) → Answers users doc doc (before ++ behind) (before ++ behind) e []
   answers_gone p = record {
-    state = step_by users outside e gone_quietly None (verdicts_outside _ p) mailbox_outside
-        ∙ ap (λ os. let st : State = record { document = doc; added = length rows; open_sessions = os } in st) same_outside;
-    lines_given = given_by users outside e gone_quietly None (verdicts_outside _ p) mailbox_outside;
+    more = 0;
+    state = λ n. step_by users (outside n) e gone_quietly None (verdicts_outside n _ (p n)) (mailbox_outside n)
+        ∙ ap (λ os. let st : State = record { document = doc; added = n; open_sessions = os } in st) same_outside;
+    lines_given = λ n. given_by users (outside n) e gone_quietly None (verdicts_outside n _ (p n)) (mailbox_outside n);
   }
 
   abbrev opened_by : User → Verdicts
   opened_by user = record { outcome = shows_view; document = doc; is_bundle = false; holder = Some (record { user = user; bundles = 0 }) }
 
-  pub answers_opened : (user : User) (x : SessionState) → from_outside users outside e.request ≡ opened_by user
+  pub answers_opened : (user : User) (x : SessionState) → ((n : ℕ) → from_outside users (outside n) e.request ≡ opened_by user)
       → open_of doc x ≡ open_with doc e.session (record { user = user; bundles = 0 }) 0 [] false
-      → Answers users rows rows (before ++ behind) (before ++ x ∷ behind) e (replies e.request shows_view (view user doc))
+      → Answers users doc doc (before ++ behind) (before ++ x ∷ behind) e (replies e.request shows_view (view user doc))
   answers_opened user x p f =
       let new : Open = open_with doc e.session (record { user = user; bundles = 0 }) 0 [] false in
       let placed : place session_name new (opens doc (before ++ behind)) ≡ opens doc (before ++ x ∷ behind) =
@@ -134,27 +129,32 @@ module _ (users : List User) (rows : List (List CellValue)) (before behind : Lis
       ∙ ap (λ o. opens doc before ++ o ∷ opens doc behind) (sym f)
       ∙ sym (opens-append doc before (x ∷ behind)) in
       record {
-        state = step_by users outside e (opened_by user) None (verdicts_outside _ p) mailbox_outside
-            ∙ ap (λ os. let st : State = record { document = doc; added = length rows; open_sessions = os } in st) placed;
-        lines_given = given_by users outside e (opened_by user) None (verdicts_outside _ p) mailbox_outside;
+        more = 0;
+        state = λ n. step_by users (outside n) e (opened_by user) None (verdicts_outside n _ (p n)) (mailbox_outside n)
+            ∙ ap (λ os. let st : State = record { document = doc; added = n; open_sessions = os } in st) placed;
+        lines_given = λ n. given_by users (outside n) e (opened_by user) None (verdicts_outside n _ (p n)) (mailbox_outside n);
       }
 
   -- a session that is open
   module _ (x : SessionState) (named : x.session ≡ e.session) where
-    abbrev inside : State
-    inside = state_of rows (before ++ x ∷ behind)
+    abbrev inside : ℕ → State
+    inside n = state_of doc n (before ++ x ∷ behind)
 
-    found_inside : session_of e.session inside ≡ Some (open_of doc x)
-    found_inside =
+    -- what the entry comes to, however many bundles were accepted
+    abbrev pub ComesTo : Verdicts → Type 0
+    ComesTo w = (n : ℕ) → (if x.lagging then from_behind (inside n) e.request else from_inside (inside n) x.holder e.kept e.request) ≡ w
+
+    found_inside : (n : ℕ) → session_of e.session (inside n) ≡ Some (open_of doc x)
+    found_inside n =
         ap (find_id session_name e.session) (opens-append doc before (x ∷ behind))
         ∙ find_at session_name e.session (opens doc before) (opens doc behind) (open_of doc x) below named
 
-    pub verdicts_inside : (w : Verdicts) → (if x.lagging then from_behind inside e.request else from_inside inside x.holder e.kept e.request) ≡ w → verdicts users inside e ≡ w
-    verdicts_inside w p =
-        ap (λ o. elim o as (λ _. Verdicts) [ None ↦ from_outside users inside e.request | Some y ↦ if y.mailbox.lagging then from_behind inside e.request else from_inside inside y.holder e.kept e.request ]) found_inside ∙ p
+    pub verdicts_inside : (w : Verdicts) → ComesTo w → (n : ℕ) → verdicts users (inside n) e ≡ w
+    verdicts_inside w p n =
+        ap (λ o. elim o as (λ _. Verdicts) [ None ↦ from_outside users (inside n) e.request | Some y ↦ if y.mailbox.lagging then from_behind (inside n) e.request else from_inside (inside n) y.holder e.kept e.request ]) (found_inside n) ∙ p n
 
-    pub mailbox_inside : mailbox_of e.session inside ≡ Some ((open_of doc x).mailbox)
-    mailbox_inside = ap (option_map (λ (o : Open). o.mailbox)) found_inside
+    pub mailbox_inside : (n : ℕ) → mailbox_of e.session (inside n) ≡ Some ((open_of doc x).mailbox)
+    mailbox_inside n = ap (option_map (λ (o : Open). o.mailbox)) (found_inside n)
 
     gone_inside : without_id session_name e.session (opens doc (before ++ x ∷ behind)) ≡ opens doc (before ++ behind)
     gone_inside =
@@ -162,40 +162,43 @@ module _ (users : List User) (rows : List (List CellValue)) (before behind : Lis
         ∙ without_at session_name e.session (opens doc before) (opens doc behind) (open_of doc x) below above named
         ∙ sym (opens-append doc before behind)
 
-    pub answers_leaving : (v : Verdict) → (if x.lagging then from_behind inside e.request else from_inside inside x.holder e.kept e.request) ≡ answered doc None v
-        → Answers users rows rows (before ++ x ∷ behind) (before ++ behind) e (x.waiting ++ reply_text v ∷ [])
+    pub answers_leaving : (v : Verdict) → ComesTo (answered doc None v)
+        → Answers users doc doc (before ++ x ∷ behind) (before ++ behind) e (x.waiting ++ reply_text v ∷ [])
     answers_leaving v p = record {
-      state = step_by users inside e (answered doc None v) (Some ((open_of doc x).mailbox)) (verdicts_inside _ p) mailbox_inside
-          ∙ ap (λ os. let st : State = record { document = doc; added = length rows; open_sessions = os } in st) gone_inside;
-      lines_given = given_by users inside e (answered doc None v) (Some ((open_of doc x).mailbox)) (verdicts_inside _ p) mailbox_inside;
+      more = 0;
+      state = λ n. step_by users (inside n) e (answered doc None v) (Some ((open_of doc x).mailbox)) (verdicts_inside _ p n) (mailbox_inside n)
+          ∙ ap (λ os. let st : State = record { document = doc; added = n; open_sessions = os } in st) gone_inside;
+      lines_given = λ n. given_by users (inside n) e (answered doc None v) (Some ((open_of doc x).mailbox)) (verdicts_inside _ p n) (mailbox_inside n);
     }
 
-    pub answers_parting : (if x.lagging then from_behind inside e.request else from_inside inside x.holder e.kept e.request) ≡ gone_quietly
-        → Answers users rows rows (before ++ x ∷ behind) (before ++ behind) e []
+    pub answers_parting : ComesTo gone_quietly
+        → Answers users doc doc (before ++ x ∷ behind) (before ++ behind) e []
     answers_parting p = record {
-      state = step_by users inside e gone_quietly (Some ((open_of doc x).mailbox)) (verdicts_inside _ p) mailbox_inside
-          ∙ ap (λ os. let st : State = record { document = doc; added = length rows; open_sessions = os } in st) gone_inside;
-      lines_given = given_by users inside e gone_quietly (Some ((open_of doc x).mailbox)) (verdicts_inside _ p) mailbox_inside;
+      more = 0;
+      state = λ n. step_by users (inside n) e gone_quietly (Some ((open_of doc x).mailbox)) (verdicts_inside _ p n) (mailbox_inside n)
+          ∙ ap (λ os. let st : State = record { document = doc; added = n; open_sessions = os } in st) gone_inside;
+      lines_given = λ n. given_by users (inside n) e gone_quietly (Some ((open_of doc x).mailbox)) (verdicts_inside _ p n) (mailbox_inside n);
     }
 
     -- the session stays, and what waited was given
-    pub answers_staying : (v : Verdict) (y : SessionState) → HasThree rows → (if x.lagging then from_behind inside e.request else from_inside inside x.holder e.kept e.request) ≡ answered doc (Some x.holder) v
+    pub answers_staying : (v : Verdict) (y : SessionState) → IsWhole doc → ComesTo (answered doc (Some x.holder) v)
         → open_of doc y ≡ open_with doc e.session x.holder x.made [] x.lagging
-        → Answers users rows rows (before ++ x ∷ behind) (before ++ y ∷ behind) e (x.waiting ++ reply_text v ∷ [])
+        → Answers users doc doc (before ++ x ∷ behind) (before ++ y ∷ behind) e (x.waiting ++ reply_text v ∷ [])
     answers_staying v y w p f =
         let m : Mailbox = (open_of doc x).mailbox in
         let new : Open = open_with doc e.session x.holder x.made [] x.lagging in
-        let none : changes m.view m.view ≡ [] = changes-again x.holder.user rows w in
+        let none : changes m.view m.view ≡ [] = changes-again x.holder.user doc w in
         let placed : place session_name new (opens doc (before ++ x ∷ behind)) ≡ opens doc (before ++ y ∷ behind) =
         ap (place session_name new) (opens-append doc before (x ∷ behind))
         ∙ place_at session_name e.session (opens doc before) (opens doc behind) new (open_of doc x) refl named below
         ∙ ap (λ o. opens doc before ++ o ∷ opens doc behind) (sym f)
         ∙ sym (opens-append doc before (y ∷ behind)) in
         record {
-          state = step_by users inside e (answered doc (Some x.holder) v) (Some m) (verdicts_inside _ p) mailbox_inside
-              ∙ ap (λ as'. let st : State = record { document = doc; added = length rows; open_sessions = with_session e.session (Some x.holder) (Some (emptied (posted_if_any m.view as' (emptied m)))) (opens doc (before ++ x ∷ behind)) } in st) none
-              ∙ ap (λ os. let st : State = record { document = doc; added = length rows; open_sessions = os } in st) placed;
-          lines_given = given_by users inside e (answered doc (Some x.holder) v) (Some m) (verdicts_inside _ p) mailbox_inside
+          more = 0;
+          state = λ n. step_by users (inside n) e (answered doc (Some x.holder) v) (Some m) (verdicts_inside _ p n) (mailbox_inside n)
+              ∙ ap (λ as'. let st : State = record { document = doc; added = n; open_sessions = with_session e.session (Some x.holder) (Some (emptied (posted_if_any m.view as' (emptied m)))) (opens doc (before ++ x ∷ behind)) } in st) none
+              ∙ ap (λ os. let st : State = record { document = doc; added = n; open_sessions = os } in st) placed;
+          lines_given = λ n. given_by users (inside n) e (answered doc (Some x.holder) v) (Some m) (verdicts_inside _ p n) (mailbox_inside n)
               ∙ ap (λ as'. x.waiting ++ (posted_if_any m.view as' (emptied m)).waiting ++ reply_text v ∷ []) none
               ∙ ap (λ ls. ls ++ reply_text v ∷ []) (append-nil x.waiting);
         }

@@ -5,18 +5,19 @@ use Rattle.std.proofs.Math.Nat.{le-min, min-le_left, min-le_right}
 use Rattle.std.proofs.lemmas.List.{length-append, take-append-drop}
 use Rattle.std.proofs.lemmas.List.Sums.{sum_by-append}
 use Rattle.std.specs.List.{AllByRecursion}
-use Rattle.cell_types.specs.declared.value.CellValue.{CellValue}
 use Rattle.doc_model.specs.declared.entry.Entry.{Entry}
 use Rattle.doc_model.specs.declared.request.Request.{Request}
 use Rattle.doc_model.specs.declared.request.Request.TheVariants as request
 use Rattle.doc_model.specs.declared.user.User.{User}
 use Rattle.doc_model.specs.ByIds.{precedes, find_id, IsByIds}
 use Rattle.doc_model.specs.Document.{Document}
+use Rattle.doc_model.specs.DocumentLaws.{IsWhole}
 use Rattle.doc_model.specs.NewDocument.{new_document}
 use Rattle.doc_model.proofs.Choices.{each_weaker, each_mapped, each_unmapped}
+use Rattle.user_actions.specs.declared.tally.Tally.{Tally}
+use Rattle.user_actions.specs.Tallies.{IsTally}
 use Rattle.bundle_core.specs.Core.{state_after, entry_bound, size_bound, size_of, is_gone, is_full, bytes_left, counted, IsCore}
 use Rattle.bundle_core.specs.Desk.{AreSame, Answers, Finds, IsCounted, kept_name, Misses, state_of}
-use Rattle.bundle_core.specs.Held.{document_of, HasThree}
 use Rattle.bundle_core.specs.Mailbox.{Mailbox, own, quiet}
 use Rattle.bundle_core.specs.SessionState.{SessionState, open_of}
 use Rattle.bundle_core.specs.State.{State, Open, Verdicts, session_name, session_of, mailbox_of, turn_of, opening, run, step, after_turn, verdicts, given, from_outside, from_inside, from_behind}
@@ -78,9 +79,6 @@ gone_good n users st e is g =
     let P : Verdicts → Type 0 = λ v. IsGood n (after_turn st e v).open_sessions in
     subst P (sym (verdicts_gone users st e is)) (without_good n e.session st.open_sessions g)
 
-gone_added : (users : List User) (st : State) (e : Entry) → e.request ≡ request.Gone → (step users st e).added ≡ st.added
-gone_added users st e is = ap (λ v. (after_turn st e v).added) (verdicts_gone users st e is)
-
 gone_is : (r : Request) → is_gone r ≡ true → r ≡ request.Gone
 gone_is request.Gone h = refl
 gone_is request.Bad h = absurd (false≢true h)
@@ -115,78 +113,78 @@ counted_one es e lt =
 
 -- ---- an entry
 
-module _ (users : List User) (rows rows' : List (List CellValue)) (xs xs' : List SessionState) (es : List Entry) (e : Entry) (lines : List (List ℕ)) (bytes : Option ℕ)
-    (k : IsCore users es rows xs bytes) (a : Answers users rows rows' xs xs' e lines) where
+module _ (users : List User) (s s' : Document) (tally : Tally) (xs xs' : List SessionState) (es : List Entry) (e : Entry) (lines : List (List ℕ)) (bytes : Option ℕ)
+    (k : IsCore users es s tally xs bytes) (a : Answers users s s' xs xs' e lines) where
   abbrev more : List Entry
   more = es ++ e ∷ []
 
   abbrev st : State
-  st = state_of rows xs
+  st = state_of s k.added xs
 
-  leads : state_after users more ≡ state_of rows' xs'
-  leads = run_append users (opening new_document) es e ∙ ap (λ s. step users s e) k.state ∙ a.state
+  leads : state_after users more ≡ state_of s' (a.more + k.added) xs'
+  leads = run_append users (opening new_document) es e ∙ ap (λ t. step users t e) k.state ∙ a.state k.added
 
   was_good : IsGood (counted es) st.open_sessions
-  was_good = opens_good (document_of rows) (counted es) xs k.by_name k.few
+  was_good = opens_good s (counted es) xs k.by_name k.few
 
   pub lines_at : lines ≡ given users (state_after users es) e
-  lines_at = sym a.lines_given ∙ ap (λ s. given users s e) (sym k.state)
+  lines_at = sym (a.lines_given k.added) ∙ ap (λ t. given users t e) (sym k.state)
 
-  from_good : (bytes' : Option ℕ) → HasThree rows' → length rows' ≤ counted more → IsGood (counted more) (step users st e).open_sessions → bytes' ≡ bytes_left (sum_by size_of more) → IsCore users more rows' xs' bytes'
-  from_good bytes' three few g left =
-      let P : State → Type 0 = λ s. IsGood (counted more) s.open_sessions in
-      let g' : IsGood (counted more) (map (open_of (document_of rows')) xs') = subst P a.state g in
-      record { state = leads; three = three; few_rows = few; by_name = kept_by_name (document_of rows') xs' g'.by_name; few = kept_few (document_of rows') (counted more) xs' g'; left = left }
+  from_good : (tally' : Tally) (bytes' : Option ℕ) → IsWhole s' → IsTally s' tally' → IsGood (counted more) (step users st e).open_sessions → bytes' ≡ bytes_left (sum_by size_of more) → IsCore users more s' tally' xs' bytes'
+  from_good tally' bytes' whole is g left =
+      let P : State → Type 0 = λ t. IsGood (counted more) t.open_sessions in
+      let g' : IsGood (counted more) (map (open_of s') xs') = subst P (a.state k.added) g in
+      record { added = a.more + k.added; state = leads; whole = whole; tally = is; by_name = kept_by_name s' xs' g'.by_name; few = kept_few s' (counted more) xs' g'; left = left }
 
   -- where there was room
-  core_roomy : (bytes' : Option ℕ) → HasThree rows' → length rows' ≤ length rows + 1 → length es < entry_bound → bytes' ≡ bytes_left (sum_by size_of more) → IsCore users more rows' xs' bytes'
-  core_roomy bytes' three one lt left =
+  core_roomy : (tally' : Tally) (bytes' : Option ℕ) → IsWhole s' → IsTally s' tally' → length es < entry_bound → bytes' ≡ bytes_left (sum_by size_of more) → IsCore users more s' tally' xs' bytes'
+  core_roomy tally' bytes' whole is lt left =
       let c = counted_one es e lt in
-      from_good bytes' three (omega (arith, one, k.few_rows, c)) (more_good (counted es + 1) (counted more) _ c (step_good (counted es) users st e was_good)) left
+      from_good tally' bytes' whole is (more_good (counted es + 1) (counted more) _ c (step_good (counted es) users st e was_good)) left
 
   -- at the end of a connection
-  core_gone : (bytes' : Option ℕ) → HasThree rows' → e.request ≡ request.Gone → bytes' ≡ bytes_left (sum_by size_of more) → IsCore users more rows' xs' bytes'
-  core_gone bytes' three is left =
+  core_gone : (tally' : Tally) (bytes' : Option ℕ) → IsWhole s' → IsTally s' tally' → e.request ≡ request.Gone → bytes' ≡ bytes_left (sum_by size_of more) → IsCore users more s' tally' xs' bytes'
+  core_gone tally' bytes' whole is gone left =
       let c = counted_more es e in
-      let same : length rows' ≡ length rows = sym (ap (λ (s : State). s.added) a.state) ∙ gone_added users st e is in
-      from_good bytes' three (omega (arith, same, k.few_rows, c)) (more_good (counted es) (counted more) _ c (gone_good (counted es) users st e is was_good)) left
+      from_good tally' bytes' whole is (more_good (counted es) (counted more) _ c (gone_good (counted es) users st e gone was_good)) left
 
   -- what was not full has room, or is the end of a connection
-  pub core_after : (bytes' : Option ℕ) → HasThree rows' → length rows' ≤ length rows + 1 → is_full es e.request e.size ≡ false → bytes' ≡ bytes_left (sum_by size_of es + e.size) → IsCore users more rows' xs' bytes'
-  core_after bytes' three one room left =
+  pub core_after : (tally' : Tally) (bytes' : Option ℕ) → IsWhole s' → IsTally s' tally' → is_full es e.request e.size ≡ false → bytes' ≡ bytes_left (sum_by size_of es + e.size) → IsCore users more s' tally' xs' bytes'
+  core_after tally' bytes' whole is room left =
       let all = sum_by-append size_of es (e ∷ []) in
       let sums : sum_by size_of more ≡ sum_by size_of es + e.size = omega (arith, all) in
       let left' : bytes' ≡ bytes_left (sum_by size_of more) = left ∙ ap bytes_left (sym sums) in
-      elim (is_gone e.request) as (λ g. is_gone e.request ≡ g → (not g && (nat_le entry_bound (length es) || nat_lt size_bound (sum_by size_of es + e.size))) ≡ false → IsCore users more rows' xs' bytes') [
-        | true ↦ λ gone _. core_gone bytes' three (gone_is e.request gone) left'
-        | false ↦ λ _ r. core_roomy bytes' three one (short es (or_false (nat_le entry_bound (length es)) _ r)) left'
+      elim (is_gone e.request) as (λ g. is_gone e.request ≡ g → (not g && (nat_le entry_bound (length es) || nat_lt size_bound (sum_by size_of es + e.size))) ≡ false → IsCore users more s' tally' xs' bytes') [
+        | true ↦ λ gone _. core_gone tally' bytes' whole is (gone_is e.request gone) left'
+        | false ↦ λ _ r. core_roomy tally' bytes' whole is (short es (or_false (nat_le entry_bound (length es)) _ r)) left'
       ] refl room
 
 -- ---- sessions that are the same
 
-pub core_same : (users : List User) (es : List Entry) (rows rows' : List (List CellValue)) (xs ys : List SessionState) (bytes : Option ℕ) → rows' ≡ rows → AreSame xs ys → IsCore users es rows xs bytes → IsCore users es rows' ys bytes
-core_same users es rows rows' xs ys bytes e same k =
-    let P : List (List CellValue) → Type 0 = λ r. IsCore users es r ys bytes in
+pub core_same : (users : List User) (es : List Entry) (s s' : Document) (tally tally' : Tally) (xs ys : List SessionState) (bytes : Option ℕ) → s' ≡ s → IsTally s' tally' → AreSame xs ys → IsCore users es s tally xs bytes → IsCore users es s' tally' ys bytes
+core_same users es s s' tally tally' xs ys bytes e is same k =
+    let T : Document → Type 0 = λ d. IsTally d tally' in
+    let P : Document → Type 0 = λ d. IsCore users es d tally' ys bytes in
     let Q : List Open → Type 0 = λ os. IsGood (counted es) os in
-    let g : IsGood (counted es) (map (open_of (document_of rows)) ys) = subst Q (sym (same (document_of rows))) (opens_good (document_of rows) (counted es) xs k.by_name k.few) in
+    let g : IsGood (counted es) (map (open_of s) ys) = subst Q (sym (same s)) (opens_good s (counted es) xs k.by_name k.few) in
     subst P (sym e) (record {
-      state = k.state ∙ ap (λ os. let s : State = record { document = document_of rows; added = length rows; open_sessions = os } in s) (sym (same (document_of rows)));
-      three = k.three;
-      few_rows = k.few_rows;
-      by_name = kept_by_name (document_of rows) ys g.by_name;
-      few = kept_few (document_of rows) (counted es) ys g;
+      added = k.added;
+      state = k.state ∙ ap (λ os. let t : State = record { document = s; added = k.added; open_sessions = os } in t) (sym (same s));
+      whole = k.whole;
+      tally = subst T e is;
+      by_name = kept_by_name s ys g.by_name;
+      few = kept_few s (counted es) ys g;
       left = k.left;
     })
 
 -- ---- whether a session is open
 
-module _ (users : List User) (es : List Entry) (rows : List (List CellValue)) (xs : List SessionState) (bytes : Option ℕ) (name : List ℕ) (k : IsCore users es rows xs bytes) where
-  found_as : (o : Option Open) → find_id session_name name (map (open_of (document_of rows)) xs) ≡ o → is_some (session_of name (state_after users es)) ≡ is_some o
-  found_as o f = ap (λ s. is_some (session_of name s)) k.state ∙ ap is_some f
+module _ (users : List User) (es : List Entry) (s : Document) (tally : Tally) (xs : List SessionState) (bytes : Option ℕ) (name : List ℕ) (k : IsCore users es s tally xs bytes) where
+  found_as : (o : Option Open) → find_id session_name name (map (open_of s) xs) ≡ o → is_some (session_of name (state_after users es)) ≡ is_some o
+  found_as o f = ap (λ t. is_some (session_of name t)) k.state ∙ ap is_some f
 
   pub open_found : (p : ℕ) → Finds name xs p → is_some (session_of name (state_after users es)) ≡ true
   open_found p f =
-      let s : Document = document_of rows in
       let x = get_or xs p some_session in
       let P : List SessionState → Type 0 = λ l. find_id session_name name (opens s l) ≡ Some (open_of s x) in
       found_as (Some (open_of s x)) (subst P (around xs p some_session f.within)
@@ -195,7 +193,6 @@ module _ (users : List User) (es : List Entry) (rows : List (List CellValue)) (x
 
   pub open_missed : (p : ℕ) → Misses name xs p → is_some (session_of name (state_after users es)) ≡ false
   open_missed p m =
-      let s : Document = document_of rows in
       let P : List SessionState → Type 0 = λ l. find_id session_name name (opens s l) ≡ None in
       found_as None (subst P (take-append-drop p xs)
       (ap (find_id session_name name) (opens-append s (take p xs) (drop p xs))
@@ -204,13 +201,3 @@ module _ (users : List User) (es : List Entry) (rows : List (List CellValue)) (x
   pub open_as : (r : Result ℕ ℕ) → MatchResult r (λ p. Finds name xs p) (λ p. Misses name xs p) → is_ok r ≡ is_some (session_of name (state_after users es))
   open_as (Ok p) f = sym (open_found p f)
   open_as (Err p) m = sym (open_missed p m)
-
--- where the session of an entry without effect is not open, nothing is given
-pub given_none : (users : List User) (st : State) (e : Entry) → e.request ≡ request.Gone → is_some (session_of e.session st) ≡ false → given users st e ≡ []
-given_none users st e is closed =
-    let m : Option Mailbox = mailbox_of e.session st in
-    ap (λ v. (turn_of st e v).lines) (verdicts_gone users st e is)
-    ∙ elim (session_of e.session st) as (λ o. is_some o ≡ false → (own (option_map (λ (x : Open). x.mailbox) o) e.request quiet None).lines ≡ []) [
-      | None ↦ λ _. ap (λ r. (own None r quiet None).lines) is
-      | Some x ↦ λ found. absurd (false≢true (sym found))
-    ] closed

@@ -19,7 +19,7 @@ use Rattle.grist_json.specs.Lines.{stream_text}
 use Rattle.bundle_core.specs.Judgement.{Judgement, accepted, refused, judge}
 use Rattle.bundle_core.specs.Mailbox.{Mailbox, Outcome, quiet, shows_view, says, own, due, posted, posted_if_any, emptied, is_full}
 use Rattle.bundle_core.specs.State.{State, Open, Holder, Verdicts, session_name, session_of, mailbox_of, posted_to, posted_all, with_session, turn_of, step, verdicts, from_outside, from_inside, from_behind, opened, bundle_of, user_of, answered, refusal, session_bound}
-use Rattle.bundle_core.specs.View.{view}
+use Rattle.bundle_core.specs.View.{is_owner, view}
 
 -- nothing of a session is counted past n
 pub record IsBelow (n : ℕ) (o : Open) : Type 0 where
@@ -74,11 +74,11 @@ inside_few : (n : ℕ) (st : State) (h : Holder) (kept : Bool) (r : Request) →
 inside_few n st h kept request.Bad le = omega (arith, le)
 inside_few n st h kept request.TooLong le = omega (arith, le)
 inside_few n st h kept (request.Open token) le = omega (arith, le)
-inside_few n st h kept (request.Apply actions) le = bundle_few n h st.document kept (judge st.document actions) le
+inside_few n st h kept (request.Apply actions) le = bundle_few n h st.document kept (judge (is_owner h.user) st.document actions) le
 inside_few n st h kept (request.Undo bundle) le = omega (arith, le)
 inside_few n st h kept request.Sync le = omega (arith, le)
 inside_few n st h kept (request.Fetch table) le = omega (arith, le)
-inside_few n st h kept request.Close le = omega (arith, le)
+inside_few n st h kept request.Close le = tt
 inside_few n st h kept request.Gone le = tt
 
 behind_few : (n : ℕ) (st : State) (r : Request) → HoldsFew (n + 1) (from_behind st r).holder

@@ -1,12 +1,16 @@
 pub mod Answering
 pub mod Bundling
 pub mod CoreLaws
+pub mod FormLemmas
 pub mod Inside
 pub mod Keeping
 pub mod Outside
 pub mod Places
 pub mod Prepared
 pub mod Readied
+pub mod RulingLemmas
 pub mod SessionLaws
 pub mod Spots
 pub mod ToldLaws
+pub mod ViewLaws
+pub mod WayLemmas

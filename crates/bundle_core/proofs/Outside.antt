@@ -1,25 +1,23 @@
 -- How entries of sessions that are not open are answered.
 use Rattle.std.proofs.Common.{◌≡◌, ℕ, Bool, true, false, List, [], ◌∷◌, ◌++◌, take, drop, length, nat_le, Option, Some, None, refl, sym, ap, subst, ◌∙◌, if◌then◌else◌}
 use Rattle.std.proofs.lemmas.List.{take-append-drop}
-use Rattle.cell_types.specs.declared.value.CellValue.{CellValue}
 use Rattle.doc_model.specs.declared.entry.Entry.{Entry}
 use Rattle.doc_model.specs.declared.limit.LimitKind.TheVariants as limit
 use Rattle.doc_model.specs.declared.request.Request.{Request}
 use Rattle.doc_model.specs.declared.request.Request.TheVariants as request
 use Rattle.doc_model.specs.declared.user.User.{User}
 use Rattle.doc_model.specs.Changes.{changes}
+use Rattle.doc_model.specs.Document.{Document}
 use Rattle.doc_model.proofs.Choices.{length_map}
 use Rattle.grist_json.specs.declared.verdict.Verdict.TheVariants as verdict
 use Rattle.grist_json.specs.Lines.{reply_text}
 use Rattle.bundle_core.specs.Desk.{state_of, Misses, Answers}
-use Rattle.bundle_core.specs.Held.{document_of, HasThree, opening_actions}
 use Rattle.bundle_core.specs.Mailbox.{quiet, shows_view, replies}
 use Rattle.bundle_core.specs.Requests.{refusal_outside}
 use Rattle.bundle_core.specs.SessionState.{SessionState, open_of}
-use Rattle.bundle_core.specs.State.{State, Verdicts, answered, refusal, from_outside, user_of, session_bound, bundle_refusal}
+use Rattle.bundle_core.specs.State.{State, Verdicts, answered, refusal, from_outside, user_of, session_bound}
 use Rattle.bundle_core.specs.View.{view}
 use Rattle.bundle_core.proofs.Answering.{answers_outside, answers_gone, answers_opened, open_with}
-use Rattle.bundle_core.proofs.HeldLaws.{view-document_of, changes-opening}
 
 numbered_refusal : (m n : ℕ) (st : State) → ◌≡◌ {A = Option ℕ} (Some m) (Some n) → answered st.document None (refusal m) ≡ answered st.document None (refusal n)
 numbered_refusal m n st e = let same : m ≡ n = cc in ap (λ k. answered st.document None (refusal k)) same
@@ -29,11 +27,11 @@ code_outside users st request.Bad n e = numbered_refusal 1 n st e
 code_outside users st request.TooLong n e = numbered_refusal 2 n st e
 code_outside users st (request.Open token) n e = absurd (cc)
 code_outside users st request.Gone n e = absurd (cc)
-code_outside users st (request.Apply actions) n e = numbered_refusal (bundle_refusal actions) n st e
+code_outside users st (request.Apply actions) n e = numbered_refusal 3 n st e
 code_outside users st (request.Undo bundle) n e = numbered_refusal 1 n st e
 code_outside users st request.Sync n e = numbered_refusal 3 n st e
 code_outside users st (request.Fetch table) n e = numbered_refusal 1 n st e
-code_outside users st request.Close n e = numbered_refusal 1 n st e
+code_outside users st request.Close n e = numbered_refusal 3 n st e
 
 gone_outside : (users : List User) (st : State) (r : Request) → refusal_outside r ≡ None → ((token : List ℕ) → r ≡ request.Open token → ⊥)
     → from_outside users st r ≡ record { outcome = quiet; document = st.document; is_bundle = false; holder = None }
@@ -48,66 +46,64 @@ gone_outside users st (request.Fetch table) e other = absurd (cc)
 gone_outside users st request.Close e other = absurd (cc)
 
 -- the same lines in other words
-pub answers_by : (users : List User) (rows rows' : List (List CellValue)) (xs ys : List SessionState) (e : Entry) (ls ms : List (List ℕ)) → ms ≡ ls → Answers users rows rows' xs ys e ls → Answers users rows rows' xs ys e ms
-answers_by users rows rows' xs ys e ls ms same h = let P : List (List ℕ) → Type 0 = λ l. Answers users rows rows' xs ys e l in subst P (sym same) h
+pub answers_by : (users : List User) (s s' : Document) (xs ys : List SessionState) (e : Entry) (ls ms : List (List ℕ)) → ms ≡ ls → Answers users s s' xs ys e ls → Answers users s s' xs ys e ms
+answers_by users s s' xs ys e ls ms same h = let P : List (List ℕ) → Type 0 = λ l. Answers users s s' xs ys e l in subst P (sym same) h
 
-module _ (users : List User) (rows : List (List CellValue)) (xs : List SessionState) (place : ℕ) (e : Entry) (m : Misses e.session xs place) where
-  abbrev split : State
-  split = state_of rows (take place xs ++ drop place xs)
+module _ (users : List User) (s : Document) (xs : List SessionState) (place : ℕ) (e : Entry) (m : Misses e.session xs place) where
+  abbrev split : ℕ → State
+  split k = state_of s k (take place xs ++ drop place xs)
 
-  pub miss_refused : (n : ℕ) → refusal_outside e.request ≡ Some n → Answers users rows rows xs xs e (reply_text (refusal n) ∷ [])
+  pub miss_refused : (n : ℕ) → refusal_outside e.request ≡ Some n → Answers users s s xs xs e (reply_text (refusal n) ∷ [])
   miss_refused n q =
-      let P : List SessionState → Type 0 = λ l. Answers users rows rows l l e (reply_text (refusal n) ∷ []) in
-      subst P (take-append-drop place xs) (answers_outside users rows (take place xs) (drop place xs) e m.spot (refusal n) (code_outside users split e.request n q))
+      let P : List SessionState → Type 0 = λ l. Answers users s s l l e (reply_text (refusal n) ∷ []) in
+      subst P (take-append-drop place xs) (answers_outside users s (take place xs) (drop place xs) e m.spot (refusal n) (λ k. code_outside users (split k) e.request n q))
 
-  pub miss_gone : refusal_outside e.request ≡ None → ((token : List ℕ) → e.request ≡ request.Open token → ⊥) → Answers users rows rows xs xs e []
+  pub miss_gone : refusal_outside e.request ≡ None → ((token : List ℕ) → e.request ≡ request.Open token → ⊥) → Answers users s s xs xs e []
   miss_gone q other =
-      let P : List SessionState → Type 0 = λ l. Answers users rows rows l l e [] in
-      subst P (take-append-drop place xs) (answers_gone users rows (take place xs) (drop place xs) e m.spot (gone_outside users split e.request q other))
+      let P : List SessionState → Type 0 = λ l. Answers users s s l l e [] in
+      subst P (take-append-drop place xs) (answers_gone users s (take place xs) (drop place xs) e m.spot (λ k. gone_outside users (split k) e.request q other))
 
-  pub miss_unknown : (token : List ℕ) → e.request ≡ request.Open token → user_of users token ≡ None → Answers users rows rows xs xs e (reply_text (refusal 5) ∷ [])
+  pub miss_unknown : (token : List ℕ) → e.request ≡ request.Open token → user_of users token ≡ None → Answers users s s xs xs e (reply_text (refusal 5) ∷ [])
   miss_unknown token asks none =
-      let P : List SessionState → Type 0 = λ l. Answers users rows rows l l e (reply_text (refusal 5) ∷ []) in
-      subst P (take-append-drop place xs) (answers_outside users rows (take place xs) (drop place xs) e m.spot (refusal 5)
-      (ap (from_outside users split) asks
+      let P : List SessionState → Type 0 = λ l. Answers users s s l l e (reply_text (refusal 5) ∷ []) in
+      subst P (take-append-drop place xs) (answers_outside users s (take place xs) (drop place xs) e m.spot (refusal 5)
+      (λ k. ap (from_outside users (split k)) asks
       ∙ ap (λ o. elim o as (λ _. Verdicts) [
-        | None ↦ answered split.document None (refusal 5)
-        | Some user ↦ if nat_le session_bound (length split.open_sessions)
-            then answered split.document None (verdict.Limited limit.Sessions session_bound None)
-            else record { outcome = shows_view; document = split.document; is_bundle = false; holder = Some (record { user = user; bundles = 0 }) }
+        | None ↦ answered s None (refusal 5)
+        | Some user ↦ if nat_le session_bound (length (split k).open_sessions)
+            then answered s None (verdict.Limited limit.Sessions session_bound None)
+            else record { outcome = shows_view; document = s; is_bundle = false; holder = Some (record { user = user; bundles = 0 }) }
       ]) none))
 
   by_room : (token : List ℕ) (user : User) (full : Bool) → e.request ≡ request.Open token → user_of users token ≡ Some user → nat_le session_bound (length xs) ≡ full
-      → from_outside users split e.request ≡ (if full
-      then answered split.document None (verdict.Limited limit.Sessions session_bound None)
-      else record { outcome = shows_view; document = split.document; is_bundle = false; holder = Some (record { user = user; bundles = 0 }) })
-  by_room token user full asks some count =
-      ap (from_outside users split) asks
+      → (k : ℕ) → from_outside users (split k) e.request ≡ (if full
+      then answered s None (verdict.Limited limit.Sessions session_bound None)
+      else record { outcome = shows_view; document = s; is_bundle = false; holder = Some (record { user = user; bundles = 0 }) })
+  by_room token user full asks some count k =
+      ap (from_outside users (split k)) asks
       ∙ ap (λ o. elim o as (λ _. Verdicts) [
-        | None ↦ answered split.document None (refusal 5)
-        | Some u ↦ if nat_le session_bound (length split.open_sessions)
-            then answered split.document None (verdict.Limited limit.Sessions session_bound None)
-            else record { outcome = shows_view; document = split.document; is_bundle = false; holder = Some (record { user = u; bundles = 0 }) }
+        | None ↦ answered s None (refusal 5)
+        | Some u ↦ if nat_le session_bound (length (split k).open_sessions)
+            then answered s None (verdict.Limited limit.Sessions session_bound None)
+            else record { outcome = shows_view; document = s; is_bundle = false; holder = Some (record { user = u; bundles = 0 }) }
       ]) some
       ∙ ap (λ f. if f
-      then answered split.document None (verdict.Limited limit.Sessions session_bound None)
-      else record { outcome = shows_view; document = split.document; is_bundle = false; holder = Some (record { user = user; bundles = 0 }) })
-      (ap (nat_le session_bound) (length_map (open_of (document_of rows)) (take place xs ++ drop place xs) ∙ ap length (take-append-drop place xs)) ∙ count)
+      then answered s None (verdict.Limited limit.Sessions session_bound None)
+      else record { outcome = shows_view; document = s; is_bundle = false; holder = Some (record { user = user; bundles = 0 }) })
+      (ap (nat_le session_bound) (length_map (open_of s) (take place xs ++ drop place xs) ∙ ap length (take-append-drop place xs)) ∙ count)
 
   pub miss_full : (token : List ℕ) (user : User) → e.request ≡ request.Open token → user_of users token ≡ Some user → nat_le session_bound (length xs) ≡ true
-      → Answers users rows rows xs xs e (reply_text (verdict.Limited limit.Sessions session_bound None) ∷ [])
+      → Answers users s s xs xs e (reply_text (verdict.Limited limit.Sessions session_bound None) ∷ [])
   miss_full token user asks some count =
-      let P : List SessionState → Type 0 = λ l. Answers users rows rows l l e (reply_text (verdict.Limited limit.Sessions session_bound None) ∷ []) in
-      subst P (take-append-drop place xs) (answers_outside users rows (take place xs) (drop place xs) e m.spot (verdict.Limited limit.Sessions session_bound None) (by_room token user true asks some count))
+      let P : List SessionState → Type 0 = λ l. Answers users s s l l e (reply_text (verdict.Limited limit.Sessions session_bound None) ∷ []) in
+      subst P (take-append-drop place xs) (answers_outside users s (take place xs) (drop place xs) e m.spot (verdict.Limited limit.Sessions session_bound None) (by_room token user true asks some count))
 
-  pub miss_opened : (token : List ℕ) (user : User) (x : SessionState) → HasThree rows → e.request ≡ request.Open token → user_of users token ≡ Some user → nat_le session_bound (length xs) ≡ false
-      → open_of (document_of rows) x ≡ open_with (document_of rows) e.session (record { user = user; bundles = 0 }) 0 [] false
-      → Answers users rows rows xs (take place xs ++ x ∷ drop place xs) e (reply_text (verdict.Changes (opening_actions user rows)) ∷ [])
-  miss_opened token user x w asks some count f =
-      let P : List SessionState → Type 0 = λ l. Answers users rows rows l (take place xs ++ x ∷ drop place xs) e (reply_text (verdict.Changes (opening_actions user rows)) ∷ []) in
-      let Q : List (List ℕ) → Type 0 = λ ls. Answers users rows rows (take place xs ++ drop place xs) (take place xs ++ x ∷ drop place xs) e ls in
-      let line : replies e.request shows_view (view user (document_of rows)) ≡ reply_text (verdict.Changes (opening_actions user rows)) ∷ [] =
-      ap (λ r. replies r shows_view (view user (document_of rows))) asks
-      ∙ ap (λ v. reply_text (verdict.Changes (changes [] v)) ∷ []) (view-document_of user rows w)
-      ∙ ap (λ as'. reply_text (verdict.Changes as') ∷ []) (changes-opening user rows) in
-      subst P (take-append-drop place xs) (subst Q line (answers_opened users rows (take place xs) (drop place xs) e m.spot user x (by_room token user false asks some count) f))
+  pub miss_opened : (token : List ℕ) (user : User) (x : SessionState) → e.request ≡ request.Open token → user_of users token ≡ Some user → nat_le session_bound (length xs) ≡ false
+      → open_of s x ≡ open_with s e.session (record { user = user; bundles = 0 }) 0 [] false
+      → Answers users s s xs (take place xs ++ x ∷ drop place xs) e (reply_text (verdict.Changes (changes [] (view user s))) ∷ [])
+  miss_opened token user x asks some count f =
+      let P : List SessionState → Type 0 = λ l. Answers users s s l (take place xs ++ x ∷ drop place xs) e (reply_text (verdict.Changes (changes [] (view user s))) ∷ []) in
+      let Q : List (List ℕ) → Type 0 = λ ls. Answers users s s (take place xs ++ drop place xs) (take place xs ++ x ∷ drop place xs) e ls in
+      let line : replies e.request shows_view (view user s) ≡ reply_text (verdict.Changes (changes [] (view user s))) ∷ [] =
+      ap (λ r. replies r shows_view (view user s)) asks in
+      subst P (take-append-drop place xs) (subst Q line (answers_opened users s (take place xs) (drop place xs) e m.spot user x (by_room token user false asks some count) f))

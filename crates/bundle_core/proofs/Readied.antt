@@ -1,11 +1,10 @@
 -- Sessions that are the same but for lines that are ready.
-use Rattle.std.proofs.Common.{append_assoc, ◌≡◌, ℕ, suc, zero, ◌+◌, ◌<◌, ◌^◌, false, List, [], ◌∷◌, ◌++◌, map, length, get_or, Some, None, option_to_list, refl, sym, ap, subst, ◌∙◌, arith, if◌then◌else◌}
+use Rattle.std.proofs.Common.{◌≡◌, Bool, ℕ, suc, zero, ◌+◌, ◌<◌, ◌^◌, false, List, [], ◌∷◌, ◌++◌, map, length, get_or, Some, None, option_to_list, refl, sym, ap, subst, ◌∙◌, arith, if◌then◌else◌}
 use Rattle.std.specs.List.{AllByRecursion}
 use Rattle.doc_model.specs.declared.view.ViewAction.{ViewAction}
 use Rattle.doc_model.specs.NewDocument.{new_document}
 use Rattle.doc_model.proofs.Choices.{each_mapped, each_unmapped}
-use Rattle.grist_json.specs.Lines.{stream_text}
-use Rattle.bundle_core.specs.Desk.{AreSame, Bundles, Posts, bundle_number}
+use Rattle.bundle_core.specs.Desk.{AreSame, bundle_number}
 use Rattle.bundle_core.specs.SessionState.{SessionState, open_of, IsReady, MayPost}
 use Rattle.bundle_core.specs.State.{Open}
 
@@ -15,12 +14,12 @@ each_same P old new h k =
     let Q : List Open → Type 0 = λ os. AllByRecursion P os in
     each_unmapped P (open_of new_document) new (subst Q (sym (h new_document)) (each_mapped P (open_of new_document) old k))
 
-may_post : (actions : List ViewAction) (xs : List SessionState) → AllByRecursion (λ x. x.made < 2 ^ 62) xs → AllByRecursion (IsReady actions) xs → AllByRecursion MayPost xs
-may_post actions [] h k = tt
-may_post actions (x ∷ xs) h k = (record { room = k.0.room; few = omega (arith, h.0) }, may_post actions xs h.1 k.1)
+may_post : (told : Bool → List ViewAction) (xs : List SessionState) → AllByRecursion (λ x. x.made < 2 ^ 62) xs → AllByRecursion (IsReady told) xs → AllByRecursion MayPost xs
+may_post told [] h k = tt
+may_post told (x ∷ xs) h k = (record { room = k.0.room; few = omega (arith, h.0) }, may_post told xs h.1 k.1)
 
-pub all_may_post : (actions : List ViewAction) (old new : List SessionState) → AreSame old new → AllByRecursion (λ x. x.made < 2 ^ 62) old → AllByRecursion (IsReady actions) new → AllByRecursion MayPost new
-all_may_post actions old new h k r = may_post actions new (each_same (λ (o : Open). o.mailbox.made < 2 ^ 62) old new h k) r
+pub all_may_post : (told : Bool → List ViewAction) (old new : List SessionState) → AreSame old new → AllByRecursion (λ x. x.made < 2 ^ 62) old → AllByRecursion (IsReady told) new → AllByRecursion MayPost new
+all_may_post told old new h k r = may_post told new (each_same (λ (o : Open). o.mailbox.made < 2 ^ 62) old new h k) r
 
 few_more : (xs : List SessionState) → AllByRecursion (λ x. x.holder.bundles < 2 ^ 62) xs → AllByRecursion (λ x. x.holder.bundles < 2 ^ 63) xs
 few_more [] h = tt
@@ -44,28 +43,7 @@ bundle_number-is [] i d lt = absurd (omega (arith, lt))
 bundle_number-is (x ∷ xs) zero d lt = refl
 bundle_number-is (x ∷ xs) (suc i) d lt = bundle_number-is xs i d (omega (arith, lt))
 
-ready_at : (actions : List ViewAction) (xs : List SessionState) (i : ℕ) (d : SessionState) → i < length xs → AllByRecursion (IsReady actions) xs → IsReady actions (get_or xs i d)
-ready_at actions [] i d lt h = absurd (omega (arith, lt))
-ready_at actions (x ∷ xs) zero d lt h = h.0
-ready_at actions (x ∷ xs) (suc i) d lt h = ready_at actions xs i d (omega (arith, lt)) h.1
-
-pub bundles_from : (actions : List ViewAction) (old ready new : List SessionState) (place : ℕ) (reply told : List ℕ) (lines : List (List ℕ)) → place < length ready → AreSame old ready → AllByRecursion (IsReady actions) ready
-    → ((d : SessionState) → (get_or old place d).lagging ≡ false) → Posts ready new place reply lines → reply ≡ told → Bundles old new place actions told lines
-bundles_from actions old ready new place reply told lines lt same r quick p e =
-    let line : (d : SessionState) → (get_or ready place d).ready ≡ Some (stream_text ((get_or ready place d).made + 1) actions) = λ d.
-    (ready_at actions ready place d lt r).line
-    ∙ ap (λ l. if l then None else Some (stream_text ((get_or ready place d).made + 1) actions)) (ap (λ (o : Open). o.mailbox.lagging) (same_at old ready place d same) ∙ quick d) in
-    record {
-      prepared = ready;
-      same = same;
-      ready = r;
-      after = p.after;
-      stands = p.stands;
-      emptied_box = p.emptied_box;
-      made = λ d. p.made d ∙ ap (λ o. (get_or ready place d).made + length (option_to_list o)) (line d);
-      bundles = p.bundles;
-      given_lines = λ d. p.given_lines d
-          ∙ ap (λ o. (get_or ready place d).waiting ++ option_to_list o ++ reply ∷ []) (line d)
-          ∙ append_assoc (get_or ready place d).waiting (stream_text ((get_or ready place d).made + 1) actions ∷ []) (reply ∷ [])
-          ∙ ap (λ t. (get_or ready place d).waiting ++ stream_text ((get_or ready place d).made + 1) actions ∷ t ∷ []) e;
-    }
+pub ready_at : (told : Bool → List ViewAction) (xs : List SessionState) (i : ℕ) (d : SessionState) → i < length xs → AllByRecursion (IsReady told) xs → IsReady told (get_or xs i d)
+ready_at told [] i d lt h = absurd (omega (arith, lt))
+ready_at told (x ∷ xs) zero d lt h = h.0
+ready_at told (x ∷ xs) (suc i) d lt h = ready_at told xs i d (omega (arith, lt)) h.1

@@ -32,7 +32,7 @@ pub record IsSpot (name : List ℕ) (before behind : List SessionState) : Type 0
 -- accepted bundles more
 pub record Answers (users : List User) (s s' : Document) (sessions sessions' : List SessionState) (e : Entry) (lines : List (List ℕ)) : Type 0 where
   pub more : ℕ
-  pub state : (added : ℕ) → step users (state_of s added sessions) e ≡ state_of s' (added + more) sessions'
+  pub state : (added : ℕ) → step users (state_of s added sessions) e ≡ state_of s' (more + added) sessions'
   pub lines_given : (added : ℕ) → given users (state_of s added sessions) e ≡ lines
 
 -- no session has been posted more lines, or had more bundles accepted, than there are entries

@@ -1,6 +1,7 @@
 //! What the actions of a bundle made, and what is told of it.
 
 ghost use Rattle.std.specs.Prelude.{◌≡◌, [], map, true, IfOk, is_some};
+ghost use Rattle.cell_types.specs.NameRule.{is_name};
 ghost use Rattle.doc_model.specs.DocumentLaws.{IsWhole};
 ghost use Rattle.doc_model.specs.Rows.{IsAscending};
 ghost use Rattle.user_actions.specs.Allowed.{is_allowed};

@@ -5,4 +5,4 @@ mod PartLemmasChanges
 mod PartLemmasDocument
 mod PartLemmasEdits
 mod PartLemmasViews
-mod ViewLemmas
+pub mod ViewLemmas

@@ -9,27 +9,27 @@ use Rattle.bundle_core.proofs.history_core.Core.take.Goals as goal
 pub invariant_of-self-in_err-lines : goal.invariant_of-self-in_err-lines
 invariant_of-self-in_err-lines c =
     let kept = c.self.inside in
-    let P : List Entry → Type 0 = λ es. IsCore kept.users es c.answer.new.rows.items c.answer.new.sessions.items kept.bytes_left in
+    let P : List Entry → Type 0 = λ es. IsCore kept.users es c.answer.new.tables c.answer.new.tally c.answer.new.sessions.items kept.bytes_left in
     subst P (sym c.in_ok-reserve.ensures.items)
-    (core_same kept.users kept.entries.items kept.rows.items c.answer.new.rows.items kept.sessions.items c.answer.new.sessions.items kept.bytes_left c.in_err-lines.ensures.err_rows c.in_err-lines.ensures.err c.self.invariant)
+    (core_same kept.users kept.entries.items kept.tables c.answer.new.tables kept.tally c.answer.new.tally kept.sessions.items c.answer.new.sessions.items kept.bytes_left c.in_err-lines.ensures.err_document c.in_err-lines.ensures.tally c.in_err-lines.ensures.err c.self.invariant)
 
 pub invariant_of-self-2 : goal.invariant_of-self-2
 invariant_of-self-2 c =
     let kept = c.self.inside in
     let e = c.args.entry in
-    let A : List User → Type 0 = λ users. Answers users kept.rows.items c.answer.new.rows.items kept.sessions.items c.answer.new.sessions.items e c.in_ok-lines.lines.items in
+    let A : List User → Type 0 = λ users. Answers users kept.tables c.answer.new.tables kept.sessions.items c.answer.new.sessions.items e c.in_ok-lines.lines.items in
     let answers : A kept.users = subst A c.as_slice-users.ensures c.in_ok-lines.ensures.ok in
-    let P : List Entry → Type 0 = λ es. IsCore kept.users es c.answer.new.rows.items c.answer.new.sessions.items c.left_after-self-inside.result in
+    let P : List Entry → Type 0 = λ es. IsCore kept.users es c.answer.new.tables c.answer.new.tally c.answer.new.sessions.items c.left_after-self-inside.result in
     let room : is_full kept.entries.items e.request e.size ≡ false = ap (λ (s : CoreState). is_full s.history e.request e.size) c.self.view_is ∙ c.requires.room in
     subst P (sym (c.push_reserved.ensures.items ∙ ap (λ es. es ++ e ∷ []) c.in_ok-reserve.ensures.items))
-    (core_after kept.users kept.rows.items c.answer.new.rows.items kept.sessions.items c.answer.new.sessions.items kept.entries.items e c.in_ok-lines.lines.items kept.bytes_left c.self.invariant answers
-    c.left_after-self-inside.result c.in_ok-lines.ensures.three c.in_ok-lines.ensures.few_rows room (c.left_after-self-inside.ensures (sum_by size_of kept.entries.items) c.self.invariant.left))
+    (core_after kept.users kept.tables c.answer.new.tables kept.tally kept.sessions.items c.answer.new.sessions.items kept.entries.items e c.in_ok-lines.lines.items kept.bytes_left c.self.invariant answers
+    c.answer.new.tally c.left_after-self-inside.result c.in_ok-lines.ensures.whole c.in_ok-lines.ensures.tally room (c.left_after-self-inside.ensures (sum_by size_of kept.entries.items) c.self.invariant.left))
 
 pub returns-clause-ok : goal.returns-clause-ok
 returns-clause-ok c =
     let kept = c.self.inside in
     let e = c.args.entry in
-    let A : List User → Type 0 = λ users. Answers users kept.rows.items c.answer.new.rows.items kept.sessions.items c.answer.new.sessions.items e c.in_ok-lines.lines.items in
+    let A : List User → Type 0 = λ users. Answers users kept.tables c.answer.new.tables kept.sessions.items c.answer.new.sessions.items e c.in_ok-lines.lines.items in
     let answers : A kept.users = subst A c.as_slice-users.ensures c.in_ok-lines.ensures.ok in
     let old : CoreState = record { users = kept.users; history = kept.entries.items } in
     let new : CoreState = record { users = kept.users; history = c.push_reserved.new.self.items } in
@@ -37,7 +37,7 @@ returns-clause-ok c =
     let P : CoreState → Type 0 = λ o. is_full o.history e.request e.size ≡ false → has_no_effect o e ≡ false → IsStep o new e c.from.result in
     subst P c.self.view_is (λ room effect. record {
       has_room = room;
-      lines_given = c.from.ensures ∙ lines_at kept.users kept.rows.items c.answer.new.rows.items kept.sessions.items c.answer.new.sessions.items kept.entries.items e c.in_ok-lines.lines.items kept.bytes_left c.self.invariant answers;
+      lines_given = c.from.ensures ∙ lines_at kept.users kept.tables c.answer.new.tables kept.tally kept.sessions.items c.answer.new.sessions.items kept.entries.items e c.in_ok-lines.lines.items kept.bytes_left c.self.invariant answers;
       added = ap (λ es. let s : CoreState = record { users = kept.users; history = es } in s) grown
           ∙ sym (ap (λ b. if b then old else (let s : CoreState = record { users = kept.users; history = kept.entries.items ++ e ∷ [] } in s)) effect);
     }) c.requires.room c.requires.effect

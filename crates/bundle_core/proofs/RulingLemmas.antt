@@ -1,0 +1,125 @@
+-- How a judgement goes on from one action to the next.
+use Rattle.std.proofs.Common.{◌≡◌, ℕ, suc, zero, ◌+◌, ◌<◌, ◌≤◌, Bool, true, false, cond, not, ◌&&◌, nat_lt, List, [], ◌∷◌, ◌++◌, drop, length, Option, Some, None, refl, sym, ap, subst, ◌∙◌, arith}
+use Rattle.std.proofs.lemmas.Bool.{and_parts, le-ltb}
+use Rattle.std.specs.List.{list_all}
+use Rattle.doc_model.specs.declared.action.DocAction.{DocAction}
+use Rattle.doc_model.specs.declared.limit.LimitKind.TheVariants.{Actions}
+use Rattle.doc_model.specs.declared.user_action.UserAction.{UserAction}
+use Rattle.doc_model.specs.Apply.{apply, apply_all, all_valid}
+use Rattle.doc_model.specs.Counts.{bound_of}
+use Rattle.doc_model.specs.Document.{Document}
+use Rattle.doc_model.specs.DocumentLaws.{IsWhole}
+use Rattle.doc_model.specs.Valid.{valid}
+use Rattle.doc_model.proofs.InverseLaws.{IsWhole-apply_all}
+use Rattle.grist_json.specs.declared.verdict.Verdict.{Verdict}
+use Rattle.grist_json.specs.declared.verdict.Verdict.TheVariants.{Limited, Refused}
+use Rattle.user_actions.specs.declared.tally.Tally.{Tally}
+use Rattle.user_actions.specs.Tallies.{IsTally, after}
+use Rattle.bundle_core.specs.declared.judging.Next.{Next}
+use Rattle.bundle_core.specs.declared.made.Made.{Made}
+use Rattle.bundle_core.specs.Forms.{is_in_form}
+use Rattle.bundle_core.specs.Judgement.{Judgement, accepted, refused, judge, judge_from, made_at, refusal_at, with_made}
+use Rattle.bundle_core.specs.Plans.{MayBeDone}
+use Rattle.bundle_core.specs.Rulings.{IsAt, IsNext, with_all}
+
+pub apply_all-append : (s : Document) (as' bs : List DocAction) → apply_all s (as' ++ bs) ≡ apply_all (apply_all s as') bs
+apply_all-append s [] bs = refl
+apply_all-append s (a ∷ as') bs = apply_all-append (apply s a) as' bs
+
+pub all_valid-append : (s : Document) (as' bs : List DocAction) → all_valid s as' ≡ true → all_valid (apply_all s as') bs ≡ true → all_valid s (as' ++ bs) ≡ true
+all_valid-append s [] bs h k = k
+all_valid-append s (a ∷ as') bs h k =
+    let p : (valid s a ≡ true) × (all_valid (apply s a) as' ≡ true) = and_parts (valid s a) (all_valid (apply s a) as') h in
+    ap (λ b. b && all_valid (apply s a) (as' ++ bs)) p.0 ∙ all_valid-append (apply s a) as' bs p.1 k
+
+with_all-last : (ms : List Made) (m : Made) (j : Judgement) → with_all (ms ++ m ∷ []) j ≡ with_all ms (with_made m j)
+with_all-last [] m j = refl
+with_all-last (x ∷ ms) m j = ap (with_made x) (with_all-last ms m j)
+
+with_all-refused : (ms : List Made) (v : Verdict) → with_all ms (refused v) ≡ refused v
+with_all-refused [] v = refl
+with_all-refused (m ∷ ms) v = ap (with_made m) (with_all-refused ms v)
+
+with_all-accepted : (ms : List Made) (s : Document) → with_all ms (accepted s []) ≡ accepted s ms
+with_all-accepted [] s = refl
+with_all-accepted (m ∷ ms) s = ap (with_made m) (with_all-accepted ms s)
+
+-- a bundle in its form, of few enough actions, is judged from its first action on
+pub judge-from : (owner : Bool) (s : Document) (asked : List UserAction) → list_all is_in_form asked ≡ true → length asked ≤ 2000 → judge owner s asked ≡ judge_from owner s 0 asked
+judge-from owner s asked form few =
+    let short : nat_lt (bound_of Actions) (length asked) ≡ false = le-ltb (length asked) (bound_of Actions) few in
+    ap (λ b. cond (not b) (refused (Refused 1 None)) (cond (nat_lt (bound_of Actions) (length asked)) (refused (Limited Actions (bound_of Actions) (Some (bound_of Actions)))) (judge_from owner s 0 asked))) form
+    ∙ ap (λ b. cond b (refused (Limited Actions (bound_of Actions) (Some (bound_of Actions)))) (judge_from owner s 0 asked)) short
+
+-- behind the last one there is nothing
+nothing_left : {X : Type 0} (i : ℕ) (xs : List X) → length xs ≤ i → drop i xs ≡ []
+nothing_left zero [] le = refl
+nothing_left zero (x ∷ xs) le = absurd (omega (arith, le))
+nothing_left (suc i) [] le = refl
+nothing_left (suc i) (x ∷ xs) le = nothing_left i xs (omega (arith, le))
+
+module _ (owner : Bool) (start : Document) (asked : List UserAction) where
+  -- nothing is judged yet
+  pub at_start : (tally : Tally) → IsTally start tally → IsAt owner start asked 0 start [] [] [] tally
+  at_start tally is = record { done_so_far = refl; valid = refl; may = record { valid = refl; tally = is }; judged = refl }
+
+  module _ (i : ℕ) (s : Document) (done next : List DocAction) (made : List Made) (tally : Tally) (h : IsAt owner start asked i s done next made tally) where
+    pub next_done : apply_all s next ≡ apply_all start (done ++ next)
+    next_done = ap (λ t. apply_all t next) h.done_so_far ∙ sym (apply_all-append start done next)
+
+    pub next_valid : all_valid start (done ++ next) ≡ true
+    next_valid =
+        let P : Document → Type 0 = λ t. all_valid t next ≡ true in
+        all_valid-append start done next h.valid (subst P h.done_so_far h.may.valid)
+
+    -- what followed is done
+    pub at_done : (t : Document) → t ≡ apply_all s next → IsAt owner start asked i t (done ++ next) [] made tally
+    at_done t e =
+        let P : Document → Type 0 = λ u. IsTally u tally in
+        record {
+          done_so_far = e ∙ next_done;
+          valid = next_valid;
+          may = record { valid = refl; tally = subst P (sym e) h.may.tally };
+          judged = h.judged ∙ ap (λ u. with_all made (judge_from owner u i (drop i asked))) (sym e);
+        }
+
+    pub whole_at : IsWhole start → IsWhole s
+    whole_at w =
+        let P : Document → Type 0 = λ t. IsWhole t in
+        subst P (sym h.done_so_far) (IsWhole-apply_all start done w h.valid)
+
+    -- all are judged, and the bundle is accepted
+    pub judged_all : length asked ≤ i → judge_from owner start 0 asked ≡ accepted (apply_all start (done ++ next)) made
+    judged_all le =
+        h.judged
+        ∙ ap (λ l. with_all made (judge_from owner (apply_all s next) i l)) (nothing_left i asked le)
+        ∙ with_all-accepted made (apply_all s next)
+        ∙ ap (λ t. accepted t made) next_done
+
+    pub tally_then : IsTally (apply_all start (done ++ next)) tally
+    tally_then = let P : Document → Type 0 = λ t. IsTally t tally in subst P next_done h.may.tally
+
+  module _ (i : ℕ) (s : Document) (done : List DocAction) (made : List Made) (tally : Tally) (a : UserAction) (rest : List UserAction) (h : IsAt owner start asked i s done [] made tally) (e : drop i asked ≡ a ∷ rest) where
+    here : judge_from owner start 0 asked ≡ with_all made (judge_from owner s i (a ∷ rest))
+    here = h.judged ∙ ap (λ l. with_all made (judge_from owner s i l)) e
+
+    -- an action is refused, and so is the bundle
+    pub refused_at : (v : Verdict) → refusal_at owner s i a ≡ Some v → judge_from owner start 0 asked ≡ refused v
+    refused_at v r =
+        here
+        ∙ ap (λ o. with_all made (elim o as (λ _. Judgement) [ Some w ↦ refused w | None ↦ with_made (made_at s a) (judge_from owner (after s a) (i + 1) rest) ])) r
+        ∙ with_all-refused made v
+
+    -- nothing stands against it
+    pub at_next : (n : Next) → drop (i + 1) asked ≡ rest → IsNext owner s i a n → IsAt owner start asked (i + 1) s done n.actions (made ++ n.made ∷ []) n.tally
+    at_next n f x = record {
+      done_so_far = h.done_so_far;
+      valid = h.valid;
+      may = x.may;
+      judged = here
+          ∙ ap (λ o. with_all made (elim o as (λ _. Judgement) [ Some w ↦ refused w | None ↦ with_made (made_at s a) (judge_from owner (after s a) (i + 1) rest) ])) x.unopposed
+          ∙ ap (λ m. with_all made (with_made m (judge_from owner (after s a) (i + 1) rest))) (sym x.made)
+          ∙ ap (λ t. with_all made (with_made n.made (judge_from owner t (i + 1) rest))) (sym x.leads)
+          ∙ ap (λ l. with_all made (with_made n.made (judge_from owner (apply_all s n.actions) (i + 1) l))) (sym f)
+          ∙ sym (with_all-last made n.made (judge_from owner (apply_all s n.actions) (i + 1) (drop (i + 1) asked)));
+    }

@@ -1,3 +1,4 @@
 pub mod Shown
 pub mod Parts
 pub mod PartLaws
+pub mod Wanted

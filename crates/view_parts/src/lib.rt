@@ -8,13 +8,20 @@
 //! `asked_view` is the part that a user action names, and `asked_law` says that what stands against the
 //! action rests on it alone. `view_law`: each is a view. `allowed_law`: the document allows what nothing
 //! stands against in such a view.
+//! `rows_shown` and `is_column_shown` tell of such a view without making it, and take no memory.
 //! Costs: `touched_view` and `asked_view` cost the rows that are named, not those of the table, unless
 //! a schema action names it.
-//! Read first: specs/Shown.antt and specs/Parts.antt, then whole.rt and parts.rt.
+//! Read first: specs/Shown.antt and specs/Parts.antt, then whole.rt, parts.rt and wanted.rt.
 #![tactic(auto)]
 
+mod columns;
 mod laws;
 mod parts;
+mod rows;
+mod tables;
+#[cfg(test)]
+mod tests;
+mod wanted;
 mod whole;
 
 pub use laws::{allowed_law, asked_law, part_law, view_law};

@@ -1,12 +1,22 @@
 //! The parts of a view that actions are about.
 
-ghost use Rattle.std.specs.Prelude.{◌≡◌, IfOk};
+ghost use Rattle.std.specs.Prelude.{◌≡◌, unwrap_or, IfOk, MatchOption};
+ghost use Rattle.std.specs.Option.{option_to_list};
+ghost use Rattle.cell_types.specs.NameLength.{HasNameLength};
+ghost use Rattle.cell_types.specs.Reference.{row_number};
 ghost use Rattle.doc_model.specs.Changes.{IsView};
 ghost use Rattle.doc_model.specs.DocumentLaws.{IsWhole};
-ghost use Rattle.view_parts.specs.Parts.{asked, part};
+ghost use Rattle.user_actions.specs.Kinds.{table_of};
+ghost use Rattle.user_actions.specs.Steps.{row_ids};
+ghost use Rattle.view_parts.specs.Parts.{asked, part, rows_asked};
 ghost use Rattle.view_parts.specs.Shown.{view};
 
-use doc_model::{DocAction, DocTables, UserAction, View};
+use crate::rows::rows_among;
+use crate::tables::{is_shown, shown_with};
+use crate::wanted::wanted_tables;
+use cell_types::{CellText, Name};
+use doc_model::{DocAction, DocTables, UserAction, View, ViewTable, ViewTableList};
+use doc_readers::{has_table, rows_in};
 use std::alloc::{AllocError, Global};
 
 /// The part of what owners see of a document, or others, that these actions are about: the tables that
@@ -23,7 +33,90 @@ pub fn touched_view<D: DocTables>(
     ensures tables { IfOk result (λ v. v.tables ≡ part actions.now (view owner (D.document tables.now))) }
     ensures is_view { IfOk result (λ v. IsView v.tables) }
 {
-    Err(AllocError)
+    let touched = wanted_tables(alloc, tables, owner, Some(actions))?;
+    Ok(View {
+        tables: ViewTableList::from(touched),
+    })
+}
+
+fn table_of(action: &UserAction) -> &CellText
+    ensures { result.now ≡ table_of action.now }
+{
+    match action {
+        UserAction::Add { table, .. }
+        | UserAction::Update { table, .. }
+        | UserAction::Remove { table, .. }
+        | UserAction::AddTable { table, .. }
+        | UserAction::RemoveTable { table }
+        | UserAction::RenameTable { table, .. }
+        | UserAction::AddColumn { table, .. }
+        | UserAction::RemoveColumn { table, .. }
+        | UserAction::RenameColumn { table, .. }
+        | UserAction::ModifyColumn { table, .. } => table,
+    }
+}
+
+// The id of the table that the action names; a text that is no name is no table's id.
+fn asked_id(alloc: Global, action: &UserAction) -> Result<Option<Name>, AllocError>
+    ensures { IfOk result (λ o. MatchOption o (HasNameLength (table_of action.now) → ⊥) (λ n. n ≡ table_of action.now)) }
+{
+    let text = CellText::copy_of(alloc, table_of(action).as_str())?;
+    Ok(Name::try_new(text))
+}
+
+fn row_id(number: i64) -> u32
+    ensures { result ≡ unwrap_or (row_number number) 0 }
+{
+    match u32::try_from(number) {
+        Ok(row) => row,
+        Err(_) => 0,
+    }
+}
+
+// The rows that were written; a number that is no row id is 0, which no table has.
+fn row_ids(alloc: Global, numbers: &[i64]) -> Result<Vec<u32>, AllocError>
+    ensures { IfOk result (λ l. l.items ≡ row_ids numbers.now) }
+{
+    let mut ids = Vec::with_capacity(alloc, numbers.len())?;
+    for number in numbers {
+        ids.push(row_id(*number))?;
+    }
+    Ok(ids)
+}
+
+// The rows that a user action names.
+fn rows_asked(alloc: Global, action: &UserAction) -> Result<Vec<u32>, AllocError>
+    ensures { IfOk result (λ l. l.items ≡ rows_asked action.now) }
+{
+    match action {
+        UserAction::Update { rows, .. } | UserAction::Remove { rows, .. } => {
+            row_ids(alloc, rows.as_slice())
+        }
+        _ => Ok(Vec::new(alloc)),
+    }
+}
+
+fn asked_table<D: DocTables>(
+    alloc: Global,
+    tables: &D,
+    owner: bool,
+    action: &UserAction,
+) -> Result<Option<ViewTable>, AllocError>
+    requires { IsWhole (D.document tables.now) }
+    ensures table { IfOk result (λ o. option_to_list o ≡ asked action.now (view owner (D.document tables.now))) }
+    ensures is_view { IfOk result (λ o. IsView (option_to_list o)) }
+{
+    let Some(id) = asked_id(alloc, action)? else {
+        return Ok(None);
+    };
+    if !is_shown(owner, &id) {
+        return Ok(None);
+    }
+    if !has_table(tables, &id) {
+        return Ok(None);
+    }
+    let rows = rows_among(alloc, rows_asked(alloc, action)?, rows_in(tables, &id))?;
+    Ok(Some(shown_with(alloc, tables, &id, rows.as_slice())?))
 }
 
 /// The table that a user action names, as owners see it, or others, with the rows that the action
@@ -40,5 +133,9 @@ pub fn asked_view<D: DocTables>(
     ensures tables { IfOk result (λ v. v.tables ≡ asked action.now (view owner (D.document tables.now))) }
     ensures is_view { IfOk result (λ v. IsView v.tables) }
 {
-    Err(AllocError)
+    let mut shown = ViewTableList::new(alloc);
+    if let Some(table) = asked_table(alloc, tables, owner, action)? {
+        shown.push(table)?;
+    }
+    Ok(View { tables: shown })
 }

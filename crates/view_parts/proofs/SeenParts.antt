@@ -1,0 +1,183 @@
+-- Parts of a view are views of wanted tables.
+use Rattle.std.proofs.Common.{ℕ, Bool, true, false, cond, ◌&&◌, List, [], ◌∷◌, map, filter, ◌≡◌, refl, sym, ap, subst, ◌∙◌, Option, Some, None}
+use Rattle.std.proofs.lemmas.Slice.Eq.{bytes_eq-Decides}
+use Rattle.std.specs.Option.{option_map, option_to_list}
+use Rattle.std.specs.Str.{bytes_eq}
+use Rattle.cell_types.specs.declared.value.CellValue.{CellValue}
+use Rattle.doc_model.specs.declared.action.DocAction.{DocAction}
+use Rattle.doc_model.specs.declared.column.ColDef.{ColDef}
+use Rattle.doc_model.specs.declared.user_action.UserAction.{UserAction}
+use Rattle.doc_model.specs.declared.view.ViewTable.{ViewTable}
+use Rattle.doc_model.specs.ByIds.{AreDistinct, by_id, find_id, has_id, IsByIds, place, precedes}
+use Rattle.doc_model.specs.Changes.{IsView, shown_table_id}
+use Rattle.doc_model.specs.Document.{Document, Table, table_id}
+use Rattle.doc_model.specs.DocumentLaws.{IsWhole}
+use Rattle.doc_model.specs.Grid.{Grid}
+use Rattle.doc_model.specs.Rows.{has, IsAscending}
+use Rattle.doc_model.specs.Schema.{no_grid}
+use Rattle.doc_model.proofs.ByIdsLaws.{bytes_apart, find_absent, find-filter, find-filtered, found_has, found_id, IsByIds-by_id, IsByIds-filter, precedes_apart, same_by_ids}
+use Rattle.doc_model.proofs.ByRowLaws.{AreDistinct-filter}
+use Rattle.doc_model.proofs.Choices.{each_mapped, each_weaker, filter_none, keep, map_each, map-map}
+use Rattle.doc_model.proofs.RowsLaws.{IsAscending-filter}
+use Rattle.doc_readers.specs.Parts.{grid_at}
+use Rattle.user_actions.specs.Kinds.{table_of}
+use Rattle.view_parts.specs.Parts.{asked, is_row_touched, is_touched, part, passing, passing_cells, rows_asked}
+use Rattle.view_parts.specs.Shown.{is_shown, shown_table, view}
+use Rattle.view_parts.specs.Wanted.{cells_at, columns_of, shown_with, table_wanted, wanted}
+use Rattle.view_parts.proofs.PlacedLemmas.{find-by_id}
+use Rattle.view_parts.proofs.SeenLemmas.{find_seen, IsView-one}
+use Rattle.view_parts.proofs.TouchedRows.{everywhere}
+
+-- ---- rows that pass
+
+passing_cells-map : (test : ℕ → Bool) (f : ℕ → List CellValue) (rows : List ℕ) → passing_cells test rows (map f rows) ≡ map f (filter test rows)
+passing_cells-map test f [] = refl
+passing_cells-map test f (r ∷ rows) =
+    elim (test r) as (λ b. cond b (f r ∷ passing_cells test rows (map f rows)) (passing_cells test rows (map f rows)) ≡ map f (cond b (r ∷ filter test rows) (filter test rows))) [
+      | true ↦ ap (λ l. f r ∷ l) (passing_cells-map test f rows)
+      | false ↦ passing_cells-map test f rows
+    ]
+
+-- a seen table with the rows that pass
+passing-shown : (test : ℕ → Bool) (t : Table) → passing test (shown_table t) ≡ shown_with t.id t.grid (filter test t.grid.rows)
+passing-shown test t =
+    ap (λ cells. let x : ViewTable = record { id = t.id; columns = columns_of t.grid; rows = filter test t.grid.rows; cells = cells } in x)
+    (passing_cells-map test (cells_at t.grid (columns_of t.grid)) t.grid.rows)
+
+-- ---- tables that pass
+
+filter-map : {X Y : Type 0} (p : Y → Bool) (f : X → Y) (xs : List X) → filter p (map f xs) ≡ map f (filter (λ x. p (f x)) xs)
+filter-map p f [] = refl
+filter-map p f (x ∷ xs) =
+    elim (p (f x)) as (λ b. cond b (f x ∷ filter p (map f xs)) (filter p (map f xs)) ≡ map f (cond b (x ∷ filter (λ x. p (f x)) xs) (filter (λ x. p (f x)) xs))) [
+      | true ↦ ap (λ l. f x ∷ l) (filter-map p f xs)
+      | false ↦ filter-map p f xs
+    ]
+
+filter-filter : {X : Type 0} (q p : X → Bool) (xs : List X) → filter q (filter p xs) ≡ filter (λ x. q x && p x) xs
+filter-filter q p [] = refl
+filter-filter q p (x ∷ xs) =
+    elim (p x) as (λ b. filter q (cond b (x ∷ filter p xs) (filter p xs)) ≡ cond (q x && b) (x ∷ filter (λ x. q x && p x) xs) (filter (λ x. q x && p x) xs)) [
+      | true ↦ elim (q x) as (λ c. cond c (x ∷ filter q (filter p xs)) (filter q (filter p xs)) ≡ cond (c && true) (x ∷ filter (λ x. q x && p x) xs) (filter (λ x. q x && p x) xs)) [
+        | true ↦ ap (λ l. x ∷ l) (filter-filter q p xs)
+        | false ↦ filter-filter q p xs
+      ]
+      | false ↦ filter-filter q p xs ∙ elim (q x) as (λ c. filter (λ x. q x && p x) xs ≡ cond (c && false) (x ∷ filter (λ x. q x && p x) xs) (filter (λ x. q x && p x) xs)) [ true ↦ refl | false ↦ refl ]
+    ]
+
+AreDistinct-shown : (s : Document) → AreDistinct table_id s → AreDistinct shown_table_id (map shown_table s)
+AreDistinct-shown [] d = tt
+AreDistinct-shown (t ∷ s) d = (each_mapped (λ (y : ViewTable). bytes_eq t.id y.id ≡ false) shown_table s d.0, AreDistinct-shown s d.1)
+
+module _ {X : Type 0} (id : X → List ℕ) where
+  filter-by_id : (p : X → Bool) (xs : List X) → AreDistinct id xs → filter p (by_id id xs) ≡ by_id id (filter p xs)
+  filter-by_id p xs d =
+      same_by_ids id (filter p (by_id id xs)) (by_id id (filter p xs)) (IsByIds-filter id p (by_id id xs) (IsByIds-by_id id xs)) (IsByIds-by_id id (filter p xs))
+      (λ c. find-filter id p c (by_id id xs) (IsByIds-by_id id xs) ∙ ap (keep p) (find-by_id id c xs)
+      ∙ sym (find-by_id id c (filter p xs) ∙ find-filtered id p c xs d))
+
+  -- the one of an id, in a list
+  filter-one : (c : List ℕ) (xs : List X) → IsByIds id xs → filter (λ x. bytes_eq (id x) c) xs ≡ option_to_list (find_id id c xs)
+  filter-one c [] s = refl
+  filter-one c (x ∷ xs) s =
+      elim (bytes_eq (id x) c) as (λ b. bytes_eq (id x) c ≡ b → cond b (x ∷ filter (λ x. bytes_eq (id x) c) xs) (filter (λ x. bytes_eq (id x) c) xs) ≡ option_to_list (cond b (Some x) (find_id id c xs))) [
+        | true ↦ λ is.
+            let same : id x ≡ c = (bytes_eq-Decides (id x) c).0 is in
+            ap (λ l. x ∷ l) (filter_none (λ y. bytes_eq (id y) c) xs
+            (each_weaker (λ y. precedes (id x) (id y) ≡ true) (λ y. bytes_eq (id y) c ≡ false)
+            (λ y l. bytes_apart c (id y) (ap (λ e. bytes_eq e (id y)) (sym same) ∙ precedes_apart (id x) (id y) l)) xs s.0))
+        | false ↦ λ _. filter-one c xs s.1
+      ] refl
+
+module _ (test : List ℕ → ℕ → Bool) where
+  -- a table with the rows that pass its test
+  abbrev passed : ViewTable → ViewTable
+  passed t = passing (test t.id) t
+
+  map-place : (x : ViewTable) (xs : List ViewTable) → map passed (place shown_table_id x xs) ≡ place shown_table_id (passed x) (map passed xs)
+  map-place x [] = refl
+  map-place x (y ∷ xs) =
+      elim (precedes x.id y.id) as (λ b. map passed (cond b (x ∷ y ∷ xs) (cond (bytes_eq x.id y.id) (x ∷ xs) (y ∷ place shown_table_id x xs)))
+      ≡ cond b (passed x ∷ passed y ∷ map passed xs) (cond (bytes_eq x.id y.id) (passed x ∷ map passed xs) (passed y ∷ place shown_table_id (passed x) (map passed xs)))) [
+        | true ↦ refl
+        | false ↦ elim (bytes_eq x.id y.id) as (λ b. map passed (cond b (x ∷ xs) (y ∷ place shown_table_id x xs)) ≡ cond b (passed x ∷ map passed xs) (passed y ∷ place shown_table_id (passed x) (map passed xs))) [
+          | true ↦ refl
+          | false ↦ ap (λ l. passed y ∷ l) (map-place x xs)
+        ]
+      ]
+
+  map-by_id : (xs : List ViewTable) → map passed (by_id shown_table_id xs) ≡ by_id shown_table_id (map passed xs)
+  map-by_id [] = refl
+  map-by_id (x ∷ xs) = map-place x (by_id shown_table_id xs) ∙ ap (place shown_table_id (passed x)) (map-by_id xs)
+
+-- ---- the part that actions are about
+
+pub wanted_all : (owner : Bool) (s : Document) → wanted owner None s ≡ view owner s
+wanted_all owner s = refl
+
+pub wanted_touched : (owner : Bool) (actions : List DocAction) (s : Document) → IsWhole s → wanted owner (Some actions) s ≡ part actions (view owner s)
+wanted_touched owner actions s whole =
+    let seen : Table → Bool = λ t. is_shown owner t.id in
+    let touched : Table → Bool = λ t. is_touched actions t.id in
+    let told : ViewTable → Bool = λ t. is_touched actions t.id in
+    let shown : List Table = filter seen s in
+    let cut : ViewTable → ViewTable = λ t. passing (is_row_touched actions t.id) t in
+    sym (
+    ap (map cut) (
+    filter-by_id shown_table_id told (map shown_table shown) (AreDistinct-shown shown (AreDistinct-filter table_id seen s whole.sound.distinct))
+    ∙ ap (by_id shown_table_id) (filter-map told shown_table shown ∙ ap (map shown_table) (filter-filter touched seen s)))
+    ∙ map-by_id (is_row_touched actions) (map shown_table (filter (λ t. touched t && seen t) s))
+    ∙ ap (by_id shown_table_id) (
+    sym (map-map cut shown_table (filter (λ t. touched t && seen t) s))
+    ∙ map_each (λ t. cut (shown_table t)) (table_wanted (Some actions)) (filter (λ t. touched t && seen t) s)
+    (everywhere (λ (t : Table). cut (shown_table t) ≡ table_wanted (Some actions) t) (λ t. passing-shown (is_row_touched actions t.id) t) (filter (λ t. touched t && seen t) s))))
+
+-- ---- the part that a user action asks for
+
+asked_found : (owner : Bool) (s : Document) → IsWhole s → (a : UserAction)
+    → asked a (view owner s) ≡ map (passing (has (rows_asked a))) (option_to_list (cond (is_shown owner (table_of a)) (option_map shown_table (find_id table_id (table_of a) s)) None))
+asked_found owner s whole a =
+    ap (map (passing (has (rows_asked a)))) (
+    filter-one shown_table_id (table_of a) (view owner s) (IsByIds-by_id shown_table_id (map shown_table (filter (λ (t : Table). is_shown owner t.id) s)))
+    ∙ ap option_to_list (find_seen owner s whole (table_of a)))
+
+pub asked_hidden : (owner : Bool) (s : Document) → IsWhole s → (a : UserAction) → is_shown owner (table_of a) ≡ false → [] ≡ asked a (view owner s)
+asked_hidden owner s whole a hidden =
+    sym (asked_found owner s whole a
+    ∙ ap (λ b. map (passing (has (rows_asked a))) (option_to_list (cond b (option_map shown_table (find_id table_id (table_of a) s)) None))) hidden)
+
+pub asked_nowhere : (owner : Bool) (s : Document) → IsWhole s → (a : UserAction) → find_id table_id (table_of a) s ≡ None → [] ≡ asked a (view owner s)
+asked_nowhere owner s whole a none =
+    sym (asked_found owner s whole a
+    ∙ ap (λ o. map (passing (has (rows_asked a))) (option_to_list (cond (is_shown owner (table_of a)) (option_map shown_table o) None))) none
+    ∙ elim (is_shown owner (table_of a)) as (λ b. map (passing (has (rows_asked a))) (option_to_list (cond b None None)) ≡ []) [ true ↦ refl | false ↦ refl ])
+
+pub asked_absent : (owner : Bool) (s : Document) → IsWhole s → (a : UserAction) → has_id table_id s (table_of a) ≡ false → [] ≡ asked a (view owner s)
+asked_absent owner s whole a none = asked_nowhere owner s whole a (find_absent table_id (table_of a) s none)
+
+pub asked_seen : (owner : Bool) (s : Document) → IsWhole s → (a : UserAction) → is_shown owner (table_of a) ≡ true → has_id table_id s (table_of a) ≡ true
+    → shown_with (table_of a) (grid_at s (table_of a)) (filter (has (rows_asked a)) (grid_at s (table_of a)).rows) ∷ [] ≡ asked a (view owner s)
+asked_seen owner s whole a seen there =
+    let f : (t : Table) × (find_id table_id (table_of a) s ≡ Some t) = found_has table_id (table_of a) s there in
+    let t : Table = f.0 in
+    let its : grid_at s (table_of a) ≡ t.grid = ap (λ (o : Option Table). elim o as (λ _. Grid ColDef) [ None ↦ no_grid | Some t ↦ t.grid ]) f.1 in
+    ap (λ g. shown_with (table_of a) g (filter (has (rows_asked a)) g.rows) ∷ []) its
+    ∙ ap (λ i. shown_with i t.grid (filter (has (rows_asked a)) t.grid.rows) ∷ []) (sym (found_id table_id (table_of a) s t f.1))
+    ∙ ap (λ w. w ∷ []) (sym (passing-shown (has (rows_asked a)) t))
+    ∙ sym (asked_found owner s whole a
+    ∙ ap (λ b. map (passing (has (rows_asked a))) (option_to_list (cond b (option_map shown_table (find_id table_id (table_of a) s)) None))) seen
+    ∙ ap (λ o. map (passing (has (rows_asked a))) (option_to_list (option_map shown_table o))) f.1)
+
+-- the table that was made of the rows that are asked for
+module _ (owner : Bool) (s : Document) (whole : IsWhole s) (a : UserAction) (id wanted told rows seen : List ℕ) (t : ViewTable)
+    (ascends : IsAscending told) (kept : rows ≡ filter (has wanted) told) (read : seen ≡ rows) (made : t ≡ shown_with id (grid_at s id) seen) where
+  pub asked_made : id ≡ table_of a → is_shown owner id ≡ true → has_id table_id s id ≡ true → told ≡ (grid_at s id).rows → wanted ≡ rows_asked a → t ∷ [] ≡ asked a (view owner s)
+  asked_made named shown there its named_rows =
+      ap (λ w. w ∷ []) (made ∙ ap (shown_with id (grid_at s id)) (read ∙ kept ∙ ap (λ l. filter (has l) told) named_rows ∙ ap (filter (has (rows_asked a))) its))
+      ∙ ap (λ i. shown_with i (grid_at s i) (filter (has (rows_asked a)) (grid_at s i).rows) ∷ []) named
+      ∙ asked_seen owner s whole a (ap (is_shown owner) (sym named) ∙ shown) (ap (has_id table_id s) (sym named) ∙ there)
+
+  pub asked_is_view : IsView (t ∷ [])
+  asked_is_view =
+      subst (λ w. IsView (w ∷ [])) (sym made)
+      (IsView-one id (grid_at s id) seen (subst IsAscending (sym (read ∙ kept)) (IsAscending-filter (has wanted) told ascends)))

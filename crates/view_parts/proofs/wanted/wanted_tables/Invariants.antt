@@ -1,0 +1,8 @@
+use Rattle.std.proofs.Common.{◌≡◌}
+use Rattle.std.specs.Option.{option_copied}
+use Rattle.view_parts.proofs.TableWalk.{taken}
+use Rattle.view_parts.proofs.wanted.wanted_tables.Given as goal
+
+-- the tables so far, in their places
+abbrev pub invariant-loop-id : goal.invariant-loop-id
+invariant-loop-id g l = l.shown.items ≡ taken l.owner (option_copied l.actions) (g.D.DocTables.document l.tables) l.id-index

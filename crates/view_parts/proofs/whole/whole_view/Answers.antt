@@ -1,0 +1,9 @@
+use Rattle.std.proofs.Common.{◌∙◌, None, subst, sym}
+use Rattle.doc_model.specs.Changes.{IsView}
+use Rattle.view_parts.proofs.SeenLemmas.{IsView-wanted}
+use Rattle.view_parts.proofs.whole.whole_view.Goals as goal
+
+pub returns-clause-is_view : goal.returns-clause-is_view
+returns-clause-is_view g c =
+    subst IsView (sym (c.from.ensures ∙ c.in_ok-shown.ensures))
+    (IsView-wanted c.args.owner None (g.D.DocTables.document c.args.tables.now) c.requires.whole)

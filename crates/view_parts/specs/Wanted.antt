@@ -1,0 +1,83 @@
+-- Views of some tables with some of their rows, as the code builds them.
+use Rattle.std.specs.Prelude.{ℕ, Bool, true, false, cond, ◌&&◌, List, [], ◌∷◌, ◌++◌, map, filter, Option, Some, None}
+use Rattle.std.specs.List.{list_any}
+use Rattle.cell_types.specs.declared.value.CellValue.{CellValue}
+use Rattle.doc_model.specs.declared.action.DocAction.{DocAction}
+use Rattle.doc_model.specs.declared.action.DocAction.TheVariants.{BulkAdd, BulkUpdate, BulkRemove}
+use Rattle.doc_model.specs.declared.column.ColDef.{ColDef}
+use Rattle.doc_model.specs.declared.view.ViewCol.{ViewCol}
+use Rattle.doc_model.specs.declared.view.ViewTable.{ViewTable}
+use Rattle.doc_model.specs.ByIds.{by_id}
+use Rattle.doc_model.specs.Changes.{shown_table_id}
+use Rattle.doc_model.specs.Column.{column_id}
+use Rattle.doc_model.specs.Document.{Document, Table}
+use Rattle.doc_model.specs.Grid.{Grid, cell}
+use Rattle.doc_model.specs.ViewEdits.{shown_id}
+use Rattle.doc_readers.specs.Parts.{grid_at}
+use Rattle.view_parts.specs.Parts.{is_row_touched, is_touched, names_table}
+use Rattle.view_parts.specs.Shown.{is_shown, shown_column}
+
+-- the cells of a row, one for each of the columns
+abbrev pub cells_at : Grid ColDef → List ViewCol → ℕ → List CellValue
+cells_at g columns r = map (λ (d : ViewCol). cell column_id g d.id r) columns
+
+-- a grid's columns as they are seen, by id
+abbrev pub columns_of : Grid ColDef → List ViewCol
+columns_of g = by_id shown_id (map shown_column g.columns)
+
+-- a table as it is seen, with these rows alone
+abbrev pub shown_with : List ℕ → Grid ColDef → List ℕ → ViewTable
+shown_with id g rows = record {
+  id = id;
+  columns = columns_of g;
+  rows = rows;
+  cells = map (cells_at g (columns_of g)) rows;
+}
+
+-- whether the table is wanted: where actions are given, one of them has to name it
+abbrev pub is_wanted : Option (List DocAction) → List ℕ → Bool
+is_wanted None id = true
+is_wanted (Some actions) id = is_touched actions id
+
+-- the rows of a table that are wanted: where actions are given, those that they are about
+abbrev pub rows_wanted : Option (List DocAction) → List ℕ → List ℕ → List ℕ
+rows_wanted None id rows = rows
+rows_wanted (Some actions) id rows = filter (is_row_touched actions id) rows
+
+-- a wanted table, with its wanted rows
+abbrev pub table_wanted : Option (List DocAction) → Table → ViewTable
+table_wanted o t = shown_with t.id t.grid (rows_wanted o t.id t.grid.rows)
+
+-- the same of the table of an id
+abbrev pub wanted_at : Option (List DocAction) → Document → List ℕ → ViewTable
+wanted_at o s id = shown_with id (grid_at s id) (rows_wanted o id (grid_at s id).rows)
+
+-- the wanted tables that owners see, or others, by id
+abbrev pub wanted : Bool → Option (List DocAction) → Document → List ViewTable
+wanted owner o s =
+    by_id shown_table_id
+    (map (table_wanted o) (filter (λ (t : Table). is_wanted o t.id && is_shown owner t.id) s))
+
+-- whether the action is about all rows of its table
+abbrev pub is_about_all : DocAction → Bool
+is_about_all (BulkAdd table rows ks) = false
+is_about_all (BulkUpdate table rows ks) = false
+is_about_all (BulkRemove table rows) = false
+is_about_all _ = true
+
+-- the rows that a record action names
+abbrev pub rows_of : DocAction → List ℕ
+rows_of (BulkAdd table rows ks) = rows
+rows_of (BulkUpdate table rows ks) = rows
+rows_of (BulkRemove table rows) = rows
+rows_of _ = []
+
+-- the rows of the table that record actions name, in the order of the actions
+abbrev pub rows_named : List DocAction → List ℕ → List ℕ
+rows_named [] id = []
+rows_named (a ∷ actions) id =
+    cond (names_table a id) (rows_of a) [] ++ rows_named actions id
+
+-- whether some action is about all rows of the table
+abbrev pub is_all_touched : List DocAction → List ℕ → Bool
+is_all_touched actions id = list_any (λ a. names_table a id && is_about_all a) actions

@@ -1,5 +1,5 @@
 -- How a judgement goes on from one action to the next.
-use Rattle.std.proofs.Common.{◌≡◌, ℕ, suc, zero, ◌+◌, ◌<◌, ◌≤◌, Bool, true, false, cond, not, ◌&&◌, nat_lt, List, [], ◌∷◌, ◌++◌, drop, length, Option, Some, None, refl, sym, ap, subst, ◌∙◌, arith}
+use Rattle.std.proofs.Common.{◌≡◌, ℕ, ◌+◌, ◌<◌, ◌≤◌, Bool, true, false, cond, not, ◌&&◌, nat_lt, List, [], ◌∷◌, ◌++◌, drop, length, Option, Some, None, refl, sym, ap, subst, ◌∙◌, arith}
 use Rattle.std.proofs.lemmas.Bool.{and_parts, le-ltb}
 use Rattle.std.specs.List.{list_all}
 use Rattle.doc_model.specs.declared.action.DocAction.{DocAction}
@@ -21,6 +21,7 @@ use Rattle.bundle_core.specs.Forms.{is_in_form}
 use Rattle.bundle_core.specs.Judgement.{Judgement, accepted, refused, judge, judge_from, made_at, refusal_at, with_made}
 use Rattle.bundle_core.specs.Plans.{MayBeDone}
 use Rattle.bundle_core.specs.Rulings.{IsAt, IsNext, with_all}
+use Rattle.bundle_core.proofs.WayLemmas.{nothing_left}
 
 pub apply_all-append : (s : Document) (as' bs : List DocAction) → apply_all s (as' ++ bs) ≡ apply_all (apply_all s as') bs
 apply_all-append s [] bs = refl
@@ -50,13 +51,6 @@ judge-from owner s asked form few =
     let short : nat_lt (bound_of Actions) (length asked) ≡ false = le-ltb (length asked) (bound_of Actions) few in
     ap (λ b. cond (not b) (refused (Refused 1 None)) (cond (nat_lt (bound_of Actions) (length asked)) (refused (Limited Actions (bound_of Actions) (Some (bound_of Actions)))) (judge_from owner s 0 asked))) form
     ∙ ap (λ b. cond b (refused (Limited Actions (bound_of Actions) (Some (bound_of Actions)))) (judge_from owner s 0 asked)) short
-
--- behind the last one there is nothing
-nothing_left : {X : Type 0} (i : ℕ) (xs : List X) → length xs ≤ i → drop i xs ≡ []
-nothing_left zero [] le = refl
-nothing_left zero (x ∷ xs) le = absurd (omega (arith, le))
-nothing_left (suc i) [] le = refl
-nothing_left (suc i) (x ∷ xs) le = nothing_left i xs (omega (arith, le))
 
 module _ (owner : Bool) (start : Document) (asked : List UserAction) where
   -- nothing is judged yet

@@ -57,20 +57,30 @@ impl Model for Core {
 }
 
 impl Core {
-    /// A core of a new document that nobody has opened yet.
+    /// A core of a new document that nobody may open yet.
     ///
     /// Errors: want of memory.
-    pub fn new(alloc: Global, users: UserList) -> Result<Self, AllocError>
-        ensures { IfOk result (λ c. c ≡ record { users = users; history = [] }) }
+    pub fn new(alloc: Global) -> Result<Self, AllocError>
+        ensures { IfOk result (λ c. c ≡ record { users = []; history = [] }) }
     {
         Ok(Core {
-            users,
+            users: UserList::new(alloc),
             tables: RowTables::new_document(alloc)?,
             tally: Tally::of_new_document(),
             sessions: Vec::new(alloc),
             entries: Vec::new(alloc),
             bytes_left: Some(MAX_HISTORY_BYTES),
         })
+    }
+
+    /// The core with these users, before anything is asked of it.
+    pub fn with_users(self, users: UserList) -> Self
+        requires first { self.history ≡ [] }
+        ensures { result ≡ record { users = users; history = [] } }
+    {
+        let mut core = self;
+        core.users = users;
+        core
     }
 
     /// Takes one request of a session, and answers with the lines that the session is given.

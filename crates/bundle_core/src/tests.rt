@@ -41,7 +41,7 @@ fn told(alloc: Global, core: &mut Core, session: &str, line: &str) -> Result<Str
 
 #[test]
 fn told_at_each_request(rt: HostRuntime) -> Result<(), Fail> {
-    let mut core = Core::new(rt.alloc(), owners(rt.alloc())?);
+    let mut core = Core::new(rt.alloc())?.with_users(owners(rt.alloc())?);
     let open = told(
         rt.alloc(),
         &mut core,

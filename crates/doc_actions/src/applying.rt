@@ -21,6 +21,11 @@ pub enum ApplyFault {
 }
 
 impl fmt::Display for ApplyFault {
+    ghost use Rattle.std.specs.Prelude.{Some};
+    ghost use Rattle.doc_actions.specs.Message.{message_of};
+
+    ghost output = { λ fault. Some (message_of fault) };
+
     fn fmt<W: fmt::Write>(&self, f: &mut fmt::Formatter<W>) -> fmt::Result {
         match self {
             ApplyFault::Invalid => write!(f, "the action is not valid"),

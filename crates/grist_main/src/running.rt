@@ -66,8 +66,11 @@ fn replay<S: Source, O: Sink>(alloc: Global, input: &mut S, out: &mut O) -> Outc
     let Ok(mut outbox) = Outbox::new(alloc) else {
         return without_history(alloc, Status::NoMemory);
     };
+    let Ok(core) = Core::new(alloc) else {
+        return without_history(alloc, Status::NoMemory);
+    };
     match read_users(alloc, &mut reader, input) {
-        Ok(front) => replay_from(alloc, front, &mut outbox, &mut reader, input, out),
+        Ok(front) => replay_from(alloc, core, front, &mut outbox, &mut reader, input, out),
         Err(status) => without_history(alloc, status),
     }
 }
@@ -75,13 +78,15 @@ fn replay<S: Source, O: Sink>(alloc: Global, input: &mut S, out: &mut O) -> Outc
 // Answers the lines behind the users.
 fn replay_from<S: Source, O: Sink>(
     alloc: Global,
+    core: Core,
     front: Front,
     outbox: &mut Outbox,
     reader: &mut LineReader,
     input: &mut S,
     out: &mut O,
 ) -> Outcome
-    requires { outbox.old ≡ [] }
+    requires empty { outbox.old ≡ [] }
+    requires first { core.history ≡ [] }
     ensures usage { result.status ≡ Status.Usage → ⊥ }
     ensures replay { (left : Option (List ℕ)) → IsAt front.next left (S.left input.old) front.users [] reader.old → IsRun result.status left (S.left input.new) result.history (O.written out.old) (O.written out.new) }
     ensures read_later { S.faults input.old ≤ S.faults input.new }
@@ -89,7 +94,7 @@ fn replay_from<S: Source, O: Sink>(
     ensures write_fault { result.status ≡ Status.WriteFault → Rose (O.faults out.old) (O.faults out.new) }
 {
     let Front { users, next } = front;
-    let mut core = Core::new(alloc, users);
+    let mut core = core.with_users(users);
     let served = serve(alloc, &mut core, outbox, reader, next, input, out);
     let status = finish(served, outbox, out);
     Outcome {

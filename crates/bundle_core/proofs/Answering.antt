@@ -98,7 +98,7 @@ module _ (users : List User) (doc : Document) (before behind : List SessionState
 
   pub answers_outside : (v : Verdict) → ((n : ℕ) → from_outside users (outside n) e.request ≡ answered doc None v) → Answers users doc doc (before ++ behind) (before ++ behind) e (reply_text v ∷ [])
   answers_outside v p = record {
-    more = 0;
+    is_bundle = false;
     state = λ n. step_by users (outside n) e (answered doc None v) None (verdicts_outside n _ (p n)) (mailbox_outside n)
         ∙ ap (λ os. let st : State = record { document = doc; added = n; open_sessions = os } in st) same_outside;
     lines_given = λ n. given_by users (outside n) e (answered doc None v) None (verdicts_outside n _ (p n)) (mailbox_outside n);
@@ -109,7 +109,7 @@ module _ (users : List User) (doc : Document) (before behind : List SessionState
 
   pub answers_gone : ((n : ℕ) → from_outside users (outside n) e.request ≡ gone_quietly) → Answers users doc doc (before ++ behind) (before ++ behind) e []
   answers_gone p = record {
-    more = 0;
+    is_bundle = false;
     state = λ n. step_by users (outside n) e gone_quietly None (verdicts_outside n _ (p n)) (mailbox_outside n)
         ∙ ap (λ os. let st : State = record { document = doc; added = n; open_sessions = os } in st) same_outside;
     lines_given = λ n. given_by users (outside n) e gone_quietly None (verdicts_outside n _ (p n)) (mailbox_outside n);
@@ -129,7 +129,7 @@ module _ (users : List User) (doc : Document) (before behind : List SessionState
       ∙ ap (λ o. opens doc before ++ o ∷ opens doc behind) (sym f)
       ∙ sym (opens-append doc before (x ∷ behind)) in
       record {
-        more = 0;
+        is_bundle = false;
         state = λ n. step_by users (outside n) e (opened_by user) None (verdicts_outside n _ (p n)) (mailbox_outside n)
             ∙ ap (λ os. let st : State = record { document = doc; added = n; open_sessions = os } in st) placed;
         lines_given = λ n. given_by users (outside n) e (opened_by user) None (verdicts_outside n _ (p n)) (mailbox_outside n);
@@ -165,7 +165,7 @@ module _ (users : List User) (doc : Document) (before behind : List SessionState
     pub answers_leaving : (v : Verdict) → ComesTo (answered doc None v)
         → Answers users doc doc (before ++ x ∷ behind) (before ++ behind) e (x.waiting ++ reply_text v ∷ [])
     answers_leaving v p = record {
-      more = 0;
+      is_bundle = false;
       state = λ n. step_by users (inside n) e (answered doc None v) (Some ((open_of doc x).mailbox)) (verdicts_inside _ p n) (mailbox_inside n)
           ∙ ap (λ os. let st : State = record { document = doc; added = n; open_sessions = os } in st) gone_inside;
       lines_given = λ n. given_by users (inside n) e (answered doc None v) (Some ((open_of doc x).mailbox)) (verdicts_inside _ p n) (mailbox_inside n);
@@ -174,7 +174,7 @@ module _ (users : List User) (doc : Document) (before behind : List SessionState
     pub answers_parting : ComesTo gone_quietly
         → Answers users doc doc (before ++ x ∷ behind) (before ++ behind) e []
     answers_parting p = record {
-      more = 0;
+      is_bundle = false;
       state = λ n. step_by users (inside n) e gone_quietly (Some ((open_of doc x).mailbox)) (verdicts_inside _ p n) (mailbox_inside n)
           ∙ ap (λ os. let st : State = record { document = doc; added = n; open_sessions = os } in st) gone_inside;
       lines_given = λ n. given_by users (inside n) e gone_quietly (Some ((open_of doc x).mailbox)) (verdicts_inside _ p n) (mailbox_inside n);
@@ -194,7 +194,7 @@ module _ (users : List User) (doc : Document) (before behind : List SessionState
         ∙ ap (λ o. opens doc before ++ o ∷ opens doc behind) (sym f)
         ∙ sym (opens-append doc before (y ∷ behind)) in
         record {
-          more = 0;
+          is_bundle = false;
           state = λ n. step_by users (inside n) e (answered doc (Some x.holder) v) (Some m) (verdicts_inside _ p n) (mailbox_inside n)
               ∙ ap (λ as'. let st : State = record { document = doc; added = n; open_sessions = with_session e.session (Some x.holder) (Some (emptied (posted_if_any m.view as' (emptied m)))) (opens doc (before ++ x ∷ behind)) } in st) none
               ∙ ap (λ os. let st : State = record { document = doc; added = n; open_sessions = os } in st) placed;

@@ -133,13 +133,11 @@ module _ (users : List User) (s s' : Document) (before behind : List SessionStat
       ap (λ as'. posted_if_any view' as' (emptied m)) (sym (shown x.holder.user))
       ∙ own-line s s' x (told (is_owner x.holder.user)) quick (unchanged s s' w w' told shown x.holder.user)
       ∙ ap (λ line. let n : Mailbox = record { view = view'; made = x.made + length (option_to_list line); waiting = option_to_list line; lagging = false } in n) (sym ready.line) in
-      let longer : (n : ℕ) → n + 1 ≡ 1 + n = λ n. omega arith in
       record {
-        more = 1;
+        is_bundle = true;
         state = λ n. step_by users (st n) e (own_bundle values) (Some m) (verdicts_inside users s before behind e spot x named _ p n) (mailbox_inside users s before behind e spot x named n)
             ∙ ap (λ k. let t : State = record { document = s'; added = n + 1; open_sessions = with_session e.session (Some h) (Some (emptied k)) (map (posted_to s') (opens s (before ++ x ∷ behind))) } in t) open_line
-            ∙ ap (λ os. let t : State = record { document = s'; added = n + 1; open_sessions = os } in t) placed
-            ∙ ap (λ k. let t : State = record { document = s'; added = k; open_sessions = opens s' (map posted_state before ++ y ∷ map posted_state behind) } in t) (longer n);
+            ∙ ap (λ os. let t : State = record { document = s'; added = n + 1; open_sessions = os } in t) placed;
         lines_given = λ n. given_by users (st n) e (own_bundle values) (Some m) (verdicts_inside users s before behind e spot x named _ p n) (mailbox_inside users s before behind e spot x named n)
             ∙ ap (λ k. x.waiting ++ k.waiting ++ reply_text (Bundle (x.holder.bundles + 1) values) ∷ []) open_line;
       }

@@ -121,7 +121,7 @@ module _ (users : List User) (s s' : Document) (tally : Tally) (xs xs' : List Se
   abbrev st : State
   st = state_of s k.added xs
 
-  leads : state_after users more ≡ state_of s' (a.more + k.added) xs'
+  leads : state_after users more ≡ state_of s' (if a.is_bundle then k.added + 1 else k.added) xs'
   leads = run_append users (opening new_document) es e ∙ ap (λ t. step users t e) k.state ∙ a.state k.added
 
   was_good : IsGood (counted es) st.open_sessions
@@ -134,7 +134,7 @@ module _ (users : List User) (s s' : Document) (tally : Tally) (xs xs' : List Se
   from_good tally' bytes' whole is g left =
       let P : State → Type 0 = λ t. IsGood (counted more) t.open_sessions in
       let g' : IsGood (counted more) (map (open_of s') xs') = subst P (a.state k.added) g in
-      record { added = a.more + k.added; state = leads; whole = whole; tally = is; by_name = kept_by_name s' xs' g'.by_name; few = kept_few s' (counted more) xs' g'; left = left }
+      record { added = (if a.is_bundle then k.added + 1 else k.added); state = leads; whole = whole; counts = is; by_name = kept_by_name s' xs' g'.by_name; few = kept_few s' (counted more) xs' g'; left = left }
 
   -- where there was room
   core_roomy : (tally' : Tally) (bytes' : Option ℕ) → IsWhole s' → IsTally s' tally' → length es < entry_bound → bytes' ≡ bytes_left (sum_by size_of more) → IsCore users more s' tally' xs' bytes'
@@ -171,7 +171,7 @@ core_same users es s s' tally tally' xs ys bytes e is same k =
       added = k.added;
       state = k.state ∙ ap (λ os. let t : State = record { document = s; added = k.added; open_sessions = os } in t) (sym (same s));
       whole = k.whole;
-      tally = subst T e is;
+      counts = subst T e is;
       by_name = kept_by_name s ys g.by_name;
       few = kept_few s (counted es) ys g;
       left = k.left;

@@ -123,7 +123,7 @@ pub answers_same : (users : List User) (s s' : Document) (xs qs ys : List Sessio
 answers_same users s s' xs qs ys e ls same h =
     let one : (n : ℕ) → state_of s n qs ≡ state_of s n xs = λ n. ap (λ os. let st : State = record { document = s; added = n; open_sessions = os } in st) (same s) in
     record {
-      more = h.more;
+      is_bundle = h.is_bundle;
       state = λ n. ap (λ st. step users st e) (sym (one n)) ∙ h.state n;
       lines_given = λ n. ap (λ st. given users st e) (sym (one n)) ∙ h.lines_given n;
     }

@@ -1,6 +1,6 @@
 -- How a judgement goes on from one action to the next.
 use Rattle.std.proofs.Common.{◌≡◌, ℕ, ◌+◌, ◌<◌, ◌≤◌, Bool, true, false, cond, not, ◌&&◌, nat_lt, List, [], ◌∷◌, ◌++◌, drop, length, Option, Some, None, refl, sym, ap, subst, ◌∙◌, arith}
-use Rattle.std.proofs.lemmas.Bool.{and_parts, le-ltb}
+use Rattle.std.proofs.lemmas.Bool.{and_parts, le-ltb, lt-ltb}
 use Rattle.std.specs.List.{list_all}
 use Rattle.doc_model.specs.declared.action.DocAction.{DocAction}
 use Rattle.doc_model.specs.declared.limit.LimitKind.TheVariants.{Actions}
@@ -48,14 +48,26 @@ with_all-accepted (m ∷ ms) s = ap (with_made m) (with_all-accepted ms s)
 -- a bundle in its form, of few enough actions, is judged from its first action on
 pub judge-from : (owner : Bool) (s : Document) (asked : List UserAction) → list_all is_in_form asked ≡ true → length asked ≤ 2000 → judge owner s asked ≡ judge_from owner s 0 asked
 judge-from owner s asked form few =
-    let short : nat_lt (bound_of Actions) (length asked) ≡ false = le-ltb (length asked) (bound_of Actions) few in
+    let short : nat_lt (bound_of Actions) (length asked) ≡ false = le-ltb (bound_of Actions) (length asked) few in
     ap (λ b. cond (not b) (refused (Refused 1 None)) (cond (nat_lt (bound_of Actions) (length asked)) (refused (Limited Actions (bound_of Actions) (Some (bound_of Actions)))) (judge_from owner s 0 asked))) form
     ∙ ap (λ b. cond b (refused (Limited Actions (bound_of Actions) (Some (bound_of Actions)))) (judge_from owner s 0 asked)) short
+
+-- one that is not in its form is no request
+pub judge-unformed : (owner : Bool) (s : Document) (asked : List UserAction) → list_all is_in_form asked ≡ false → judge owner s asked ≡ refused (Refused 1 None)
+judge-unformed owner s asked form =
+    ap (λ b. cond (not b) (refused (Refused 1 None)) (cond (nat_lt (bound_of Actions) (length asked)) (refused (Limited Actions (bound_of Actions) (Some (bound_of Actions)))) (judge_from owner s 0 asked))) form
+
+-- one of too many actions passes their limit
+pub judge-many : (owner : Bool) (s : Document) (asked : List UserAction) → list_all is_in_form asked ≡ true → 2000 < length asked → judge owner s asked ≡ refused (Limited Actions 2000 (Some 2000))
+judge-many owner s asked form many =
+    let long : nat_lt (bound_of Actions) (length asked) ≡ true = lt-ltb (bound_of Actions) (length asked) many in
+    ap (λ b. cond (not b) (refused (Refused 1 None)) (cond (nat_lt (bound_of Actions) (length asked)) (refused (Limited Actions (bound_of Actions) (Some (bound_of Actions)))) (judge_from owner s 0 asked))) form
+    ∙ ap (λ b. cond b (refused (Limited Actions (bound_of Actions) (Some (bound_of Actions)))) (judge_from owner s 0 asked)) long
 
 module _ (owner : Bool) (start : Document) (asked : List UserAction) where
   -- nothing is judged yet
   pub at_start : (tally : Tally) → IsTally start tally → IsAt owner start asked 0 start [] [] [] tally
-  at_start tally is = record { done_so_far = refl; valid = refl; may = record { valid = refl; tally = is }; judged = refl }
+  at_start tally is = record { done_so_far = refl; valid = refl; may = record { valid = refl; counts = is }; judged = refl }
 
   module _ (i : ℕ) (s : Document) (done next : List DocAction) (made : List Made) (tally : Tally) (h : IsAt owner start asked i s done next made tally) where
     pub next_done : apply_all s next ≡ apply_all start (done ++ next)
@@ -73,7 +85,7 @@ module _ (owner : Bool) (start : Document) (asked : List UserAction) where
         record {
           done_so_far = e ∙ next_done;
           valid = next_valid;
-          may = record { valid = refl; tally = subst P (sym e) h.may.tally };
+          may = record { valid = refl; counts = subst P (sym e) h.may.counts };
           judged = h.judged ∙ ap (λ u. with_all made (judge_from owner u i (drop i asked))) (sym e);
         }
 
@@ -91,7 +103,7 @@ module _ (owner : Bool) (start : Document) (asked : List UserAction) where
         ∙ ap (λ t. accepted t made) next_done
 
     pub tally_then : IsTally (apply_all start (done ++ next)) tally
-    tally_then = let P : Document → Type 0 = λ t. IsTally t tally in subst P next_done h.may.tally
+    tally_then = let P : Document → Type 0 = λ t. IsTally t tally in subst P next_done h.may.counts
 
   module _ (i : ℕ) (s : Document) (done : List DocAction) (made : List Made) (tally : Tally) (a : UserAction) (rest : List UserAction) (h : IsAt owner start asked i s done [] made tally) (e : drop i asked ≡ a ∷ rest) where
     here : judge_from owner start 0 asked ≡ with_all made (judge_from owner s i (a ∷ rest))
@@ -105,7 +117,7 @@ module _ (owner : Bool) (start : Document) (asked : List UserAction) where
         ∙ with_all-refused made v
 
     -- nothing stands against it
-    pub at_next : (n : Next) → drop (i + 1) asked ≡ rest → IsNext owner s i a n → IsAt owner start asked (i + 1) s done n.actions (made ++ n.made ∷ []) n.tally
+    pub at_next : (n : Next) → drop (i + 1) asked ≡ rest → IsNext owner s i a n → IsAt owner start asked (i + 1) s done n.actions.items (made ++ n.made ∷ []) n.tally
     at_next n f x = record {
       done_so_far = h.done_so_far;
       valid = h.valid;
@@ -114,6 +126,6 @@ module _ (owner : Bool) (start : Document) (asked : List UserAction) where
           ∙ ap (λ o. with_all made (elim o as (λ _. Judgement) [ Some w ↦ refused w | None ↦ with_made (made_at s a) (judge_from owner (after s a) (i + 1) rest) ])) x.unopposed
           ∙ ap (λ m. with_all made (with_made m (judge_from owner (after s a) (i + 1) rest))) (sym x.made)
           ∙ ap (λ t. with_all made (with_made n.made (judge_from owner t (i + 1) rest))) (sym x.leads)
-          ∙ ap (λ l. with_all made (with_made n.made (judge_from owner (apply_all s n.actions) (i + 1) l))) (sym f)
-          ∙ sym (with_all-last made n.made (judge_from owner (apply_all s n.actions) (i + 1) (drop (i + 1) asked)));
+          ∙ ap (λ l. with_all made (with_made n.made (judge_from owner (apply_all s n.actions.items) (i + 1) l))) (sym f)
+          ∙ sym (with_all-last made n.made (judge_from owner (apply_all s n.actions.items) (i + 1) (drop (i + 1) asked)));
     }

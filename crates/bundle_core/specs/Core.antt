@@ -74,7 +74,7 @@ pub record IsCore (users : List User) (es : List Entry) (s : Document) (tally : 
   pub added : ℕ
   pub state : state_after users es ≡ state_of s added sessions
   pub whole : IsWhole s
-  pub tally : IsTally s tally
+  pub counts : IsTally s tally
   pub by_name : IsByIds kept_name sessions
   pub few : AllByRecursion (IsCounted (counted es)) sessions
   pub left : bytes ≡ bytes_left (sum_by size_of es)

@@ -1,5 +1,5 @@
 -- What a core keeps of its state, and when it answers an entry as the state says.
-use Rattle.std.specs.Prelude.{◌≡◌, ℕ, Bool, ◌+◌, suc, zero, ◌<◌, ◌≤◌, true, take, drop, get_or, List, [], ◌∷◌, ◌++◌, map, length, option_to_list, Option, Some, None}
+use Rattle.std.specs.Prelude.{◌≡◌, ℕ, Bool, ◌+◌, suc, zero, ◌<◌, ◌≤◌, true, take, drop, get_or, List, [], ◌∷◌, ◌++◌, map, length, option_to_list, Option, Some, None, if◌then◌else◌}
 use Rattle.std.specs.List.{AllByRecursion}
 use Rattle.doc_model.specs.declared.entry.Entry.{Entry}
 use Rattle.doc_model.specs.declared.user.User.{User}
@@ -28,11 +28,11 @@ pub record IsSpot (name : List ℕ) (before behind : List SessionState) : Type 0
   pub below : AllByRecursion (λ x. precedes x.session name ≡ true) before
   pub above : AllByRecursion (λ x. precedes name x.session ≡ true) behind
 
--- the entry is answered with these lines, and leads to this document and these sessions, with so many
--- accepted bundles more
+-- the entry is answered with these lines, and leads to this document and these sessions; whether it was
+-- an accepted bundle
 pub record Answers (users : List User) (s s' : Document) (sessions sessions' : List SessionState) (e : Entry) (lines : List (List ℕ)) : Type 0 where
-  pub more : ℕ
-  pub state : (added : ℕ) → step users (state_of s added sessions) e ≡ state_of s' (more + added) sessions'
+  pub is_bundle : Bool
+  pub state : (added : ℕ) → step users (state_of s added sessions) e ≡ state_of s' (if is_bundle then added + 1 else added) sessions'
   pub lines_given : (added : ℕ) → given users (state_of s added sessions) e ≡ lines
 
 -- no session has been posted more lines, or had more bundles accepted, than there are entries

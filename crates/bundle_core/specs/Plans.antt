@@ -26,12 +26,12 @@ verdict_of (refusal.Limit what bound i) = Limited what bound (Some i)
 -- actions that may be done, and the tally of the document after them
 pub record MayBeDone (s : Document) (actions : List DocAction) (tally : Tally) : Type 0 where
   pub valid : all_valid s actions ≡ true
-  pub tally : IsTally (apply_all s actions) tally
+  pub counts : IsTally (apply_all s actions) tally
 
 -- the bundle is accepted with what these actions make of the document
 pub record IsPlan (owner : Bool) (s : Document) (asked : List UserAction) (p : Plan) : Type 0 where
-  pub judged : judge owner s asked ≡ accepted (apply_all s p.actions) p.made
-  pub may : MayBeDone s p.actions p.tally
+  pub judged : judge owner s asked ≡ accepted (apply_all s p.actions.items) p.made.items
+  pub may : MayBeDone s p.actions.items p.tally
 
 -- the judgement of a bundle
 abbrev pub IsJudged : Bool → Document → List UserAction → Judged → Type 0

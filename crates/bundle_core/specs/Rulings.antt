@@ -16,9 +16,9 @@ use Rattle.bundle_core.specs.Plans.{MayBeDone}
 -- nothing stands against the action at that place: its steps and what it made
 pub record IsNext (owner : Bool) (s : Document) (i : ℕ) (a : UserAction) (n : Next) : Type 0 where
   pub unopposed : refusal_at owner s i a ≡ None
-  pub leads : apply_all s n.actions ≡ after s a
+  pub leads : apply_all s n.actions.items ≡ after s a
   pub made : n.made ≡ made_at s a
-  pub may : MayBeDone s n.actions n.tally
+  pub may : MayBeDone s n.actions.items n.tally
 
 -- what the action at that place comes to
 abbrev pub IsRuling : Bool → Document → ℕ → UserAction → Ruling → Type 0

@@ -24,6 +24,7 @@ use crate::ways::{put_all, take_back_all};
 use doc_model::{DocAction, DocTables};
 use grist_json::{Line, Verdict, write_reply};
 use std::alloc::{AllocError, Global};
+use view_parts::part_law;
 
 /// Does the actions of a bundle of the session of that place, and posts every other open session the
 /// line that tells them. All memory is taken before anything that can be seen changes.
@@ -104,6 +105,7 @@ fn done_and_told<D: DocTables>(
     let before = see_parts(alloc, tables, actions)?;
     put_all(tables, actions, backs)?;
     let after = see_parts(alloc, tables, actions)?;
+    part_law();
     tell_changes(alloc, &before, &after)
 }
 

@@ -1,6 +1,6 @@
 //! Whether user actions have their forms.
 
-ghost use Rattle.std.specs.Prelude.{◌≡◌, ◌&&◌};
+ghost use Rattle.std.specs.Prelude.{◌≡◌, ◌&&◌, ◌∷◌};
 ghost use Rattle.std.specs.List.{list_all};
 ghost use Rattle.doc_model.specs.ByIds.{precedes};
 ghost use Rattle.bundle_core.specs.Forms.{are_by_id, have_values, is_for_one, is_in_form};
@@ -13,17 +13,27 @@ fn precedes(first: &str, second: &str) -> bool
     first < second
 }
 
+fn follow_by_id(first: &UserColumn, rest: &[UserColumn]) -> bool
+    ensures { result ≡ are_by_id (first.now ∷ rest.now) }
+{
+    let mut before = first;
+    for column in rest {
+        if !precedes(before.id.as_str(), column.id.as_str()) {
+            return false;
+        }
+        before = column;
+    }
+    true
+}
+
 // Whether columns stand by id, without repeats.
 fn are_by_id(columns: &[UserColumn]) -> bool
     ensures { result ≡ are_by_id columns.now }
 {
-    for place in 1..columns.len() {
-        let before = columns[place - 1].id.as_str();
-        if !precedes(before, columns[place].id.as_str()) {
-            return false;
-        }
+    match columns {
+        [first, rest @ ..] => follow_by_id(first, rest),
+        [] => true,
     }
-    true
 }
 
 fn have_values(count: usize, columns: &[UserColumn]) -> bool

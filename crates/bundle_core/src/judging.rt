@@ -22,7 +22,7 @@ use doc_model::{DocAction, DocTables, LimitKind, MAX_ACTIONS, Refusal, StepList,
 use grist_json::Verdict;
 use std::alloc::{AllocError, Global};
 use user_actions::{Expansion, Tally, expand, refuse};
-use view_parts::asked_view;
+use view_parts::{allowed_law, asked_law, asked_view};
 
 /// A bundle that is accepted: its document actions, what its user actions made, and the tally of the
 /// document after it.
@@ -112,6 +112,7 @@ fn rule_on_steps<D: DocTables>(
     requires tally { IsTally (D.document tables.now) tally }
     ensures { IfOk result (λ r. IsRuling owner (D.document tables.now) place action.now r) }
 {
+    allowed_law();
     match expand(alloc, tables, tally, action)? {
         Expansion::Limit(kind) => Ok(Ruling::Refused(limited(kind, place))),
         Expansion::Steps { steps, tally } => {
@@ -141,6 +142,7 @@ fn rule_on<D: DocTables>(
     ensures { IfOk result (λ r. IsRuling owner (D.document tables.now) place action.now r) }
 {
     let view = asked_view(alloc, tables, owner, action)?;
+    asked_law();
     match refuse(alloc, &view, action, place)? {
         Some(refusal) => Ok(Ruling::Refused(verdict_of(refusal))),
         None => rule_on_steps(alloc, tables, tally, owner, action, place),

@@ -12,6 +12,7 @@ ghost use Rattle.bundle_core.specs.Made.{is_single, known_rows, made_alone, made
 use cell_types::{CellText, Name, RowList};
 use doc_model::{DocAction, DocTables, Step, UserAction};
 use doc_readers::holds_row;
+use name_rules::is_name;
 use grist_json::{RetIdList, RetValue, RetValueList};
 use std::alloc::{AllocError, Global};
 use view_parts::{is_column_shown, rows_shown};
@@ -91,10 +92,10 @@ fn name_of(alloc: Global, text: &CellText) -> Result<Name, AllocError>
     requires { is_name text.now ≡ true }
     ensures { IfOk result (λ n. n ≡ text.now) }
 {
-    match Name::try_new(CellText::copy_of(alloc, text.as_str())?) {
-        Some(name) => Ok(name),
-        None => unreachable!(),
+    if !is_name(text.as_str()) {
+        unreachable!()
     }
+    Ok(Name::new(CellText::copy_of(alloc, text.as_str())?))
 }
 
 /// What an action of these steps made.

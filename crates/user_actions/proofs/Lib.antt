@@ -1,4 +1,4 @@
-mod AllowedLemmas
+pub mod AllowedLemmas
 mod FitLemmas
 mod NumberLemmas
 mod ObjectionLemmas

@@ -1,15 +1,12 @@
 //! Views of the tables that actions name, or of all, with the rows that the actions are about.
 
-ghost use Rattle.std.specs.Prelude.{◌≡◌, ◌&&◌, ◌++◌, cond, false, filter, map, IfOk, OnOk};
+ghost use Rattle.std.specs.Prelude.{◌≡◌, false, filter, IfOk, OnOk};
 ghost use Rattle.std.specs.Option.{option_copied};
-ghost use Rattle.doc_model.specs.ByIds.{has_id, place};
+ghost use Rattle.doc_model.specs.ByIds.{has_id};
 ghost use Rattle.doc_model.specs.Changes.{shown_table_id};
-ghost use Rattle.doc_model.specs.Document.{table_id};
 ghost use Rattle.doc_model.specs.DocumentLaws.{IsWhole};
 ghost use Rattle.doc_model.specs.Rows.{IsAscending};
-ghost use Rattle.doc_readers.specs.Parts.{grid_at};
 ghost use Rattle.view_parts.specs.Parts.{is_row_touched, is_touched, names_table};
-ghost use Rattle.view_parts.specs.Shown.{is_shown};
 ghost use Rattle.view_parts.specs.Wanted.{is_about_all, is_all_touched, is_wanted, rows_named, rows_of, rows_wanted, wanted, wanted_at, with_wanted};
 
 use crate::rows::rows_among;

@@ -19,10 +19,11 @@ use doc_model::{DocAction, DocTables, UserAction, View, ViewTable, ViewTableList
 use doc_readers::{has_table, rows_in};
 use std::alloc::{AllocError, Global};
 
-/// The part of what owners see of a document, or others, that these actions are about: the tables that
-/// they name, with the rows that they are about.
+/// The part of what owners see of a document, or others, that these actions are about: the tables
+/// that they name, with the rows that they are about.
 ///
-/// Errors: want of memory. Cost: the cells of those rows, and of whole tables for schema actions.
+/// Errors: want of memory. Cost: the cells of those rows, and of whole tables for schema actions; and
+/// the tables times the actions.
 pub fn touched_view<D: DocTables>(
     alloc: Global,
     tables: &D,

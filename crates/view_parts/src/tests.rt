@@ -1,4 +1,4 @@
-//! Which rows are kept of those that are asked for, and which tables are seen, on values from outside.
+//! Which rows are kept of those that are asked for, and which tables are seen.
 
 use crate::rows::rows_among;
 use crate::tables::is_shown;

@@ -1,16 +1,13 @@
 //! Views of the tables that actions name, or of all, with the rows that the actions are about.
 
-ghost use Rattle.std.specs.Prelude.{◌≡◌, ◌&&◌, ◌++◌, cond, false, filter, map, IfOk, OnOk};
+ghost use Rattle.std.specs.Prelude.{◌≡◌, false, filter, IfOk, OnOk};
 ghost use Rattle.std.specs.Option.{option_copied};
-ghost use Rattle.doc_model.specs.ByIds.{has_id, place};
+ghost use Rattle.doc_model.specs.ByIds.{has_id};
 ghost use Rattle.doc_model.specs.Changes.{shown_table_id};
-ghost use Rattle.doc_model.specs.Document.{table_id};
 ghost use Rattle.doc_model.specs.DocumentLaws.{IsWhole};
 ghost use Rattle.doc_model.specs.Rows.{IsAscending};
-ghost use Rattle.doc_readers.specs.Parts.{grid_at};
 ghost use Rattle.view_parts.specs.Parts.{is_row_touched, is_touched, names_table};
-ghost use Rattle.view_parts.specs.Shown.{is_shown};
-ghost use Rattle.view_parts.specs.Wanted.{is_about_all, is_all_touched, is_wanted, rows_named, rows_of, rows_wanted, wanted, wanted_at};
+ghost use Rattle.view_parts.specs.Wanted.{is_about_all, is_all_touched, is_wanted, rows_named, rows_of, rows_wanted, wanted, wanted_at, with_wanted};
 
 use crate::rows::rows_among;
 use crate::tables::{is_shown, put_table, shown_with, table_ids};
@@ -157,9 +154,7 @@ fn put_wanted<D: DocTables>(
 ) -> Result<(), AllocError>
     requires whole { IsWhole (D.document tables.now) }
     requires new { has_id shown_table_id shown.old.items id.now ≡ false }
-    ensures { OnOk result (shown.new.items ≡ cond (is_wanted (option_copied actions.entry) id.now && is_shown owner id.now)
-        (place shown_table_id (wanted_at (option_copied actions.entry) (D.document tables.now) id.now) shown.old.items)
-        shown.old.items) }
+    ensures { OnOk result (shown.new.items ≡ with_wanted owner (option_copied actions.entry) (D.document tables.now) id.now shown.old.items) }
 {
     if !(is_wanted(actions, id) && is_shown(owner, id)) {
         return Ok(());
@@ -171,8 +166,8 @@ fn put_wanted<D: DocTables>(
 
 /// The wanted tables that owners see, or others, by id: all where no actions are given.
 ///
-/// Errors: want of memory. Cost: the cells of their wanted rows, the square of the tables, and the tables
-/// times the actions.
+/// Errors: want of memory. Cost: the cells of their wanted rows, the square of the tables, and the
+/// tables times the actions.
 pub(crate) fn wanted_tables<D: DocTables>(
     alloc: Global,
     tables: &D,

@@ -11,3 +11,6 @@ mod ViewLemmas
 mod WalkLemmas
 mod SumLemmas
 mod CountedLemmas
+mod SumMoves
+mod PeakMoves
+mod ExpansionLemmas

@@ -104,7 +104,8 @@ fn other_steps<D: DocTables>(
     }
 }
 
-fn makes_rows(action: &UserAction) -> bool
+/// Whether the action makes rows.
+pub(crate) fn makes_rows(action: &UserAction) -> bool
     ensures { result ≡ makes_rows action.now }
 {
     matches!(

@@ -1,12 +1,17 @@
 //! What a user action comes to, limits included.
 
-ghost use Rattle.std.specs.Prelude.{◌≡◌, true, IfOk};
+ghost use Rattle.std.specs.Prelude.{◌≡◌, true, false, IfOk};
 ghost use Rattle.doc_model.specs.DocumentLaws.{IsWhole};
 ghost use Rattle.user_actions.specs.Allowed.{is_allowed};
+ghost use Rattle.user_actions.specs.Capped.{capped, no_more, settled};
+ghost use Rattle.user_actions.specs.Kinds.{makes_rows};
 ghost use Rattle.user_actions.specs.StepLaws.{is_well_formed};
 ghost use Rattle.user_actions.specs.Tallies.{IsExpansion, IsTally};
 
 use crate::Tally;
+use crate::expanding::{makes_rows, steps};
+use crate::limits::{Counted, Extent, first_passed};
+use crate::moves::{Moved, after_steps};
 use doc_model::{DocTables, LimitKind, StepList, UserAction};
 use std::alloc::{AllocError, Global};
 
@@ -17,6 +22,79 @@ pub enum Expansion {
     Steps { steps: StepList, tally: Tally },
     /// The first limit that would be passed after them.
     Limit(LimitKind),
+}
+
+fn no_more() -> Extent
+    ensures { result ≡ no_more }
+{
+    Extent {
+        columns: 0,
+        rows: 0,
+        row_id: 0,
+    }
+}
+
+fn sums_of(tally: Tally) -> Moved
+    ensures tables { result.tables ≡ tally.tables }
+    ensures cells { result.cells ≡ tally.cells }
+    ensures weight { result.weight ≡ tally.weight }
+    ensures small_tables { result.tables ≡ capped tally.tables }
+    ensures small_cells { result.cells ≡ capped tally.cells }
+    ensures small_weight { result.weight ≡ capped tally.weight }
+{
+    Moved {
+        tables: tally.tables,
+        cells: tally.cells,
+        weight: tally.weight,
+    }
+}
+
+// What steps come to, by the sums and the peaks after them.
+fn settled(steps: StepList, sums: Moved, most: Extent) -> Expansion
+    ensures { result ≡ settled steps sums most }
+{
+    let counts = Counted {
+        tables: sums.tables,
+        columns: most.columns,
+        rows: most.rows,
+        row_id: most.row_id,
+        cells: sums.cells,
+        weight: sums.weight,
+    };
+    match first_passed(counts) {
+        Some(kind) => Expansion::Limit(kind),
+        None => Expansion::Steps {
+            steps,
+            tally: Tally {
+                tables: sums.tables,
+                cells: sums.cells,
+                weight: sums.weight,
+                within: true,
+            },
+        },
+    }
+}
+
+// What an action comes to that makes no rows: no table has more columns or rows after it.
+fn other_expansion<D: DocTables>(
+    alloc: Global,
+    tables: &D,
+    tally: Tally,
+    action: &UserAction,
+) -> Result<Expansion, AllocError>
+    requires whole { IsWhole (D.document tables.now) }
+    requires allowed { is_allowed (D.document tables.now) action.now ≡ true }
+    requires well_formed { is_well_formed action.now ≡ true }
+    requires tally { IsTally (D.document tables.now) tally }
+    requires within { tally.within ≡ true }
+    requires other { makes_rows action.now ≡ false }
+    ensures { IfOk result (λ e. IsExpansion (D.document tables.now) action.now e) }
+{
+    let Some(steps) = steps(alloc, tables, action)? else {
+        unreachable!()
+    };
+    let sums = after_steps(tables, sums_of(tally), steps.as_slice());
+    Ok(settled(steps, sums, no_more()))
 }
 
 /// The document actions of a user action, or the first limit that would be passed after them, by the
@@ -37,5 +115,8 @@ pub fn expand<D: DocTables>(
     requires tally { IsTally (D.document tables.now) tally }
     ensures { IfOk result (λ e. IsExpansion (D.document tables.now) action.now e) }
 {
-    Err(AllocError)
+    if !tally.within || makes_rows(action) {
+        return Err(AllocError);
+    }
+    other_expansion(alloc, tables, tally, action)
 }

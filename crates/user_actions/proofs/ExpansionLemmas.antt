@@ -22,7 +22,8 @@ use Rattle.doc_model.proofs.SchemaCounts.{counts-apply}
 use Rattle.user_actions.specs.declared.expansion.Expansion.{Expansion}
 use Rattle.user_actions.specs.declared.limits.Extent.{Extent}
 use Rattle.user_actions.specs.declared.moves.Moved.{Moved}
-use Rattle.user_actions.specs.Capped.{all_moved, both_noted, capped, has_named, is_there, moved_by, settled}
+use Rattle.user_actions.specs.declared.tally.Tally.{Tally}
+use Rattle.user_actions.specs.Capped.{AreTaken, all_moved, both_noted, capped, has_named, is_there, moved_by, settled}
 use Rattle.user_actions.specs.StepLaws.{action_of}
 use Rattle.user_actions.specs.Steps.{steps_of}
 use Rattle.user_actions.specs.Tallies.{AreSteps, IsExpansion, IsTally, after, are_within}
@@ -81,7 +82,7 @@ one_told s a m whole v exact =
 capped_small : (n : ℕ) → n < 2 ^ 64 → n ≡ capped n
 capped_small n h = grind arith
 
-none_told : (s : Document) (m : Moved) → IsExact m s → TellsSums m s
+pub none_told : (s : Document) (m : Moved) → IsExact m s → TellsSums m s
 none_told s m exact = record {
   tables = exact.tables ∙ capped_small (counts s).tables exact.small_tables;
   cells = exact.cells ∙ capped_small (counts s).cells exact.small_cells;
@@ -203,3 +204,18 @@ settled_is s a m e v sums most =
           }
       | Some kind ↦ λ is. sym same ∙ is
     ] refl
+
+-- ---- the tally as sums
+
+small_from : (m t n : ℕ) → m ≡ t → m ≡ capped t → t ≡ n → n < 2 ^ 64
+small_from m t n same small is = grind arith
+
+pub exact_from : (s : Document) (t : Tally) (m : Moved) → IsTally s t → AreTaken t m → IsExact m s
+exact_from s t m is taken = record {
+  tables = taken.tables ∙ is.tables;
+  cells = taken.cells ∙ is.cells;
+  weight = taken.weight ∙ is.weight;
+  small_tables = small_from m.tables t.tables (counts s).tables taken.tables taken.small_tables is.tables;
+  small_cells = small_from m.cells t.cells (counts s).cells taken.cells taken.small_cells is.cells;
+  small_weight = small_from m.weight t.weight (counts s).weight taken.weight taken.small_weight is.weight;
+}

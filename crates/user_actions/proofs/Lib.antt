@@ -14,3 +14,4 @@ mod CountedLemmas
 mod SumMoves
 mod PeakMoves
 mod ExpansionLemmas
+mod StepMoves

@@ -15,6 +15,7 @@ use Rattle.user_actions.specs.declared.expansion.Expansion.TheVariants as expans
 use Rattle.user_actions.specs.declared.limits.Counted.{Counted}
 use Rattle.user_actions.specs.declared.limits.Extent.{Extent}
 use Rattle.user_actions.specs.declared.moves.Moved.{Moved}
+use Rattle.user_actions.specs.declared.tally.Tally.{Tally}
 
 -- a count, or the greatest number of 64 bits where it is above it
 abbrev pub capped : ℕ → ℕ
@@ -102,3 +103,12 @@ settled steps m e = elim (first_passed (both_noted m e)) [
 
 abbrev pub no_more : Extent
 no_more = record { columns = 0; rows = 0; row_id = 0 }
+
+-- a tally's sums, which 64 bits can tell
+pub record AreTaken (t : Tally) (m : Moved) : Type 0 where
+  pub tables : m.tables ≡ t.tables
+  pub cells : m.cells ≡ t.cells
+  pub weight : m.weight ≡ t.weight
+  pub small_tables : m.tables ≡ capped t.tables
+  pub small_cells : m.cells ≡ capped t.cells
+  pub small_weight : m.weight ≡ capped t.weight

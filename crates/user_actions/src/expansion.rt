@@ -3,7 +3,7 @@
 ghost use Rattle.std.specs.Prelude.{◌≡◌, true, false, IfOk};
 ghost use Rattle.doc_model.specs.DocumentLaws.{IsWhole};
 ghost use Rattle.user_actions.specs.Allowed.{is_allowed};
-ghost use Rattle.user_actions.specs.Capped.{capped, no_more, settled};
+ghost use Rattle.user_actions.specs.Capped.{AreTaken, no_more, settled};
 ghost use Rattle.user_actions.specs.Kinds.{makes_rows};
 ghost use Rattle.user_actions.specs.StepLaws.{is_well_formed};
 ghost use Rattle.user_actions.specs.Tallies.{IsExpansion, IsTally};
@@ -35,12 +35,7 @@ fn no_more() -> Extent
 }
 
 fn sums_of(tally: Tally) -> Moved
-    ensures tables { result.tables ≡ tally.tables }
-    ensures cells { result.cells ≡ tally.cells }
-    ensures weight { result.weight ≡ tally.weight }
-    ensures small_tables { result.tables ≡ capped tally.tables }
-    ensures small_cells { result.cells ≡ capped tally.cells }
-    ensures small_weight { result.weight ≡ capped tally.weight }
+    ensures { AreTaken tally result }
 {
     Moved {
         tables: tally.tables,

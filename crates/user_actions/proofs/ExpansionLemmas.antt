@@ -1,5 +1,5 @@
 -- Sums and peaks after the steps of a user action, and what it comes to by them.
-use Rattle.std.proofs.Common.{ℕ, Bool, true, false, cond, not, ◌&&◌, ◌+◌, ◌-◌, ◌^◌, ◌<◌, ◌≤◌, List, [], ◌∷◌, map, length, ◌≡◌, refl, sym, ap, subst, ◌∙◌, Option, Some, None, arith, ltb}
+use Rattle.std.proofs.Common.{ℕ, Bool, true, false, cond, ◌&&◌, ◌+◌, ◌-◌, ◌^◌, ◌<◌, ◌≤◌, List, [], ◌∷◌, map, length, ◌≡◌, refl, sym, ap, ◌∙◌, Option, Some, None, arith, ltb}
 use Rattle.std.specs.Prelude.{nat_le}
 use Rattle.std.proofs.lemmas.Bool.{and_parts, false≢true, true≢false, le-ltb, ltb-false}
 use Rattle.std.specs.List.{list_all}
@@ -12,22 +12,21 @@ use Rattle.doc_model.specs.declared.user_action.UserAction.{UserAction}
 use Rattle.doc_model.specs.Apply.{all_valid, apply, apply_all}
 use Rattle.doc_model.specs.ByIds.{find_id}
 use Rattle.doc_model.specs.CountLaws.{SumsMove, come, gone}
-use Rattle.doc_model.specs.Counts.{Counts, bound_of, counts, first_passed, over, passed}
+use Rattle.doc_model.specs.Counts.{Counts, counts, first_passed, over}
 use Rattle.doc_model.specs.Document.{Document, Table, table_id}
 use Rattle.doc_model.specs.DocumentLaws.{IsWhole}
 use Rattle.doc_model.specs.MetadataIds.{is_metadata_id, is_schema_id}
-use Rattle.doc_model.specs.Valid.{passes, record_table, schema_table, valid}
+use Rattle.doc_model.specs.Valid.{passes, valid}
 use Rattle.doc_model.proofs.Choices.{both_true}
 use Rattle.doc_model.proofs.SchemaCounts.{counts-apply}
 use Rattle.user_actions.specs.declared.expansion.Expansion.{Expansion}
 use Rattle.user_actions.specs.declared.limits.Extent.{Extent}
 use Rattle.user_actions.specs.declared.moves.Moved.{Moved}
 use Rattle.user_actions.specs.declared.tally.Tally.{Tally}
-use Rattle.user_actions.specs.Capped.{AreTaken, all_moved, both_noted, capped, has_named, is_there, moved_by, settled}
+use Rattle.user_actions.specs.Capped.{AreTaken, all_moved, both_noted, capped, has_named, is_there, moved_by, peaks_noted, settled}
 use Rattle.user_actions.specs.StepLaws.{action_of}
 use Rattle.user_actions.specs.Steps.{steps_of}
-use Rattle.user_actions.specs.Tallies.{AreSteps, IsExpansion, IsTally, after, are_within}
-use Rattle.user_actions.proofs.PeakMoves.{IsBelow, is_growing, stays-below}
+use Rattle.user_actions.specs.Tallies.{IsExpansion, IsTally, after, are_within}
 use Rattle.user_actions.proofs.SumMoves.{WasThere, sum_moved, was_there}
 
 -- ---- an action that is valid has its table
@@ -219,3 +218,23 @@ exact_from s t m is taken = record {
   small_cells = small_from m.cells t.cells (counts s).cells taken.cells taken.small_cells is.cells;
   small_weight = small_from m.weight t.weight (counts s).weight taken.weight taken.small_weight is.weight;
 }
+
+-- ---- the first limits, before steps are made
+
+chosen_early : (t c r i n w : Bool) (kind : LimitKind) → chosen t c r i false false ≡ Some kind → chosen t c r i n w ≡ Some kind
+chosen_early true c r i n w kind h = h
+chosen_early false true r i n w kind h = h
+chosen_early false false true i n w kind h = h
+chosen_early false false false true n w kind h = h
+chosen_early false false false false n w kind h = absurd (cc)
+
+pub early_is : (s : Document) (m : Moved) (e : Extent) (kind : LimitKind) → m.tables ≡ (counts s).tables → TellsPeaks e s → first_passed (peaks_noted m e) ≡ Some kind → over s ≡ Some kind
+early_is s m e kind tables most h =
+    chosen_early (ltb 2048 (counts s).tables) (ltb 1024 (counts s).columns) (ltb 1000000 (counts s).rows) (ltb 4294967295 (counts s).row_id) (ltb 4000000 (counts s).cells) (ltb 268435456 (counts s).weight) kind
+    (sym (ap (λ n. chosen (ltb 2048 n) (ltb 1024 e.columns) (ltb 1000000 e.rows) (ltb 4294967295 e.row_id) false false) tables
+    ∙ ap (λ b. chosen (ltb 2048 (counts s).tables) b (ltb 1000000 e.rows) (ltb 4294967295 e.row_id) false false) most.columns
+    ∙ ap (λ b. chosen (ltb 2048 (counts s).tables) (ltb 1024 (counts s).columns) b (ltb 4294967295 e.row_id) false false) most.rows
+    ∙ ap (λ b. chosen (ltb 2048 (counts s).tables) (ltb 1024 (counts s).columns) (ltb 1000000 (counts s).rows) b false false) most.row_id) ∙ h)
+
+pub early_row : (m : Moved) (e : Extent) → first_passed (peaks_noted m e) ≡ None → e.row_id ≤ 4294967295
+early_row m e h = ltb-false 4294967295 e.row_id (under (peaks_noted m e) h).row_id

@@ -15,3 +15,4 @@ mod SumMoves
 mod PeakMoves
 mod ExpansionLemmas
 mod StepMoves
+mod AddMoves

@@ -1,20 +1,19 @@
 -- The most columns and rows and the greatest row id after an action, against their bounds.
-use Rattle.std.proofs.Common.{ℕ, Bool, true, false, cond, not, ◌&&◌, ◌+◌, ◌-◌, ◌<◌, ◌≤◌, max, List, [], ◌∷◌, ◌++◌, map, filter, length, ◌≡◌, refl, sym, ap, subst, ◌∙◌, Option, Some, None, arith, ltb}
-use Rattle.std.specs.Prelude.{nat_le}
-use Rattle.std.proofs.lemmas.Bool.{and_parts, false≢true, true≢false, le-ltb, lt-ltb, ltb-true, ltb-false}
+use Rattle.std.proofs.Common.{ℕ, Bool, true, false, cond, not, ◌≤◌, max, List, [], ◌∷◌, ◌++◌, map, filter, length, ◌≡◌, refl, sym, subst, arith}
+use Rattle.std.proofs.lemmas.Bool.{true≢false}
 use Rattle.std.specs.List.{AllByRecursion}
 use Rattle.std.specs.Str.{bytes_eq}
 use Rattle.doc_model.specs.declared.action.DocAction.{DocAction}
 use Rattle.doc_model.specs.declared.action.DocAction.TheVariants.{BulkAdd, BulkUpdate, BulkRemove, AddTable, RemoveTable, RenameTable, AddColumn, RemoveColumn, RenameColumn, ModifyColumn}
 use Rattle.doc_model.specs.Apply.{apply}
 use Rattle.doc_model.specs.ByIds.{without_id}
-use Rattle.doc_model.specs.Counts.{Counts, counts, greatest}
+use Rattle.doc_model.specs.Counts.{counts, greatest}
 use Rattle.doc_model.specs.Document.{Document, Table, table_id}
 use Rattle.doc_model.specs.DocumentLaws.{IsWhole}
-use Rattle.doc_model.specs.PeakLaws.{AreGreatest, Peaks, columns_then, new_peaks, peaks, peaks_after, peaks_then, rows_in, rows_out, staying}
+use Rattle.doc_model.specs.PeakLaws.{AreGreatest, Peaks, columns_then, new_peaks, peaks_after, peaks_then, rows_in, rows_out, staying}
 use Rattle.doc_model.specs.Rows.{has, without}
 use Rattle.doc_model.specs.Valid.{valid}
-use Rattle.doc_model.proofs.Choices.{each_weaker, map-map}
+use Rattle.doc_model.proofs.Choices.{each_weaker}
 use Rattle.doc_model.proofs.SchemaPeaks.{peaks-apply}
 use Rattle.user_actions.proofs.SumLemmas.{greatest-cons}
 

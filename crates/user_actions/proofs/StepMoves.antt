@@ -1,5 +1,5 @@
 -- Sums and peaks after the steps of an action that makes no rows.
-use Rattle.std.proofs.Common.{ℕ, Bool, true, false, cond, not, ◌&&◌, ◌||◌, ◌+◌, ◌-◌, ◌^◌, ◌<◌, ◌≤◌, List, [], ◌∷◌, map, length, ◌≡◌, refl, sym, ap, subst, ◌∙◌, Option, Some, None, arith, ltb}
+use Rattle.std.proofs.Common.{ℕ, Bool, true, false, cond, not, ◌&&◌, ◌||◌, ◌+◌, ◌-◌, ◌^◌, ◌<◌, ◌≤◌, List, [], ◌∷◌, map, length, ◌≡◌, refl, sym, ap, subst, ◌∙◌, Option, Some, None, arith}
 use Rattle.std.proofs.lemmas.Bool.{and_parts, false≢true, true≢false, le-ltb}
 use Rattle.std.specs.List.{list_all}
 use Rattle.std.specs.Option.{option_map}
@@ -22,7 +22,7 @@ use Rattle.doc_model.specs.DocumentLaws.{IsWhole}
 use Rattle.doc_model.specs.Grid.{Grid, cell}
 use Rattle.doc_model.specs.Same.{same_type}
 use Rattle.doc_model.specs.Schema.{plain_tables, resources, rules, with_schema}
-use Rattle.doc_model.specs.Valid.{all_null, passes, schema_table, valid}
+use Rattle.doc_model.specs.Valid.{all_null, schema_table, valid}
 use Rattle.doc_model.specs.ViewEdits.{if_any}
 use Rattle.doc_model.proofs.ByIdsLaws.{bytes_itself}
 use Rattle.doc_model.proofs.ByRowLaws.{find-with_id}
@@ -38,7 +38,7 @@ use Rattle.user_actions.specs.declared.moves.Moved.{Moved}
 use Rattle.user_actions.specs.Capped.{all_moved, capped, has_named, is_there, moved_by, no_more}
 use Rattle.user_actions.specs.Kinds.{makes_rows}
 use Rattle.user_actions.specs.StepLaws.{action_of}
-use Rattle.user_actions.specs.Steps.{all_fitted, column_ids, column_refitted, direct, indirect, info_said, modified, retyped, row_ids, rows_changed, steps_of, table_ids}
+use Rattle.user_actions.specs.Steps.{all_fitted, column_refitted, direct, indirect, info_said, retyped, row_ids, rows_changed, steps_of}
 use Rattle.user_actions.specs.Tallies.{after}
 use Rattle.user_actions.proofs.ExpansionLemmas.{IsExact, TellsPeaks, TellsSums, any_there, any_told, has_named-valid, none_told, one_told}
 use Rattle.user_actions.proofs.PeakMoves.{IsBelow, is_growing, stays-below}

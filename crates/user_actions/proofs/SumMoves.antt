@@ -1,5 +1,5 @@
 -- What an action takes was there, and so the sums after it are told in 64 bits.
-use Rattle.std.proofs.Common.{ℕ, Bool, true, false, cond, not, ◌&&◌, ◌||◌, ◌+◌, ◌-◌, ◌^◌, ◌<◌, ◌≤◌, List, [], ◌∷◌, map, length, ◌≡◌, refl, sym, ap, subst, ◌∙◌, Option, Some, None, arith}
+use Rattle.std.proofs.Common.{ℕ, Bool, true, false, not, ◌&&◌, ◌||◌, ◌+◌, ◌-◌, ◌^◌, ◌<◌, ◌≤◌, List, [], ◌∷◌, map, length, ◌≡◌, refl, sym, ap, ◌∙◌, Option, Some, None, arith}
 use Rattle.std.proofs.lemmas.Bool.{and_parts, false≢true}
 use Rattle.std.specs.List.{list_all}
 use Rattle.std.specs.Prelude.{nat_eq}
@@ -14,14 +14,14 @@ use Rattle.doc_model.specs.Apply.{apply}
 use Rattle.doc_model.specs.ByIds.{are_distinct, find_id, has_id}
 use Rattle.doc_model.specs.Column.{column_id, is_base, is_empty, is_short, is_sound_info, is_sound_type}
 use Rattle.doc_model.specs.CountLaws.{Sums, SumsMove, bytes_of_formula, come, column_weight, given_weight, gone, nothing, sums_of}
-use Rattle.doc_model.specs.Counts.{counts, row_weight, total, value_weight}
+use Rattle.doc_model.specs.Counts.{counts, row_weight, total}
 use Rattle.doc_model.specs.Document.{Document, Table, table_id}
 use Rattle.doc_model.specs.DocumentLaws.{IsWhole}
 use Rattle.doc_model.specs.Grid.{Grid}
 use Rattle.doc_model.specs.Records.{given_id}
 use Rattle.doc_model.specs.Rows.{all_in, is_once}
 use Rattle.doc_model.specs.Valid.{all_null, from_one, gives_column, gives_data, is_data, passes, record_table, schema_table, valid}
-use Rattle.doc_model.proofs.Choices.{both_true, length_map, map-map, parts_3, parts_4}
+use Rattle.doc_model.proofs.Choices.{both_true, length_map, map-map, parts_3}
 use Rattle.doc_model.proofs.ByIdsLaws.{has_id-map}
 use Rattle.doc_model.proofs.SchemaCounts.{counts-apply}
 use Rattle.user_actions.specs.Capped.{capped}

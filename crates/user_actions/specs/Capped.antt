@@ -1,8 +1,10 @@
 -- Counts as far as 64 bits can tell them.
-use Rattle.std.specs.Prelude.{ℕ, Bool, true, ◌+◌, ◌^◌, ◌-◌, ◌≡◌, min, cond, List, [], ◌∷◌, get_or, Some, None}
+use Rattle.std.specs.Prelude.{ℕ, Bool, true, ◌+◌, ◌^◌, ◌-◌, ◌≡◌, min, cond, List, [], ◌∷◌, get_or, length, Some, None}
 use Rattle.doc_model.specs.declared.action.DocAction.{DocAction}
 use Rattle.doc_model.specs.declared.action.DocAction.TheVariants.{BulkAdd, BulkUpdate, BulkRemove, AddTable, RemoveTable, RenameTable, AddColumn, RemoveColumn, RenameColumn, ModifyColumn}
 use Rattle.doc_model.specs.declared.action.Step.{Step}
+use Rattle.doc_model.specs.declared.user_action.UserAction.{UserAction}
+use Rattle.doc_model.specs.declared.user_action.UserAction.TheVariants.{Add}
 use Rattle.doc_model.specs.ByIds.{find_id}
 use Rattle.doc_model.specs.CountLaws.{Sums, come, gone}
 use Rattle.doc_model.specs.Counts.{grid_cells, grid_weight, Counts, first_passed}
@@ -10,12 +12,14 @@ use Rattle.doc_model.specs.Document.{Table, Document, table_id}
 use Rattle.doc_model.specs.MetadataIds.{is_schema_id}
 use Rattle.doc_model.specs.Schema.{no_grid}
 use Rattle.doc_model.specs.Valid.{passes}
+use Rattle.doc_readers.specs.Parts.{grid_at}
 use Rattle.user_actions.specs.declared.expansion.Expansion.{Expansion}
 use Rattle.user_actions.specs.declared.expansion.Expansion.TheVariants as expansion
 use Rattle.user_actions.specs.declared.limits.Counted.{Counted}
 use Rattle.user_actions.specs.declared.limits.Extent.{Extent}
 use Rattle.user_actions.specs.declared.moves.Moved.{Moved}
 use Rattle.user_actions.specs.declared.tally.Tally.{Tally}
+use Rattle.user_actions.specs.Steps.{last_row}
 
 -- a count, or the greatest number of 64 bits where it is above it
 abbrev pub capped : ℕ → ℕ
@@ -112,3 +116,25 @@ pub record AreTaken (t : Tally) (m : Moved) : Type 0 where
   pub small_tables : m.tables ≡ capped t.tables
   pub small_cells : m.cells ≡ capped t.cells
   pub small_weight : m.weight ≡ capped t.weight
+
+-- the counts of peaks alone
+abbrev pub peaks_noted : Moved → Extent → Counts
+peaks_noted m e = record {
+  tables = m.tables;
+  columns = e.columns;
+  rows = e.rows;
+  row_id = e.row_id;
+  cells = 0;
+  weight = 0;
+}
+
+-- the action adds so many records
+abbrev pub AddsSo : UserAction → ℕ → Type 0
+AddsSo (Add table single count explicit ks) n = n ≡ count
+AddsSo _ n = ⊥
+
+-- the rows of a table where so many come to it
+pub record IsExtentAdded (s : Document) (table : List ℕ) (count : ℕ) (e : Extent) : Type 0 where
+  pub columns : e.columns ≡ 0
+  pub rows : e.rows ≡ capped (length (grid_at s table).rows + count)
+  pub row_id : e.row_id ≡ last_row s table + count

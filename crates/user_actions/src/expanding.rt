@@ -104,8 +104,7 @@ fn other_steps<D: DocTables>(
     }
 }
 
-/// Whether the action makes rows.
-pub(crate) fn makes_rows(action: &UserAction) -> bool
+fn makes_rows(action: &UserAction) -> bool
     ensures { result ≡ makes_rows action.now }
 {
     matches!(

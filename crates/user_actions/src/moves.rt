@@ -25,12 +25,7 @@ pub(crate) struct Moved {
 }
 
 // The weight of the cells of given columns in these rows.
-fn cells_given<D: DocTables>(
-    tables: &D,
-    table: &Name,
-    rows: &[u32],
-    columns: &[CellColumn],
-) -> u64
+fn cells_given<D: DocTables>(tables: &D, table: &Name, rows: &[u32], columns: &[CellColumn]) -> u64
     ensures { result ≡ capped (total (map (λ (k : CellColumn). column_weight (grid_at (D.document tables.now) table.now) rows.now k.id) columns.now)) }
 {
     let mut weight = 0u64;

@@ -47,7 +47,7 @@ taken_all (x ∷ xs) (suc i) h = ap (λ l. x ∷ l) (taken_all xs i (omega (arit
 pub table_named : (s : Document) (i : ℕ) (id : List ℕ) → table_at s i ≡ Some id → id ≡ (table_in s i).id
 table_named s i id h = let t = table_read s i id h in t.2 ∙ ap table_id (sym (get_or_from_slice_get s i t.0 no_table t.1))
 
-grid_found : (s : Document) (id : List ℕ) (t : Table) → find_id table_id id s ≡ Some t → grid_at s id ≡ t.grid
+pub grid_found : (s : Document) (id : List ℕ) (t : Table) → find_id table_id id s ≡ Some t → grid_at s id ≡ t.grid
 grid_found s id t e = ap (λ (o : Option Table). elim o as (λ _. Grid ColDef) [ None ↦ no_grid | Some t ↦ t.grid ]) e
 
 pub table_grid : (s : Document) → IsWhole s → (i : ℕ) (id : List ℕ) → table_at s i ≡ Some id → grid_at s id ≡ (table_in s i).grid

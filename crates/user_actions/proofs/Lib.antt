@@ -11,3 +11,8 @@ mod ViewLemmas
 mod WalkLemmas
 mod SumLemmas
 mod CountedLemmas
+mod SumMoves
+mod PeakMoves
+mod ExpansionLemmas
+mod StepMoves
+mod AddMoves

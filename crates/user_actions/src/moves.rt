@@ -1,19 +1,19 @@
 //! What document actions take from the counted sums of a document, and what they add to them.
 
 ghost use Rattle.std.specs.Prelude.{◌≡◌, ◌+◌, ◌-◌, ◌*◌, length, map, true};
+ghost use Rattle.std.specs.List.{list_all};
 ghost use Rattle.doc_model.specs.CountLaws.{bytes_of_formula, column_weight, come, given_weight, gone, nothing};
 ghost use Rattle.doc_model.specs.Counts.{formula_bytes, total};
 ghost use Rattle.doc_model.specs.DocumentLaws.{IsWhole};
-ghost use Rattle.doc_model.specs.Valid.{valid};
 ghost use Rattle.doc_model.specs.declared.column.CellColumn.{CellColumn};
 ghost use Rattle.doc_readers.specs.Parts.{grid_at};
-ghost use Rattle.user_actions.specs.Capped.{IsCapped, capped};
+ghost use Rattle.user_actions.specs.Capped.{IsCapped, all_moved, capped, has_named, is_there, moved_by};
 
 use crate::weighing::{
     column_count, column_weight, rows_weight, table_cells, table_weight, values_weight,
 };
 use cell_types::Name;
-use doc_model::{CellColumn, ColDef, DocAction, DocTables};
+use doc_model::{CellColumn, ColDef, DocAction, DocTables, Step};
 use doc_readers::{find_column, rows_in};
 
 /// Tables, cells and weight, each as far as 64 bits can tell.
@@ -25,12 +25,7 @@ pub(crate) struct Moved {
 }
 
 // The weight of the cells of given columns in these rows.
-fn cells_given<D: DocTables>(
-    tables: &D,
-    table: &Name,
-    rows: &[u32],
-    columns: &[CellColumn],
-) -> u64
+fn cells_given<D: DocTables>(tables: &D, table: &Name, rows: &[u32], columns: &[CellColumn]) -> u64
     ensures { result ≡ capped (total (map (λ (k : CellColumn). column_weight (grid_at (D.document tables.now) table.now) rows.now k.id) columns.now)) }
 {
     let mut weight = 0u64;
@@ -95,10 +90,10 @@ fn nothing() -> Moved
     }
 }
 
-/// What a valid action takes away.
-pub(crate) fn gone<D: DocTables>(tables: &D, action: &DocAction) -> Moved
+// What an action takes away.
+fn gone<D: DocTables>(tables: &D, action: &DocAction) -> Moved
     requires whole { IsWhole (D.document tables.now) }
-    requires valid { valid (D.document tables.now) action.now ≡ true }
+    requires there { has_named (D.document tables.now) action.now ≡ true }
     ensures { IsCapped result (gone (D.document tables.now) action.now) }
 {
     match action {
@@ -135,10 +130,10 @@ pub(crate) fn gone<D: DocTables>(tables: &D, action: &DocAction) -> Moved
     }
 }
 
-/// What a valid action brings.
-pub(crate) fn come<D: DocTables>(tables: &D, action: &DocAction) -> Moved
+// What an action brings.
+fn come<D: DocTables>(tables: &D, action: &DocAction) -> Moved
     requires whole { IsWhole (D.document tables.now) }
-    requires valid { valid (D.document tables.now) action.now ≡ true }
+    requires there { has_named (D.document tables.now) action.now ≡ true }
     ensures { IsCapped result (come (D.document tables.now) action.now) }
 {
     match action {
@@ -175,9 +170,36 @@ pub(crate) fn come<D: DocTables>(tables: &D, action: &DocAction) -> Moved
     }
 }
 
-/// A sum after an action that takes and brings so much.
-pub(crate) fn sum_after(before: u64, gone: u64, come: u64) -> u64
+// A sum after an action that takes and brings so much.
+fn sum_after(before: u64, gone: u64, come: u64) -> u64
     ensures { result ≡ capped (before - gone + come) }
 {
     before.saturating_sub(gone).saturating_add(come)
+}
+
+fn after_step<D: DocTables>(tables: &D, before: Moved, action: &DocAction) -> Moved
+    requires whole { IsWhole (D.document tables.now) }
+    requires there { has_named (D.document tables.now) action.now ≡ true }
+    ensures { result ≡ moved_by (D.document tables.now) before action.now }
+{
+    let gone = gone(tables, action);
+    let come = come(tables, action);
+    Moved {
+        tables: sum_after(before.tables, gone.tables, come.tables),
+        cells: sum_after(before.cells, gone.cells, come.cells),
+        weight: sum_after(before.weight, gone.weight, come.weight),
+    }
+}
+
+/// The sums after steps, from those before them.
+pub(crate) fn after_steps<D: DocTables>(tables: &D, before: Moved, steps: &[Step]) -> Moved
+    requires whole { IsWhole (D.document tables.now) }
+    requires there { list_all (is_there (D.document tables.now)) steps.now ≡ true }
+    ensures { result ≡ all_moved (D.document tables.now) before steps.now }
+{
+    let mut sums = before;
+    for step in steps {
+        sums = after_step(tables, sums, &step.action);
+    }
+    sums
 }

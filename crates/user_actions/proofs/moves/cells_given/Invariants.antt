@@ -1,6 +1,5 @@
 use Rattle.std.proofs.Common.{◌≡◌, take}
 use Rattle.doc_model.specs.CountLaws.{column_weight}
-use Rattle.doc_model.specs.Counts.{formula_bytes, row_weight}
 use Rattle.doc_model.specs.declared.column.CellColumn.{CellColumn}
 use Rattle.doc_model.proofs.TotalsLaws.{sum_of}
 use Rattle.doc_readers.specs.Parts.{grid_at}

@@ -1,9 +1,6 @@
 use Rattle.std.proofs.Common.{◌≡◌, take}
-use Rattle.doc_model.specs.CountLaws.{column_weight}
-use Rattle.doc_model.specs.Counts.{formula_bytes, row_weight}
-use Rattle.doc_model.specs.declared.column.CellColumn.{CellColumn}
+use Rattle.doc_model.specs.Counts.{formula_bytes}
 use Rattle.doc_model.proofs.TotalsLaws.{sum_of}
-use Rattle.doc_readers.specs.Parts.{grid_at}
 use Rattle.user_actions.specs.Capped.{capped}
 use Rattle.user_actions.proofs.moves.formulas_given.Given as goal
 

@@ -1,8 +1,6 @@
-use Rattle.std.proofs.Common.{◌∙◌, ap, sym, arith}
-use Rattle.doc_model.specs.CountLaws.{column_weight}
-use Rattle.doc_model.specs.Counts.{formula_bytes, row_weight}
+use Rattle.std.proofs.Common.{◌∙◌, ap, sym}
+use Rattle.doc_model.specs.Counts.{row_weight}
 use Rattle.doc_model.specs.declared.column.CellColumn.{CellColumn}
-use Rattle.doc_readers.specs.Parts.{grid_at}
 use Rattle.user_actions.specs.Capped.{capped}
 use Rattle.user_actions.proofs.SumLemmas.{capped_step}
 use Rattle.user_actions.proofs.moves.given_weight.Goals as goal

@@ -20,7 +20,7 @@ use Rattle.grist_json.specs.declared.verdict.Verdict.TheVariants as verdict
 use Rattle.grist_json.specs.Lines.{reply_text}
 use Rattle.bundle_core.specs.declared.made.Made.{Made}
 use Rattle.bundle_core.specs.Desk.{AreSame, state_of, IsSpot, Finds, Answers, Leaves, Stays, Bundles, bundle_number, bundle_reply, user_at, values_told}
-use Rattle.bundle_core.specs.Judgement.{accepted, judge}
+use Rattle.bundle_core.specs.Judgement.{accepted, refused, judge}
 use Rattle.bundle_core.specs.Made.{told_of}
 use Rattle.bundle_core.specs.Mailbox.{quiet}
 use Rattle.bundle_core.specs.Requests.{refusal_inside}
@@ -30,7 +30,7 @@ use Rattle.bundle_core.specs.View.{is_owner, view}
 use Rattle.bundle_core.proofs.Answering.{answers_leaving, answers_parting, answers_staying, open_of-fields, holder_of-fields}
 use Rattle.bundle_core.proofs.Bundling.{answers_bundle}
 use Rattle.bundle_core.proofs.Outside.{answers_by}
-use Rattle.bundle_core.proofs.Readied.{each_same, same_at, bundle_number-is, ready_at}
+use Rattle.bundle_core.proofs.Readied.{each_same, same_at, bundle_number-is, ready_at, user_at-is}
 
 numbered_refusal : (m n : ℕ) (st : State) (h : Holder) → ◌≡◌ {A = Option ℕ} (Some m) (Some n) → answered st.document (Some h) (refusal m) ≡ answered st.document (Some h) (refusal n)
 numbered_refusal m n st h e = let same : m ≡ n = cc in ap (λ k. answered st.document (Some h) (refusal k)) same
@@ -117,6 +117,13 @@ module _ (users : List User) (s : Document) (xs : List SessionState) (p : ℕ) (
       (answers_staying users s (take p xs) (drop (suc p) xs) e f.spot x (f.named d) v b.after w (q (take p xs ++ x ∷ drop (suc p) xs))
       (open_of-fields s b.after e.session x.holder x.made [] x.lagging (k.session ∙ f.named d) (holder_of-fields b.after.holder x.holder.user x.holder.bundles k.user (b.bundles d)) (b.made d) k.waiting k.lagging))))
 
+  -- a bundle that is refused
+  pub find_refused : (actions : List UserAction) (v : Verdict) (new : List SessionState) (lines : List (List ℕ)) → IsWhole s → e.request ≡ request.Apply actions → x.lagging ≡ false
+      → judge (is_owner x.holder.user) s actions ≡ refused v → Stays xs new p (reply_text v) lines → Answers users s s xs new e lines
+  find_refused actions v new lines w asks quick judged b =
+      find_stays v new lines w (inside (answered s (Some x.holder) v) quick
+      (λ l n. ap (from_inside (state_of s n l) x.holder e.kept) asks ∙ ap (bundle_of x.holder s e.kept) judged)) b
+
 -- ---- bundles
 
 pub answers_same : (users : List User) (s s' : Document) (xs qs ys : List SessionState) (e : Entry) (ls : List (List ℕ)) → AreSame xs qs → Answers users s s' qs ys e ls → Answers users s s' xs ys e ls
@@ -162,12 +169,6 @@ spot_same name n xs qs h s = record {
   below = each_same (λ (o : Open). precedes o.session name ≡ true) (take n xs) (take n qs) (same_take n xs qs h) s.below;
   above = each_same (λ (o : Open). precedes name o.session ≡ true) (drop (suc n) xs) (drop (suc n) qs) (same_drop (suc n) xs qs h) s.above;
 }
-
--- the user of a place
-user_at-is : (xs : List SessionState) (p : ℕ) (d : SessionState) → p < length xs → user_at xs p ≡ Some (get_or xs p d).holder.user
-user_at-is [] p d lt = absurd (omega (arith, lt))
-user_at-is (x ∷ xs) zero d lt = refl
-user_at-is (x ∷ xs) (suc p) d lt = user_at-is xs p d (omega (arith, lt))
 
 module _ (users : List User) (s s' : Document) (xs : List SessionState) (p : ℕ) (e : Entry) (f : Finds e.session xs p) (d : SessionState) (w : IsWhole s) (w' : IsWhole s') where
   -- an accepted bundle of the session of that place

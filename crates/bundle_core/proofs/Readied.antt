@@ -4,9 +4,15 @@ use Rattle.std.specs.List.{AllByRecursion}
 use Rattle.doc_model.specs.declared.view.ViewAction.{ViewAction}
 use Rattle.doc_model.specs.NewDocument.{new_document}
 use Rattle.doc_model.proofs.Choices.{each_mapped, each_unmapped}
-use Rattle.bundle_core.specs.Desk.{AreSame, bundle_number}
-use Rattle.bundle_core.specs.SessionState.{SessionState, open_of, IsReady, MayPost}
+use Rattle.doc_model.specs.Document.{Document}
+use Rattle.grist_json.specs.declared.verdict.Verdict.TheVariants.{Bundle}
+use Rattle.grist_json.specs.Lines.{reply_text}
+use Rattle.bundle_core.specs.declared.made.Made.{Made}
+use Rattle.bundle_core.specs.Desk.{AreSame, bundle_number, bundle_reply, user_at, values_told}
+use Rattle.bundle_core.specs.Made.{told_of}
+use Rattle.bundle_core.specs.SessionState.{SessionState, open_of, IsReady, MayPost, line_for}
 use Rattle.bundle_core.specs.State.{Open}
+use Rattle.bundle_core.specs.View.{is_owner, view}
 
 -- what holds of the sessions as open ones holds of them when more is ready
 pub each_same : (P : Open → Type 0) (old new : List SessionState) → AreSame old new → AllByRecursion (λ x. P (open_of new_document x)) old → AllByRecursion (λ x. P (open_of new_document x)) new
@@ -47,3 +53,22 @@ pub ready_at : (told : Bool → List ViewAction) (xs : List SessionState) (i : �
 ready_at told [] i d lt h = absurd (omega (arith, lt))
 ready_at told (x ∷ xs) zero d lt h = h.0
 ready_at told (x ∷ xs) (suc i) d lt h = ready_at told xs i d (omega (arith, lt)) h.1
+
+-- the user of a place
+pub user_at-is : (xs : List SessionState) (p : ℕ) (d : SessionState) → p < length xs → user_at xs p ≡ Some (get_or xs p d).holder.user
+user_at-is [] p d lt = absurd (omega (arith, lt))
+user_at-is (x ∷ xs) zero d lt = refl
+user_at-is (x ∷ xs) (suc p) d lt = user_at-is xs p d (omega (arith, lt))
+
+-- the reply to a bundle of the session of a place
+pub reply_is : (xs : List SessionState) (p : ℕ) (d : SessionState) (s : Document) (ms : List Made) → p < length xs
+    → reply_text (Bundle ((get_or xs p d).holder.bundles + 1) (map (told_of (view (get_or xs p d).holder.user s)) ms)) ≡ bundle_reply xs p s ms
+reply_is xs p d s ms lt =
+    sym (ap (λ n. reply_text (Bundle n (values_told (user_at xs p) s ms))) (bundle_number-is xs p d lt)
+    ∙ ap (λ u. reply_text (Bundle ((get_or xs p d).holder.bundles + 1) (values_told u s ms))) (user_at-is xs p d lt))
+
+-- lines that tell the same are ready for it
+pub ready_as : (f h : Bool → List ViewAction) (xs : List SessionState) → ((owner : Bool) → f owner ≡ h owner) → AllByRecursion (IsReady f) xs → AllByRecursion (IsReady h) xs
+ready_as f h [] same k = tt
+ready_as f h (x ∷ xs) same k =
+    (record { line = k.0.line ∙ ap (λ as'. line_for as' x) (same (is_owner x.holder.user)); room = k.0.room }, ready_as f h xs same k.1)

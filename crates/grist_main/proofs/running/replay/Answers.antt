@@ -16,3 +16,8 @@ pub returns-clause-replay : goal.returns-clause-replay
 returns-clause-replay g c =
     let none = c.without_history-in-Err in
     run_told _ _ _ _ c.in-Err.status none.result.status [] none.result.history none.ensures.status none.ensures.history (run_heard (g.S.Source.left c.args.input.now) (g.S.Source.left c.read_users.new.input) (g.O.Sink.written c.args.out.now) c.in-Err.status c.in-Err.ensures.hears)
+
+pub returns-in_default-new-2-clause-replay : goal.returns-in_default-new-2-clause-replay
+returns-in_default-new-2-clause-replay g c =
+    let none = c.without_history-in_default-new-2 in
+    run_told _ _ _ _ NoMemory none.result.status [] none.result.history none.ensures.status none.ensures.history (run_none (g.S.Source.left c.args.input.now) (g.O.Sink.written c.args.out.now))

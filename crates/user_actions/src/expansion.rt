@@ -226,7 +226,9 @@ fn schema_expansion<D: DocTables>(
 /// The document actions of a user action, or the first limit that would be passed after them, by the
 /// tally of the document.
 ///
-/// Errors: want of memory. Cost: the rows and values that are given; a new type of a column costs all
+/// Errors: want of memory. It is also answered, for now, where a table was above its bounds before, and
+/// where the row that describes a new table or column would pass the last row id.
+/// Cost: the rows and values that are given; a new type of a column costs all
 /// its cells, and a new id the ids beside it.
 /// Source: docs/DEFINITIONS.md, "user_actions".
 pub fn expand<D: DocTables>(

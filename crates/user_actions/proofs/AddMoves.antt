@@ -39,7 +39,7 @@ use Rattle.user_actions.proofs.PeakMoves.{IsBelow, all_below, each_below}
 use Rattle.user_actions.proofs.SumLemmas.{greatest-append, greatest-cons}
 
 -- numbers on the same side of a bound
-same_side : (b r n : ℕ) → n ≤ max b r → r ≤ max b n → ltb b r ≡ ltb b n
+pub same_side : (b r n : ℕ) → n ≤ max b r → r ≤ max b n → ltb b r ≡ ltb b n
 same_side b r n up low = elim (ltb b r) as (λ c. ltb b r ≡ c → c ≡ ltb b n) [
   | true ↦ λ is. let lt : b < r = ltb-true b r is in sym (lt-ltb b n (grind arith))
   | false ↦ λ is. let ge : r ≤ b = ltb-false b r is in sym (le-ltb b n (grind arith))
@@ -57,14 +57,14 @@ table_there s c h = elim (find_id table_id c s) as (λ o. find_id table_id c s �
   | Some t ↦ λ is _. (t, is)
 ] refl h
 
-known_below : (s : Document) (h : Table → ℕ) (b : ℕ) → greatest (map h s) ≤ b → AllByRecursion (λ t. h t ≤ b) s
+pub known_below : (s : Document) (h : Table → ℕ) (b : ℕ) → greatest (map h s) ≤ b → AllByRecursion (λ t. h t ≤ b) s
 known_below s h b le = unmap s (each_below b (map h s) le)
   where
     unmap : (ts : List Table) → AllByRecursion (λ n. n ≤ b) (map h ts) → AllByRecursion (λ t. h t ≤ b) ts
     unmap [] k = tt
     unmap (t ∷ ts) k = (k.0, unmap ts k.1)
 
-mapped_below : (f : Peaks → ℕ) (h : Table → Peaks) (b : ℕ) (s : Document) → AllByRecursion (λ t. f (h t) ≤ b) s → greatest (map f (map h s)) ≤ b
+pub mapped_below : (f : Peaks → ℕ) (h : Table → Peaks) (b : ℕ) (s : Document) → AllByRecursion (λ t. f (h t) ≤ b) s → greatest (map f (map h s)) ≤ b
 mapped_below f h b s k = all_below b (map f (map h s)) (both s k)
   where
     both : (ts : List Table) → AllByRecursion (λ t. f (h t) ≤ b) ts → AllByRecursion (λ n. n ≤ b) (map f (map h ts))

@@ -16,3 +16,4 @@ mod PeakMoves
 mod ExpansionLemmas
 mod StepMoves
 mod AddMoves
+mod SchemaGrowth

@@ -9,3 +9,4 @@ pub mod Allowed
 pub mod Unopposed
 pub mod Tallies
 pub mod Capped
+pub mod Grown

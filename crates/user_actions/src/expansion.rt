@@ -6,6 +6,8 @@ ghost use Rattle.doc_model.specs.DocumentLaws.{IsWhole};
 ghost use Rattle.user_actions.specs.Allowed.{is_allowed};
 ghost use Rattle.user_actions.specs.Capped.{AddsSo, AreTaken, IsExtentAdded, no_more, peaks_noted, settled};
 ghost use Rattle.user_actions.specs.Kinds.{makes_rows};
+ghost use Rattle.user_actions.specs.Grown.{IsExtentDescribed, IsExtentGrown, grows_schema};
+ghost use Rattle.user_actions.specs.Kinds.{table_of};
 ghost use Rattle.user_actions.specs.StepLaws.{is_well_formed};
 ghost use Rattle.user_actions.specs.Tallies.{IsExpansion, IsTally};
 
@@ -14,7 +16,8 @@ use crate::expanding::steps;
 use crate::limits::{Counted, Extent, first_passed};
 use crate::moves::{Moved, after_steps};
 use crate::refusing::table_of;
-use crate::told::{last_row, name_of};
+use crate::told::{columns_table, last_row, name_of, tables_table};
+use crate::weighing::column_count;
 use cell_types::Name;
 use doc_model::{DocTables, LimitKind, StepList, UserAction};
 use doc_readers::rows_in;
@@ -152,10 +155,80 @@ fn add_expansion<D: DocTables>(
     Ok(settled(steps, sums, most))
 }
 
+// The peaks where so many columns come to a table, and rows that describe a table and columns.
+fn extent_described<D: DocTables>(
+    tables: &D,
+    columns: u64,
+    new_tables: u64,
+    new_columns: u64,
+) -> Extent
+    requires { IsWhole (D.document tables.now) }
+    ensures { IsExtentDescribed (D.document tables.now) columns new_tables new_columns result }
+{
+    let of_tables = tables_table(tables);
+    let of_columns = columns_table(tables);
+    let tables_rows = rows_in(tables, of_tables).len() as u64;
+    let columns_rows = rows_in(tables, of_columns).len() as u64;
+    let last_table = last_row(tables, of_tables) as u64;
+    let last_column = last_row(tables, of_columns) as u64;
+    Extent {
+        columns,
+        rows: tables_rows
+            .saturating_add(new_tables)
+            .max(columns_rows.saturating_add(new_columns)),
+        row_id: last_table
+            .saturating_add(new_tables)
+            .max(last_column.saturating_add(new_columns)),
+    }
+}
+
+fn extent_grown<D: DocTables>(tables: &D, table: &Name, action: &UserAction) -> Extent
+    requires whole { IsWhole (D.document tables.now) }
+    requires named { table.now ≡ table_of action.now }
+    ensures { IsExtentGrown (D.document tables.now) action.now result }
+{
+    match action {
+        UserAction::AddTable { columns, .. } => {
+            let count = columns.len() as u64;
+            extent_described(tables, count, 1, count)
+        }
+        _ => {
+            let columns = (column_count(tables, table) as u64).saturating_add(1);
+            extent_described(tables, columns, 0, 1)
+        }
+    }
+}
+
+// What an action comes to that adds a table or a column.
+fn schema_expansion<D: DocTables>(
+    alloc: Global,
+    tables: &D,
+    tally: Tally,
+    action: &UserAction,
+) -> Result<Expansion, AllocError>
+    requires whole { IsWhole (D.document tables.now) }
+    requires allowed { is_allowed (D.document tables.now) action.now ≡ true }
+    requires well_formed { is_well_formed action.now ≡ true }
+    requires tally { IsTally (D.document tables.now) tally }
+    requires within { tally.within ≡ true }
+    requires grows { grows_schema action.now ≡ true }
+    ensures { IfOk result (λ e. IsExpansion (D.document tables.now) action.now e) }
+{
+    let table = name_of(alloc, table_of(action))?;
+    let most = extent_grown(tables, &table, action);
+    let Some(steps) = steps(alloc, tables, action)? else {
+        return Err(AllocError);
+    };
+    let sums = after_steps(tables, sums_of(tally), steps.as_slice());
+    Ok(settled(steps, sums, most))
+}
+
 /// The document actions of a user action, or the first limit that would be passed after them, by the
 /// tally of the document.
 ///
-/// Errors: want of memory. Cost: the rows and values that are given; a new type of a column costs all
+/// Errors: want of memory. It is also answered, for now, where a table was above its bounds before, and
+/// where the row that describes a new table or column would pass the last row id.
+/// Cost: the rows and values that are given; a new type of a column costs all
 /// its cells, and a new id the ids beside it.
 /// Source: docs/DEFINITIONS.md, "user_actions".
 pub fn expand<D: DocTables>(
@@ -175,7 +248,9 @@ pub fn expand<D: DocTables>(
     }
     match action {
         UserAction::Add { count, .. } => add_expansion(alloc, tables, tally, *count, action),
-        UserAction::AddTable { .. } | UserAction::AddColumn { .. } => Err(AllocError),
+        UserAction::AddTable { .. } | UserAction::AddColumn { .. } => {
+            schema_expansion(alloc, tables, tally, action)
+        }
         _ => other_expansion(alloc, tables, tally, action),
     }
 }

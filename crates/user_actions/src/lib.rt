@@ -12,7 +12,8 @@
 //! `over` tells the first limit that a document passes. `expand` gives the steps of an action, or the
 //! first limit that would be passed after them, by a `Tally` that is kept from one action to the next
 //! (specs/Tallies.antt).
-//! Not promised: that memory is found. Formulas, references and the tables of access rules are
+//! Not promised: that memory is found; `expand` answers want of memory also where a table was above
+//! its bounds before, and where a metadata row would pass the last row id. Formulas, references and the tables of access rules are
 //! refused, since they are not built; what cannot come then has no steps.
 //! Read first: specs/Objections.antt and refusing.rt, then specs/Steps.antt and expanding.rt, then
 //! specs/Tallies.antt and expansion.rt.

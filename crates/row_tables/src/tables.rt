@@ -137,7 +137,7 @@ impl DocTables for RowTables {
     }
 
     fn cell(&self, table: &Name, column: &Name, row: u32) -> Option<&CellValue> {
-        find_table(&self.tables, table)?.cell(column, row)
+        find_table(&self.tables, table)?.search_cell(column, row)
     }
 
     fn put(&mut self, action: &DocAction) -> Result<RowBack, AllocError> {

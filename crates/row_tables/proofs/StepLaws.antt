@@ -72,7 +72,7 @@ find_at ts id i t l e is =
     slice_get_read ts (length ts) i t refl l e
     ∙ sym (ap (find_id table_id id) (drop_read ts i t l e) ∙ cond_true (bytes_eq t.id id) (Some t) (find_id table_id id (drop (i + 1) ts)) is)
 
-each_index : (P : Table → Type 0) (ts : List Table) (i : ℕ) (d : Table) → AllByRecursion P ts → i < length ts → P (get_or ts i d)
+pub each_index : (P : Table → Type 0) (ts : List Table) (i : ℕ) (d : Table) → AllByRecursion P ts → i < length ts → P (get_or ts i d)
 each_index P [] i d h l = absurd (omega arith)
 each_index P (t ∷ ts) zero d h l = h.0
 each_index P (t ∷ ts) (suc i) d h l = each_index P ts i d h.1 (omega arith)
@@ -82,7 +82,7 @@ module _ (id : List ℕ) (f : Table → Table) where
   others [] h = refl
   others (v ∷ s) h = ap (λ x. x ∷ with_table id f s) (cond_false (bytes_eq v.id id) (f v) v (bytes_apart id v.id h.0)) ∙ ap (λ r. v ∷ r) (others s h.1)
 
-  with_table-at : (s : List Table) (i : ℕ) (t : Table) → AreDistinct table_id s → i < length s → t ≡ get_or s i t → t.id ≡ id → set s i (f t) ≡ with_table id f s
+  pub with_table-at : (s : List Table) (i : ℕ) (t : Table) → AreDistinct table_id s → i < length s → t ≡ get_or s i t → t.id ≡ id → set s i (f t) ≡ with_table id f s
   with_table-at [] i t d l e is = absurd (omega arith)
   with_table-at (u ∷ s) zero t d l e is =
       let name : u.id ≡ id = ap (λ v. v.id) (sym e) ∙ is in

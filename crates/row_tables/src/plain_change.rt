@@ -134,8 +134,8 @@ fn change_table(tables: &mut Vec<RowTable>, action: &DocAction) -> Result<PlainC
 
 /// Changes the plain tables as a schema action does.
 ///
-/// All tables are walked: no schema action names a metadata table, and their row is 0, so that no new
-/// table goes before them.
+/// All tables are walked: no schema action names a metadata table, and their row is 0, so that no
+/// new table goes before them.
 ///
 /// Errors: want of memory; all tables are then as they were. Cost: linear in the tables, which stay
 /// where they are or move by one place, and that of the changed table.

@@ -142,7 +142,7 @@ module _ {X : Type 0} where
       ∙ put_beside new more fresh (λ r. cond (eqb q r) (fresh q) (old r)) (new_rest q new rows n)
       ∙ map_same (λ r. cond (has new r) (fresh r) (cond (eqb q r) (fresh q) (old r))) (λ r. cond (has (q ∷ new) r) (fresh r) (old r)) (put_at (new_places new more) new more) (λ r. choice q r new fresh old)
 
-  remove-insert : (xs : List X) (i : ℕ) (x : X) → i ≤ length xs → remove (insert xs i x) i ≡ xs
+  pub remove-insert : (xs : List X) (i : ℕ) (x : X) → i ≤ length xs → remove (insert xs i x) i ≡ xs
   remove-insert xs zero x l = refl
   remove-insert [] (suc i) x l = absurd (omega arith)
   remove-insert (y ∷ xs) (suc i) x l = ap (λ ys. y ∷ ys) (remove-insert xs i x (omega arith))

@@ -64,9 +64,6 @@ module _ (s : Document) (i : ℕ) (t : Table) (c : Change) (l : i < length s) (e
   pub fits_read : fits_there c (slice_get s i) → change_fits c t
   fits_read h = subst (fits_there c) (slice_get_read s (length s) i t refl l e) h
 
-  pub back_read : back_there c i (slice_get s i) s ≡ set s i (change_back c t)
-  back_read = ap (λ o. back_there c i o s) (slice_get_read s (length s) i t refl l e)
-
 -- the place is that of the table that the action names
 placed : (i : ℕ) (id id' : List ℕ) (s s' : Document) → (i < length s) × (slice_get s i ≡ find_id table_id id s) → id ≡ id' → s ≡ s' → (i < length s') × (slice_get s' i ≡ find_id table_id id' s')
 placed i id id' s s' h ei es = subst (λ d. (i < length d) × (slice_get d i ≡ find_id table_id id' d)) es (subst (λ n. (i < length s) × (slice_get s i ≡ find_id table_id n s)) ei h)

@@ -1,5 +1,5 @@
 -- What an action does to a document, told by what it does to one table or to the plain tables.
-use Rattle.std.proofs.Common.{ℕ, suc, zero, true, false, cond, ◌&&◌, List, [], ◌∷◌, ◌+◌, drop, get_or, insert, set, length, ◌≡◌, ◌<◌, ◌≤◌, refl, sym, ap, subst, ◌∙◌, Some, None, slice_get, ltb, arith}
+use Rattle.std.proofs.Common.{ℕ, suc, zero, true, false, cond, List, [], ◌∷◌, ◌+◌, drop, get_or, insert, set, length, ◌≡◌, ◌<◌, ◌≤◌, refl, sym, ap, subst, ◌∙◌, Some, None, slice_get, ltb, arith}
 use Rattle.std.proofs.lemmas.Bool.{false≢true, true≢false}
 use Rattle.std.proofs.lemmas.List.{set-set, set-get_or}
 use Rattle.std.proofs.lemmas.Option.{slice_get_read}
@@ -8,17 +8,15 @@ use Rattle.std.specs.List.{AllByRecursion}
 use Rattle.std.specs.Str.{bytes_eq}
 use Rattle.doc_model.specs.declared.action.DocAction.{DocAction}
 use Rattle.doc_model.specs.declared.action.DocAction.TheVariants.{BulkAdd, BulkUpdate, BulkRemove, AddTable, RemoveTable, RenameTable, AddColumn, RemoveColumn, RenameColumn, ModifyColumn}
-use Rattle.doc_model.specs.MetadataIds.{tables_id, columns_id, resources_id, rules_id, is_schema_id}
+use Rattle.doc_model.specs.MetadataIds.{is_schema_id}
 use Rattle.doc_model.specs.ByIds.{find_id, AreDistinct}
-use Rattle.doc_model.specs.Rows.{is_once, all_in, none_in}
 use Rattle.doc_model.specs.Document.{Table, Document, table_id, table_row, with_table, put_by_row}
-use Rattle.doc_model.specs.Schema.{metadata_table, tables_grid, columns_grid, with_schema, resources, rules, plain_tables}
-use Rattle.doc_model.specs.Valid.{record_table, from_one, gives_data, valid}
+use Rattle.doc_model.specs.Schema.{plain_tables}
+use Rattle.doc_model.specs.Valid.{record_table, valid}
 use Rattle.doc_model.specs.Apply.{with_plain, effect, apply}
-use Rattle.doc_model.specs.DocumentLaws.{IsWhole}
 use Rattle.doc_model.proofs.Choices.{cond_true, cond_false}
 use Rattle.doc_model.proofs.ByIdsLaws.{bytes_apart, found_id}
-use Rattle.doc_model.proofs.DocumentParts.{passes_parts, applied}
+use Rattle.doc_model.proofs.DocumentParts.{applied}
 use Rattle.row_tables.specs.Steps.{is_record, table_named, table_change, plain_after, table_place}
 use Rattle.row_tables.proofs.Walks.{drop_read}
 
@@ -52,34 +50,6 @@ pub record_found : (s : Document) (id : List ℕ) (t : Table) → record_table s
 record_found s id t =
     elim (is_schema_id id) as (λ b. cond b None (find_id table_id id s) ≡ Some t → find_id table_id id s ≡ Some t) [ true ↦ λ e. absurd (cc) | false ↦ λ e. e ]
 
--- the table that a valid record action names is there
-pub record_there : (s : Document) (a : DocAction) → is_record a ≡ true → valid s a ≡ true → find_id table_id (table_named a) s ≡ None → ⊥
-record_there s a e v missing = none_some (found a e v)
-  where
-    none_some : (t : Table) × (find_id table_id (table_named a) s ≡ Some t) → ⊥
-    none_some h = let two : None ≡ Some h.0 = sym missing ∙ h.1 in absurd (cc)
-
-    found : (a : DocAction) → is_record a ≡ true → valid s a ≡ true → (t : Table) × (find_id table_id (table_named a) s ≡ Some t)
-    found (BulkAdd table rows ks) e v =
-        let parts : (t : Table) × ((record_table s table ≡ Some t) × ((is_once rows && from_one rows && none_in rows t.grid.rows && gives_data t.grid rows ks) ≡ true))
-        = passes_parts (record_table s table) (λ t. is_once rows && from_one rows && none_in rows t.grid.rows && gives_data t.grid rows ks) v in
-        (parts.0, record_found s table parts.0 parts.1.0)
-    found (BulkUpdate table rows ks) e v =
-        let parts : (t : Table) × ((record_table s table ≡ Some t) × ((is_once rows && from_one rows && all_in rows t.grid.rows && gives_data t.grid rows ks) ≡ true))
-        = passes_parts (record_table s table) (λ t. is_once rows && from_one rows && all_in rows t.grid.rows && gives_data t.grid rows ks) v in
-        (parts.0, record_found s table parts.0 parts.1.0)
-    found (BulkRemove table rows) e v =
-        let parts : (t : Table) × ((record_table s table ≡ Some t) × ((is_once rows && all_in rows t.grid.rows) ≡ true))
-        = passes_parts (record_table s table) (λ t. is_once rows && all_in rows t.grid.rows) v in
-        (parts.0, record_found s table parts.0 parts.1.0)
-    found (AddTable table row columns) e v = absurd (false≢true e)
-    found (RemoveTable table) e v = absurd (false≢true e)
-    found (RenameTable table new) e v = absurd (false≢true e)
-    found (AddColumn table d) e v = absurd (false≢true e)
-    found (RemoveColumn table column) e v = absurd (false≢true e)
-    found (RenameColumn table column new) e v = absurd (false≢true e)
-    found (ModifyColumn table column info) e v = absurd (false≢true e)
-
 -- ---- tables by their places
 
 pub table_within : (row : ℕ) (ts : List Table) → table_place row ts ≤ length ts
@@ -97,16 +67,12 @@ put_by_row-table_place t (u ∷ ts) =
       | false ↦ ap (λ xs. u ∷ xs) (put_by_row-table_place t ts) ∙ ap (λ n. insert (u ∷ ts) n t) next
     ]
 
--- a table of another id is passed over
-pub find_skip : (ts : List Table) (id : List ℕ) (i : ℕ) (t : Table) → i < length ts → t ≡ get_or ts i t → bytes_eq t.id id ≡ false → find_id table_id id (drop (i + 1) ts) ≡ find_id table_id id (drop i ts)
-find_skip ts id i t l e apart = sym (ap (find_id table_id id) (drop_read ts i t l e) ∙ cond_false (bytes_eq t.id id) (Some t) (find_id table_id id (drop (i + 1) ts)) apart)
-
 pub find_at : (ts : List Table) (id : List ℕ) (i : ℕ) (t : Table) → i < length ts → t ≡ get_or ts i t → bytes_eq t.id id ≡ true → slice_get ts i ≡ find_id table_id id (drop i ts)
 find_at ts id i t l e is =
     slice_get_read ts (length ts) i t refl l e
     ∙ sym (ap (find_id table_id id) (drop_read ts i t l e) ∙ cond_true (bytes_eq t.id id) (Some t) (find_id table_id id (drop (i + 1) ts)) is)
 
-each_index : (P : Table → Type 0) (ts : List Table) (i : ℕ) (d : Table) → AllByRecursion P ts → i < length ts → P (get_or ts i d)
+pub each_index : (P : Table → Type 0) (ts : List Table) (i : ℕ) (d : Table) → AllByRecursion P ts → i < length ts → P (get_or ts i d)
 each_index P [] i d h l = absurd (omega arith)
 each_index P (t ∷ ts) zero d h l = h.0
 each_index P (t ∷ ts) (suc i) d h l = each_index P ts i d h.1 (omega arith)
@@ -116,7 +82,7 @@ module _ (id : List ℕ) (f : Table → Table) where
   others [] h = refl
   others (v ∷ s) h = ap (λ x. x ∷ with_table id f s) (cond_false (bytes_eq v.id id) (f v) v (bytes_apart id v.id h.0)) ∙ ap (λ r. v ∷ r) (others s h.1)
 
-  with_table-at : (s : List Table) (i : ℕ) (t : Table) → AreDistinct table_id s → i < length s → t ≡ get_or s i t → t.id ≡ id → set s i (f t) ≡ with_table id f s
+  pub with_table-at : (s : List Table) (i : ℕ) (t : Table) → AreDistinct table_id s → i < length s → t ≡ get_or s i t → t.id ≡ id → set s i (f t) ≡ with_table id f s
   with_table-at [] i t d l e is = absurd (omega arith)
   with_table-at (u ∷ s) zero t d l e is =
       let name : u.id ≡ id = ap (λ v. v.id) (sym e) ∙ is in
@@ -138,28 +104,3 @@ record_put s a i t new d r v l g e n =
 -- and written back
 pub put_back : (s : List Table) (i : ℕ) (t new : Table) → t ≡ get_or s i t → set (set s i new) i t ≡ s
 put_back s i t new e = set-set s i new t ∙ ap (set s i) e ∙ set-get_or s i t
-
--- ---- schema actions
-
--- all tables of a document, by the access tables and the plain ones
-abbrev pub all_tables : Table → Table → List Table → List Table
-all_tables resources rules plain =
-    metadata_table tables_id (tables_grid plain) ∷ metadata_table columns_id (columns_grid plain) ∷ resources ∷ rules ∷ plain
-
-module _ (s : Document) (whole : IsWhole s) where
-  pub four : 4 ≤ length s
-  four =
-      let all : length s ≡ length (with_schema (resources s) (rules s) (plain_tables s)) = ap length whole.agrees.schema in
-      omega arith
-
-  pub resources_there : (t : Table) → t ≡ get_or s 2 t → t ≡ metadata_table resources_id (resources s)
-  resources_there t e = e ∙ ap (λ z. get_or z 2 t) whole.agrees.schema
-
-  pub rules_there : (t : Table) → t ≡ get_or s 3 t → t ≡ metadata_table rules_id (rules s)
-  rules_there t e = e ∙ ap (λ z. get_or z 3 t) whole.agrees.schema
-
-  pub plain_there : drop 4 s ≡ plain_tables s
-  plain_there = ap (drop 4) whole.agrees.schema
-
-  pub schema_done : (a : DocAction) → is_record a ≡ false → valid s a ≡ true → all_tables (metadata_table resources_id (resources s)) (metadata_table rules_id (rules s)) (plain_after a (plain_tables s)) ≡ apply s a
-  schema_done a r v = sym (schema_effect s a r) ∙ sym (applied s a v)

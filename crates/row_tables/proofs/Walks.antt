@@ -1,7 +1,6 @@
 -- One step of a walk over keys and the values beside them.
-use Rattle.std.proofs.Common.{ℕ, zero, suc, Bool, true, false, List, [], ◌∷◌, ◌+◌, map, take, drop, ◌++◌, get_or, length, ◌≡◌, ◌<◌, refl, sym, ap, ◌∙◌, Option, Some, None, unwrap_or, slice_get, arith}
-use Rattle.std.proofs.lemmas.List.{drop_more, map_more, get_or-drop, drop-drop}
-use Rattle.std.proofs.lemmas.Option.{unwrap_or-slice_get}
+use Rattle.std.proofs.Common.{ℕ, zero, suc, Bool, true, false, List, [], ◌∷◌, ◌+◌, map, take, drop, ◌++◌, get_or, length, ◌≡◌, ◌<◌, refl, sym, ap, ◌∙◌, Option, Some, None, slice_get}
+use Rattle.std.proofs.lemmas.List.{drop_more, map_more, drop-drop}
 use Rattle.doc_model.specs.Grid.{beside}
 use Rattle.row_tables.specs.Kept.{found_beside}
 use Rattle.doc_model.proofs.Choices.{cond_true, cond_false}
@@ -20,17 +19,9 @@ module _ {K V : Type 0} (p : K → Bool) where
   skip k ks [] d e = sym (beside_none ks d)
   skip k ks (v ∷ vs) d e = cond_false (p k) v (beside p ks vs d) e
 
-  hit : (k : K) (ks : List K) (vs : List V) (d : V) → p k ≡ true → beside p (k ∷ ks) vs d ≡ unwrap_or (slice_get vs 0) d
-  hit k ks [] d e = refl
-  hit k ks (v ∷ vs) d e = cond_true (p k) v (beside p ks vs d) e
-
   pub beside_skip : (ks : List K) (vs : List V) (d : V) (i : ℕ) (k : K) → i < length ks → k ≡ get_or ks i k → p k ≡ false → beside p (drop (i + 1) ks) (drop (i + 1) vs) d ≡ beside p (drop i ks) (drop i vs) d
   beside_skip ks vs d i k l e no' =
       sym (ap (λ qs. beside p qs (drop i vs) d) (drop_read ks i k l e) ∙ skip k (drop (i + 1) ks) (drop i vs) d no' ∙ ap (λ ws. beside p (drop (i + 1) ks) ws d) (drop-drop 1 i vs))
-
-  pub beside_hit : (ks : List K) (vs : List V) (d : V) (i : ℕ) (k : K) → i < length ks → k ≡ get_or ks i k → p k ≡ true → beside p (drop i ks) (drop i vs) d ≡ unwrap_or (slice_get vs i) d
-  beside_hit ks vs d i k l e is = ap (λ qs. beside p qs (drop i vs) d) (drop_read ks i k l e) ∙ hit k (drop (i + 1) ks) (drop i vs) d is
-      ∙ unwrap_or-slice_get (drop i vs) 0 d ∙ get_or-drop i vs 0 d ∙ ap (λ n. get_or vs n d) (let e : i + 0 ≡ i = omega arith in e) ∙ sym (unwrap_or-slice_get vs i d)
 
   -- the same where nothing may be found
   found_none : (ks : List K) → ◌≡◌ {A = Option V} (found_beside p ks []) None

@@ -1,13 +1,17 @@
 -- The document that taking an action back gives.
-use Rattle.std.specs.Prelude.{ℕ, Option, None, Some, slice_get, slice_set, ⊤}
+use Rattle.std.specs.Prelude.{ℕ, ◌+◌, ◌≤◌, Option, None, Some, length, slice_get, slice_set, vec_capacity, ⊤}
+use Rattle.std.specs.List.{insert, remove}
 use Rattle.doc_model.specs.Document.{Table, Document, on_grid}
 use Rattle.doc_model.specs.DocumentLaws.{IsWhole}
 use Rattle.row_tables.specs.InPlace.{cells_again, HasRoom, on_rows, rows_again, written_back}
 use Rattle.row_tables.specs.RowPlaces.{taken_out}
 use Rattle.row_tables.specs.declared.change.Change.{Change}
 use Rattle.row_tables.specs.declared.change.Change.TheVariants as change
+use Rattle.row_tables.specs.declared.plain_change.PlainChange.{PlainChange}
+use Rattle.row_tables.specs.declared.plain_change.PlainChange.TheVariants as plain
 use Rattle.row_tables.specs.declared.put.Replaced.{Replaced}
 use Rattle.row_tables.specs.declared.put.Replaced.TheVariants as replaced
+use Rattle.row_tables.specs.declared.schema.SchemaTables.{SchemaTables}
 
 -- a table with a record action taken back
 abbrev pub change_back : Change → Table → Table
@@ -31,14 +35,28 @@ abbrev pub fits_there : Change → Option Table → Type 0
 fits_there c None = ⊤
 fits_there c (Some t) = change_fits c t
 
--- the changed table at its place as it was, or all tables
+-- the document with these schema tables
+abbrev pub with_tables : SchemaTables → Document → Document
+with_tables schema s = slice_set (slice_set s 0 schema.tables) 1 schema.columns
+
+-- the document with its plain tables as they were, and where that takes no memory
+abbrev pub plain_back : PlainChange → Document → Document
+plain_back (plain.Changed place old) s = slice_set s place old
+plain_back (plain.Came place) s = remove s place
+plain_back (plain.Went place old room) s = insert s place old
+
+abbrev pub plain_fits : PlainChange → Document → Type 0
+plain_fits (plain.Went place old room) s = length s + 1 ≤ vec_capacity room
+plain_fits _ s = ⊤
+
+-- the changed table at its place as it was, or the schema tables and the plain ones
 abbrev pub put_back : Replaced → Document → Document
 put_back (replaced.Changed place c) s = back_there c place (slice_get s place) s
-put_back (replaced.All tables) s = tables.items
+put_back (replaced.Schema schema c) s = plain_back c (with_tables schema s)
 
 abbrev pub has_place : Replaced → Document → Type 0
 has_place (replaced.Changed place c) s = fits_there c (slice_get s place)
-has_place (replaced.All tables) s = ⊤
+has_place (replaced.Schema schema c) s = plain_fits c s
 
 -- what is put back makes a whole document, and takes no memory
 abbrev pub fits_back : Replaced → Document → Type 0

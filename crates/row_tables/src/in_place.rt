@@ -38,3 +38,19 @@ pub(crate) fn swap_at<T>(items: &mut Vec<T>, place: usize, item: &mut T)
         mem::swap(&mut items[place], item);
     }
 }
+
+/// Moves items to where there is room for them.
+///
+/// Memory: none.
+pub(crate) fn move_to<T: Drop>(items: &mut Vec<T>, room: Vec<T>) -> Vec<T>
+    requires { vec_len items.old ≤ vec_capacity room }
+    ensures items { result.items ≡ items.old.items }
+    ensures capacity { vec_capacity room ≤ vec_capacity result }
+{
+    let mut moved = room;
+    moved.clear();
+    if moved.append(items).is_err() {
+        unreachable!()
+    }
+    moved
+}

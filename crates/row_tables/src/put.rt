@@ -1,6 +1,6 @@
 //! What an action makes of all tables, and what takes it back.
 
-ghost use Rattle.std.specs.Prelude.{◌≡◌, true, false, IfOk};
+ghost use Rattle.std.specs.Prelude.{◌≡◌, true, false, IfOk, OnErr, OnOk};
 ghost use Rattle.doc_model.specs.Apply.{apply};
 ghost use Rattle.doc_model.specs.DocumentLaws.{IsWhole};
 ghost use Rattle.doc_model.specs.Valid.{valid};
@@ -9,16 +9,23 @@ ghost use Rattle.row_tables.specs.Steps.{is_record};
 
 use crate::RowTable;
 use crate::change::Change;
-use crate::schema::with_schema;
-use crate::steps::plain_after;
+use crate::plain_change::{PlainChange, change_plain, take_plain_back};
+use crate::schema::{SchemaTables, schema_tables, swap_schema};
 use doc_model::DocAction;
-use std::alloc::{AllocError, Global};
+use std::alloc::AllocError;
 
-/// What takes an action back: the change of the table at its place, or all tables.
+/// What takes an action back: the change of the table at its place, or the schema tables before it
+/// and the change of the plain tables.
 #[derive(Drop)]
 pub(crate) enum Replaced {
-    Changed { place: usize, change: Change },
-    All { tables: Vec<RowTable> },
+    Changed {
+        place: usize,
+        change: Change,
+    },
+    Schema {
+        schema: SchemaTables,
+        change: PlainChange,
+    },
 }
 
 /// Takes an action back.
@@ -29,7 +36,10 @@ pub(crate) fn put_back(tables: &mut Vec<RowTable>, replaced: Replaced)
     ensures { tables.new.items ≡ put_back replaced tables.old.items }
 {
     match replaced {
-        Replaced::All { tables: old } => *tables = old,
+        Replaced::Schema { schema, change } => {
+            let _after = swap_schema(tables, schema);
+            take_plain_back(tables, change);
+        }
         Replaced::Changed { place, change } => {
             if place < tables.len() {
                 tables[place].take_back(change);
@@ -38,19 +48,32 @@ pub(crate) fn put_back(tables: &mut Vec<RowTable>, replaced: Replaced)
     }
 }
 
-/// The tables after a schema action. All plain tables are copied.
+/// Applies a schema action: changes the plain tables, and then makes the schema tables anew, which
+/// describe them; where memory is wanting, the plain tables are changed back.
+///
+/// Errors: want of memory; all tables are then as they were.
 pub(crate) fn schema_put(
-    alloc: Global,
-    tables: &[RowTable],
+    tables: &mut Vec<RowTable>,
     action: &DocAction,
-) -> Result<Vec<RowTable>, AllocError>
-    requires whole { IsWhole tables.now }
-    requires valid { valid tables.now action.now ≡ true }
+) -> Result<Replaced, AllocError>
+    requires whole { IsWhole tables.old.items }
+    requires valid { valid tables.old.items action.now ≡ true }
     requires schema { is_record action.now ≡ false }
-    ensures { IfOk result (λ v. v.items ≡ apply tables.now action.now) }
+    ensures done { OnOk result (tables.new.items ≡ apply tables.old.items action.now) }
+    ensures back { IfOk result (λ replaced. put_back replaced tables.new.items ≡ tables.old.items) }
+    ensures fit { IfOk result (λ replaced. has_place replaced tables.new.items) }
+    ensures err { OnErr result (tables.new.items ≡ tables.old.items) }
 {
-    let resources = tables[2].copy()?;
-    let rules = tables[3].copy()?;
-    let plain = plain_after(alloc, &tables[4..], action)?;
-    with_schema(alloc, resources, rules, plain)
+    let alloc = *tables.allocator();
+    let change = change_plain(tables, action)?;
+    match schema_tables(alloc, &tables[4..]) {
+        Ok(after) => {
+            let schema = swap_schema(tables, after);
+            Ok(Replaced::Schema { schema, change })
+        }
+        Err(error) => {
+            take_plain_back(tables, change);
+            Err(error)
+        }
+    }
 }

@@ -9,7 +9,7 @@ ghost use Rattle.doc_model.specs.Rows.{IsAscending};
 ghost use Rattle.row_tables.specs.InPlace.{beside_left, cells_again, HasRoom, on_rows, rows_again, rows_left};
 
 use crate::RowTable;
-use crate::in_place::insert_reserved;
+use crate::in_place::{insert_reserved, move_to};
 use crate::search::search_row;
 use cell_types::ValueList;
 use std::alloc::AllocError;
@@ -69,20 +69,6 @@ fn put_again(rows: &mut Vec<u32>, cells: &mut Vec<ValueList>, taken: Vec<TakenRo
         insert_reserved(rows, last.place, last.row);
         insert_reserved(cells, last.place, last.cells);
     }
-}
-
-// Moves items to where there is room for them.
-fn move_to<T: Drop>(items: &mut Vec<T>, room: Vec<T>) -> Vec<T>
-    requires { vec_len items.old ≤ vec_capacity room }
-    ensures items { result.items ≡ items.old.items }
-    ensures capacity { vec_capacity room ≤ vec_capacity result }
-{
-    let mut moved = room;
-    moved.clear();
-    if moved.append(items).is_err() {
-        unreachable!()
-    }
-    moved
 }
 
 impl RowTable {

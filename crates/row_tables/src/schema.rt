@@ -5,9 +5,11 @@ ghost use Rattle.cell_types.specs.declared.value.CellValue.TheVariants.{Text};
 ghost use Rattle.doc_model.specs.Document.{table_row};
 ghost use Rattle.doc_model.specs.MetadataIds.{columns_id, tables_id};
 ghost use Rattle.doc_model.specs.Schema.{columns_grid, describe, described_row, metadata_table, tables_grid, type_text};
+ghost use Rattle.row_tables.specs.Back.{with_tables};
 
 use crate::RowTable;
 use crate::described::{Described, columns_in_order};
+use crate::in_place::swap_at;
 use crate::known::Known;
 use crate::metadata::{columns_columns, metadata_table, tables_columns};
 use cell_types::{CellText, CellValue, ColType, Name, ValueList};
@@ -41,8 +43,8 @@ fn table_cells(alloc: Global, plain: &[RowTable]) -> Result<Vec<ValueList>, Allo
     Ok(cells)
 }
 
-/// The table of tables that describes these tables.
-pub(crate) fn table_of_tables(alloc: Global, plain: &[RowTable]) -> Result<RowTable, AllocError>
+// The table of tables that describes these tables.
+fn table_of_tables(alloc: Global, plain: &[RowTable]) -> Result<RowTable, AllocError>
     ensures { IfOk result (λ t. t ≡ metadata_table tables_id (tables_grid plain.now)) }
 {
     let columns = tables_columns(alloc)?;
@@ -108,10 +110,8 @@ fn column_cells(alloc: Global, sorted: &[Described]) -> Result<Vec<ValueList>, A
     Ok(cells)
 }
 
-/// The table of columns that describes the columns of these tables.
-///
-/// Cost: the square of the number of columns.
-pub(crate) fn table_of_columns(alloc: Global, plain: &[RowTable]) -> Result<RowTable, AllocError>
+// The table of columns that describes the columns of these tables.
+fn table_of_columns(alloc: Global, plain: &[RowTable]) -> Result<RowTable, AllocError>
     ensures { IfOk result (λ t. t ≡ metadata_table columns_id (columns_grid plain.now)) }
 {
     let sorted = columns_in_order(alloc, plain)?;
@@ -119,6 +119,39 @@ pub(crate) fn table_of_columns(alloc: Global, plain: &[RowTable]) -> Result<RowT
     let rows = column_rows(alloc, &sorted)?;
     let cells = column_cells(alloc, &sorted)?;
     metadata_table(alloc, Known::Columns, columns, rows, cells)
+}
+
+/// The two schema tables.
+#[derive(Drop)]
+pub(crate) struct SchemaTables {
+    pub(crate) tables: RowTable,
+    pub(crate) columns: RowTable,
+}
+
+/// The schema tables that describe these tables.
+///
+/// Cost: the square of the number of columns.
+pub(crate) fn schema_tables(alloc: Global, plain: &[RowTable]) -> Result<SchemaTables, AllocError>
+    ensures tables { IfOk result (λ schema. schema.tables ≡ metadata_table tables_id (tables_grid plain.now)) }
+    ensures columns { IfOk result (λ schema. schema.columns ≡ metadata_table columns_id (columns_grid plain.now)) }
+{
+    Ok(SchemaTables {
+        tables: table_of_tables(alloc, plain)?,
+        columns: table_of_columns(alloc, plain)?,
+    })
+}
+
+/// Swaps the first two tables with these, and gives them.
+///
+/// Memory: none.
+pub(crate) fn swap_schema(tables: &mut Vec<RowTable>, schema: SchemaTables) -> SchemaTables
+    ensures done { tables.new.items ≡ with_tables schema tables.old.items }
+    ensures back { with_tables result tables.new.items ≡ tables.old.items }
+{
+    let mut swapped = schema;
+    swap_at(tables, 0, &mut swapped.tables);
+    swap_at(tables, 1, &mut swapped.columns);
+    swapped
 }
 
 /// All tables of a document: the schema tables, the access tables, and then the plain ones, which

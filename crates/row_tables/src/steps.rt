@@ -1,14 +1,14 @@
-//! Document actions as changes of one table, or of the plain tables.
+//! Document actions as changes of one table, and the place of that table.
 
 ghost use Rattle.std.specs.Prelude.{◌≡◌, ◌<◌, false, None, IfOk, MatchOption, length, slice_get};
-ghost use Rattle.doc_model.specs.ByIds.{find_id, without_id};
-ghost use Rattle.doc_model.specs.Document.{put_by_row, table_id, table_row, with_table};
-ghost use Rattle.row_tables.specs.Steps.{is_record, plain_after, table_change, table_named, table_place};
+ghost use Rattle.doc_model.specs.ByIds.{find_id};
+ghost use Rattle.doc_model.specs.Document.{table_id};
+ghost use Rattle.row_tables.specs.Steps.{is_record, table_change, table_named, table_place};
 
 use crate::RowTable;
 use cell_types::Name;
 use doc_model::DocAction;
-use std::alloc::{AllocError, Global};
+use std::alloc::AllocError;
 
 /// Whether the action changes rows alone.
 pub(crate) fn is_record(action: &DocAction) -> bool
@@ -70,95 +70,16 @@ pub(crate) fn place_of_table(tables: &[RowTable], id: &Name) -> Option<usize>
     None
 }
 
-// Where a table of that row goes: before the first one with a greater row.
-fn place_by_row(plain: &[RowTable], row: u32) -> usize
-    ensures { result ≡ table_place row plain.now }
+/// Where a table of that row goes: before the first one with a greater row.
+///
+/// Memory: none. Cost: linear in the tables.
+pub(crate) fn place_by_row(tables: &[RowTable], row: u32) -> usize
+    ensures { result ≡ table_place row tables.now }
 {
-    for (place, table) in plain.iter().enumerate() {
+    for (place, table) in tables.iter().enumerate() {
         if row < table.row() {
             return place;
         }
     }
-    plain.len()
-}
-
-fn copies(alloc: Global, plain: &[RowTable]) -> Result<Vec<RowTable>, AllocError>
-    ensures { IfOk result (λ v. v.items ≡ plain.now) }
-{
-    let mut tables = Vec::with_capacity(alloc, plain.len())?;
-    for table in plain {
-        tables.push(table.copy()?)?;
-    }
-    Ok(tables)
-}
-
-// The tables with a new one in its place.
-fn tables_with(
-    alloc: Global,
-    plain: &[RowTable],
-    new: RowTable,
-) -> Result<Vec<RowTable>, AllocError>
-    ensures { IfOk result (λ v. v.items ≡ put_by_row table_row new plain.now) }
-{
-    let mut tables = copies(alloc, plain)?;
-    let place = place_by_row(&tables, new.row());
-    tables.insert(place, new)?;
-    Ok(tables)
-}
-
-// The tables but that of this id.
-fn tables_without(alloc: Global, plain: &[RowTable], id: &Name) -> Result<Vec<RowTable>, AllocError>
-    ensures { IfOk result (λ v. v.items ≡ without_id table_id id.now plain.now) }
-{
-    let mut left = Vec::with_capacity(alloc, plain.len())?;
-    for table in plain {
-        if table.id().as_str() != id.as_str() {
-            left.push(table.copy()?)?;
-        }
-    }
-    Ok(left)
-}
-
-// The tables, and that of this id changed.
-fn tables_changed(
-    alloc: Global,
-    plain: &[RowTable],
-    id: &Name,
-    action: &DocAction,
-) -> Result<Vec<RowTable>, AllocError>
-    requires { is_record action.now ≡ false }
-    ensures { IfOk result (λ v. v.items ≡ with_table id.now (table_change action.now) plain.now) }
-{
-    let mut tables = Vec::with_capacity(alloc, plain.len())?;
-    for table in plain {
-        if table.id().as_str() == id.as_str() {
-            tables.push(changed_table(table, action)?)?;
-        } else {
-            tables.push(table.copy()?)?;
-        }
-    }
-    Ok(tables)
-}
-
-/// What becomes of the plain tables.
-pub(crate) fn plain_after(
-    alloc: Global,
-    plain: &[RowTable],
-    action: &DocAction,
-) -> Result<Vec<RowTable>, AllocError>
-    requires { is_record action.now ≡ false }
-    ensures { IfOk result (λ v. v.items ≡ plain_after action.now plain.now) }
-{
-    match action {
-        DocAction::AddTable {
-            table,
-            row,
-            columns,
-        } => {
-            let new = RowTable::empty(alloc, table, *row, columns.as_slice())?;
-            tables_with(alloc, plain, new)
-        }
-        DocAction::RemoveTable { table } => tables_without(alloc, plain, table),
-        _ => tables_changed(alloc, plain, table_named(action), action),
-    }
+    tables.len()
 }

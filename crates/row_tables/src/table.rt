@@ -41,20 +41,22 @@ impl Model for RowTable {
 impl RowTable {
     /// The cell of a column in a row; nothing where there is none.
     ///
-    /// Memory: none. Cost: the logarithm of the number of rows, and linear in the columns.
+    /// Memory: none. Cost: linear in the rows and the columns.
     pub fn cell(&self, column: &Name, row: u32) -> Option<&CellValue>
+        ensures { option_copied result ≡ kept self.now.grid column.now row }
+    {
+        let cells = cells_of_row(&self.rows, &self.cells, row);
+        cell_in_row(&self.columns, cells, column)
+    }
+
+    /// The cell of a column in one of ascending rows; nothing where there is none.
+    ///
+    /// Memory: none. Cost: the logarithm of the number of rows, and linear in the columns.
+    pub(crate) fn search_cell(&self, column: &Name, row: u32) -> Option<&CellValue>
         requires { IsAscending self.now.grid.rows }
         ensures { option_copied result ≡ kept self.now.grid column.now row }
     {
         let cells = search_cells(&self.rows, &self.cells, row);
-        cell_in_row(&self.columns, cells, column)
-    }
-
-    // The cell of a column in a row, found by a walk over rows in any order.
-    fn cell_by_walk(&self, column: &Name, row: u32) -> Option<&CellValue>
-        ensures { option_copied result ≡ kept self.now.grid column.now row }
-    {
-        let cells = cells_of_row(&self.rows, &self.cells, row);
         cell_in_row(&self.columns, cells, column)
     }
 
@@ -64,7 +66,7 @@ impl RowTable {
     pub(crate) fn stored(&self, column: &Name, row: u32) -> Result<CellValue, AllocError>
         ensures { IfOk result (λ v. v ≡ cell column_id self.now.grid column.now row) }
     {
-        match self.cell_by_walk(column, row) {
+        match self.cell(column, row) {
             Some(value) => copy_of(value),
             None => Ok(CellValue::Null),
         }

@@ -18,7 +18,6 @@ use cell_types::{CellValue, Name};
 use doc_model::{ColDef, DocAction, DocTables};
 use std::alloc::{AllocError, Global};
 use std::marker::Model;
-use std::mem;
 
 /// A document, kept as a vector of tables in the order of the document.
 #[derive(Drop)]
@@ -107,7 +106,7 @@ impl RowTables {
     }
 }
 
-/// What takes an action back: the tables that it replaced.
+/// What takes an action back: what it replaced.
 #[derive(Drop)]
 pub struct RowBack {
     replaced: Replaced,
@@ -137,15 +136,12 @@ impl DocTables for RowTables {
     }
 
     fn cell(&self, table: &Name, column: &Name, row: u32) -> Option<&CellValue> {
-        find_table(&self.tables, table)?.cell(column, row)
+        find_table(&self.tables, table)?.search_cell(column, row)
     }
 
     fn put(&mut self, action: &DocAction) -> Result<RowBack, AllocError> {
         if !is_record(action) {
-            let alloc = *self.tables.allocator();
-            let next = schema_put(alloc, &self.tables, action)?;
-            let tables = mem::replace(&mut self.tables, next);
-            let replaced = Replaced::All { tables };
+            let replaced = schema_put(&mut self.tables, action)?;
             return Ok(RowBack { replaced });
         }
         let Some(place) = place_of_table(&self.tables, table_named(action)) else {

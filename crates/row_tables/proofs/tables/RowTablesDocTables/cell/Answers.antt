@@ -7,16 +7,16 @@ use Rattle.doc_model.proofs.ByIdsLaws.{found_all}
 use Rattle.row_tables.proofs.KeptLaws.{told_by, cell-found}
 use Rattle.row_tables.proofs.tables.RowTablesDocTables.cell.Goals as goal
 
-pub cell-requires : goal.cell-requires
-cell-requires c =
+pub search_cell-requires : goal.search_cell-requires
+search_cell-requires c =
     let found : find_id table_id c.args.table.now c.self.inside.tables.items ≡ Some c.in_ok-find_table.field-0.now = sym (c.in_ok-find_table.ensures ∙ ap (find_id table_id c.args.table.now) c.deref.ensures.value) in
     let grid : IsSoundGrid c.in_ok-find_table.field-0.now.grid = found_all table_id (λ (t : Table). IsSoundGrid t.grid) c.args.table.now c.self.inside.tables.items c.in_ok-find_table.field-0.now c.self.invariant.sound.grids found in
     grid.is_grid.ascending
 
 pub returns : goal.returns
 returns c =
-    told_by c.cell.result (cell_at c.args.self.now c.args.table.now c.args.column.now c.args.row)
-    (c.cell.ensures
+    told_by c.search_cell.result (cell_at c.args.self.now c.args.table.now c.args.column.now c.args.row)
+    (c.search_cell.ensures
     ∙ cell-found c.self.inside.tables.items c.args.table.now c.args.column.now c.args.row c.in_ok-find_table.field-0.now c.self.invariant.sound
     (sym (c.in_ok-find_table.ensures ∙ ap (find_id table_id c.args.table.now) c.deref.ensures.value))
     ∙ ap (λ s. cell_at s c.args.table.now c.args.column.now c.args.row) c.self.view_is)

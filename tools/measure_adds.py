@@ -19,23 +19,28 @@ OPEN = '{"line":{"method":"openDoc","token":"ta"},"session":"s1"}\n'
 ADD = '{"line":{"actions":[["AddRecord","Table1",null,{"A":%d,"B":"x%d"}]],"method":"applyUserActions"},"session":"s1"}\n'
 
 
+def least_time(script, runs):
+    """The least seconds of so many runs of a script, and the peak memory in bytes."""
+    seconds, peak = [], 0
+    for _ in range(runs):
+        script.seek(0)
+        start = time.monotonic()
+        run = subprocess.Popen([PROGRAM, "replay"], stdin=script, stdout=subprocess.DEVNULL)
+        _, status, usage = os.wait4(run.pid, 0)
+        seconds.append(time.monotonic() - start)
+        peak = max(peak, usage.ru_maxrss * 1024)
+        if status:
+            raise SystemExit(f"the program ended with {os.waitstatus_to_exitcode(status)}")
+    return min(seconds), peak
+
+
 def replayed(rows):
-    """The least seconds of three runs, and the peak memory in bytes."""
-    with tempfile.TemporaryFile("w+") as lines:
-        lines.write(USER + OPEN)
-        lines.writelines(ADD % (row, row) for row in range(rows))
-        lines.flush()
-        seconds, peak = [], 0
-        for _ in range(3):
-            lines.seek(0)
-            start = time.monotonic()
-            run = subprocess.Popen([PROGRAM, "replay"], stdin=lines, stdout=subprocess.DEVNULL)
-            _, status, usage = os.wait4(run.pid, 0)
-            seconds.append(time.monotonic() - start)
-            peak = max(peak, usage.ru_maxrss * 1024)
-            if status:
-                raise SystemExit(f"the program ended with {os.waitstatus_to_exitcode(status)}")
-        return min(seconds), peak
+    """The least seconds of three runs that add so many rows, and the peak memory in bytes."""
+    with tempfile.TemporaryFile("w+") as script:
+        script.write(USER + OPEN)
+        script.writelines(ADD % (row, row) for row in range(rows))
+        script.flush()
+        return least_time(script, 3)
 
 
 def main():

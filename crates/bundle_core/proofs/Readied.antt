@@ -1,5 +1,6 @@
 -- Sessions that are the same but for lines that are ready.
-use Rattle.std.proofs.Common.{◌≡◌, Bool, ℕ, suc, zero, ◌+◌, ◌<◌, ◌^◌, false, List, [], ◌∷◌, ◌++◌, map, length, get_or, Some, None, option_to_list, refl, sym, ap, subst, ◌∙◌, arith, if◌then◌else◌}
+use Rattle.std.proofs.Common.{◌≡◌, Bool, ℕ, suc, zero, ◌+◌, ◌<◌, ◌^◌, true, false, not, ◌||◌, List, [], ◌∷◌, ◌++◌, map, length, get_or, Some, None, option_to_list, refl, sym, ap, subst, ◌∙◌, arith, if◌then◌else◌}
+use Rattle.std.proofs.lemmas.Bool.{false≢true}
 use Rattle.std.specs.List.{AllByRecursion}
 use Rattle.doc_model.specs.declared.view.ViewAction.{ViewAction}
 use Rattle.doc_model.specs.NewDocument.{new_document}
@@ -12,6 +13,7 @@ use Rattle.bundle_core.specs.Desk.{AreSame, bundle_number, bundle_reply, user_at
 use Rattle.bundle_core.specs.Made.{told_of}
 use Rattle.bundle_core.specs.SessionState.{SessionState, open_of, IsReady, MayPost, line_for}
 use Rattle.bundle_core.specs.State.{Open}
+use Rattle.bundle_core.specs.Telling.{are_mixed}
 use Rattle.bundle_core.specs.View.{is_owner, view}
 
 -- what holds of the sessions as open ones holds of them when more is ready
@@ -67,8 +69,38 @@ reply_is xs p d s ms lt =
     sym (ap (λ n. reply_text (Bundle n (values_told (user_at xs p) s ms))) (bundle_number-is xs p d lt)
     ∙ ap (λ u. reply_text (Bundle ((get_or xs p d).holder.bundles + 1) (values_told u s ms))) (user_at-is xs p d lt))
 
--- lines that tell the same are ready for it
-pub ready_as : (f h : Bool → List ViewAction) (xs : List SessionState) → ((owner : Bool) → f owner ≡ h owner) → AllByRecursion (IsReady f) xs → AllByRecursion (IsReady h) xs
-ready_as f h [] same k = tt
-ready_as f h (x ∷ xs) same k =
-    (record { line = k.0.line ∙ ap (λ as'. line_for as' x) (same (is_owner x.holder.user)); room = k.0.room }, ready_as f h xs same k.1)
+or_true : (b : Bool) → (b || true) ≡ true
+or_true true = refl
+or_true false = refl
+
+each_always : (xs : List SessionState) → AllByRecursion (λ x. (is_owner x.holder.user || true) ≡ true) xs
+each_always [] = tt
+each_always (x ∷ xs) = (or_true (is_owner x.holder.user), each_always xs)
+
+or_parts : (a b : Bool) → (a || b) ≡ false → (a ≡ false) × (b ≡ false)
+or_parts true b e = absurd (false≢true (sym e))
+or_parts false b e = (refl, e)
+
+not_false : (b : Bool) → not b ≡ false → b ≡ true
+not_false true e = refl
+not_false false e = absurd (false≢true (sym e))
+
+-- where nobody is told but owners, each session is an owner's
+all_asked : (xs : List SessionState) (mixed : Bool) → are_mixed xs ≡ mixed → AllByRecursion (λ x. (is_owner x.holder.user || mixed) ≡ true) xs
+all_asked xs true e = each_always xs
+all_asked [] false e = tt
+all_asked (x ∷ xs) false e =
+    let rest = or_parts (not (is_owner x.holder.user)) (are_mixed xs) e in
+    (ap (λ b. b || false) (not_false (is_owner x.holder.user) rest.0), all_asked xs false rest.1)
+
+as_told : (f h : Bool → List ViewAction) (mixed : Bool) (xs : List SessionState) → AllByRecursion (λ x. (is_owner x.holder.user || mixed) ≡ true) xs
+    → ((owner : Bool) → (owner || mixed) ≡ true → f owner ≡ h owner) → AllByRecursion (IsReady f) xs → AllByRecursion (IsReady h) xs
+as_told f h mixed [] asks same k = tt
+as_told f h mixed (x ∷ xs) asks same k =
+    (record { line = k.0.line ∙ ap (λ as'. line_for as' x) (same (is_owner x.holder.user) asks.0); room = k.0.room }, as_told f h mixed xs asks.1 same k.1)
+
+-- lines that tell the same to all who are there are ready for it
+pub ready_as : (f h : Bool → List ViewAction) (mixed : Bool) (old new : List SessionState) → AreSame old new → are_mixed old ≡ mixed
+    → ((owner : Bool) → (owner || mixed) ≡ true → f owner ≡ h owner) → AllByRecursion (IsReady f) new → AllByRecursion (IsReady h) new
+ready_as f h mixed old new same e told k =
+    as_told f h mixed new (each_same (λ (o : Open). (is_owner o.holder.user || mixed) ≡ true) old new same (all_asked old mixed e)) told k

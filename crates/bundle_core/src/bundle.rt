@@ -1,6 +1,6 @@
 //! An accepted bundle: its actions are done, and each open session is told of them.
 
-ghost use Rattle.std.specs.Prelude.{Bool, false, true, ◌≡◌, ◌+◌, ◌<◌, ◌^◌, [], ◌∷◌, ◌++◌, ◌≤◌, length, map, get_or, IfOk, OnOk, OnErr, vec_len, vec_capacity};
+ghost use Rattle.std.specs.Prelude.{Bool, false, true, ◌||◌, ◌≡◌, ◌+◌, ◌<◌, ◌^◌, [], ◌∷◌, ◌++◌, ◌≤◌, length, map, get_or, IfOk, OnOk, OnErr, vec_len, vec_capacity};
 ghost use Rattle.std.specs.List.{AllByRecursion, insert};
 ghost use Rattle.doc_model.specs.Apply.{all_valid, apply_all};
 ghost use Rattle.doc_model.specs.DocumentLaws.{IsWhole};
@@ -11,7 +11,7 @@ ghost use Rattle.bundle_core.specs.Desk.{AreSame, Bundles, Posts, bundle_number,
 ghost use Rattle.bundle_core.specs.Made.{told_of};
 ghost use Rattle.bundle_core.specs.Plans.{told_changes};
 ghost use Rattle.bundle_core.specs.SessionState.{SessionState, IsReady, MayPost, posted_state};
-ghost use Rattle.bundle_core.specs.Telling.{told_by};
+ghost use Rattle.bundle_core.specs.Telling.{are_mixed, told_by};
 ghost use Rattle.bundle_core.specs.View.{is_owner};
 ghost use Rattle.bundle_core.specs.Ways.{AllFit, went_back};
 
@@ -81,17 +81,26 @@ fn ready_bundle<D: DocTables>(
     ensures room { IfOk result (λ _. (d : SessionState) → 1 < (get_or sessions.new.items place d).room) }
     ensures length { length sessions.new.items ≡ length sessions.old.items }
 {
-    let told = done_and_told(alloc, tables, &plan.actions, backs)?;
+    let mixed = are_mixed(sessions);
+    let told = done_and_told(alloc, tables, &plan.actions, mixed, backs)?;
     let reply = reply_to(alloc, tables, &sessions[place], &plan.made)?;
     ready_all(alloc, sessions, place, &told)?;
     Ok(reply)
 }
 
-// Does the actions, and works out what users are told of them.
+// Whether some session is not an owner's.
+fn are_mixed(sessions: &[OpenSession]) -> bool
+    ensures { result ≡ are_mixed sessions.now }
+{
+    sessions.iter().any(|session| !session.is_owner())
+}
+
+// Does the actions, and works out what owners are told of them, and others where `mixed` says so.
 fn done_and_told<D: DocTables>(
     alloc: Global,
     tables: &mut D,
     actions: &[DocAction],
+    mixed: bool,
     backs: &mut Vec<D::Back>,
 ) -> Result<Told, AllocError>
     requires whole { IsWhole (D.document tables.old) }
@@ -100,11 +109,11 @@ fn done_and_told<D: DocTables>(
     ensures document { OnOk result (D.document tables.new ≡ apply_all (D.document tables.old) actions.now) }
     ensures fit { AllFit D.undone D.fits backs.new.items (D.document tables.new) }
     ensures back { went_back D.undone D.fits backs.new.items (D.document tables.new) ≡ D.document tables.old }
-    ensures told { IfOk result (λ t. (owner : Bool) → told_by t owner ≡ told_changes (D.document tables.old) actions.now owner) }
+    ensures told { IfOk result (λ t. (owner : Bool) → (owner || mixed) ≡ true → told_by t owner ≡ told_changes (D.document tables.old) actions.now owner) }
 {
-    let before = see_parts(alloc, tables, actions)?;
+    let before = see_parts(alloc, tables, actions, mixed)?;
     put_all(tables, actions, backs)?;
-    let after = see_parts(alloc, tables, actions)?;
+    let after = see_parts(alloc, tables, actions, mixed)?;
     part_law();
     tell_changes(alloc, &before, &after)
 }

@@ -1,18 +1,19 @@
 //! What users are told of the actions of a bundle.
 
-ghost use Rattle.std.specs.Prelude.{Bool, true, false, ◌≡◌, IfOk};
+ghost use Rattle.std.specs.Prelude.{Bool, true, false, ◌||◌, ◌≡◌, IfOk};
 ghost use Rattle.doc_model.specs.Changes.{IsView, changes};
 ghost use Rattle.doc_model.specs.DocumentLaws.{IsWhole};
 ghost use Rattle.view_parts.specs.Parts.{part};
 ghost use Rattle.view_parts.specs.Shown.{view};
 ghost use Rattle.bundle_core.specs.Telling.{seen_by, told_by};
 
-use doc_model::{DocAction, DocTables, View, ViewActionList};
+use doc_model::{DocAction, DocTables, View, ViewActionList, ViewTableList};
 use plain_view::changes;
 use std::alloc::{AllocError, Global};
 use view_parts::touched_view;
 
-/// The part of what owners see, and of what others see, that actions are about.
+/// The part of what owners see, and of what others see, that actions are about; nothing for others where
+/// nobody asks for it.
 #[derive(Drop)]
 pub(crate) struct Seen {
     pub owners: View,
@@ -26,19 +27,39 @@ pub(crate) struct Told {
     pub others: ViewActionList,
 }
 
-/// What is seen now of what these actions are about.
+// What others see now of what these actions are about, where somebody asks for it.
+fn others_part<D: DocTables>(
+    alloc: Global,
+    tables: &D,
+    actions: &[DocAction],
+    mixed: bool,
+) -> Result<View, AllocError>
+    requires { IsWhole (D.document tables.now) }
+    ensures part { IfOk result (λ v. mixed ≡ true → v.tables ≡ part actions.now (view false (D.document tables.now))) }
+    ensures is_view { IfOk result (λ v. IsView v.tables) }
+{
+    if mixed {
+        return touched_view(alloc, tables, false, actions);
+    }
+    Ok(View {
+        tables: ViewTableList::new(alloc),
+    })
+}
+
+/// What is seen now of what these actions are about: by owners, and by others where `mixed` says so.
 pub(crate) fn see_parts<D: DocTables>(
     alloc: Global,
     tables: &D,
     actions: &[DocAction],
+    mixed: bool,
 ) -> Result<Seen, AllocError>
     requires { IsWhole (D.document tables.now) }
-    ensures parts { IfOk result (λ s. (owner : Bool) → seen_by s owner ≡ part actions.now (view owner (D.document tables.now))) }
+    ensures parts { IfOk result (λ s. (owner : Bool) → (owner || mixed) ≡ true → seen_by s owner ≡ part actions.now (view owner (D.document tables.now))) }
     ensures views { IfOk result (λ s. (owner : Bool) → IsView (seen_by s owner)) }
 {
     Ok(Seen {
         owners: touched_view(alloc, tables, true, actions)?,
-        others: touched_view(alloc, tables, false, actions)?,
+        others: others_part(alloc, tables, actions, mixed)?,
     })
 }
 

@@ -19,8 +19,8 @@ pub returns-clause-told : goal.returns-clause-told
 returns-clause-told g c =
     let s = g.D.DocTables.document c.args.tables.now in
     let actions = c.args.actions.now in
-    IfOk-weaker c.tell_changes.result _ _ (λ t told owner.
+    IfOk-weaker c.tell_changes.result _ _ (λ t told owner asks.
     told owner
-    ∙ ap (λ v. changes v (seen_by c.in_ok-after.after owner)) (c.in_ok-before.ensures.parts owner)
-    ∙ ap (changes (part actions (view owner s))) (c.in_ok-after.ensures.parts owner ∙ ap (λ u. part actions (view owner u)) c.in_ok-put_all.ensures.done)
+    ∙ ap (λ v. changes v (seen_by c.in_ok-after.after owner)) (c.in_ok-before.ensures.parts owner asks)
+    ∙ ap (changes (part actions (view owner s))) (c.in_ok-after.ensures.parts owner asks ∙ ap (λ u. part actions (view owner u)) c.in_ok-put_all.ensures.done)
     ∙ c.part_law.ensures owner s actions c.requires.whole c.requires.valid) c.tell_changes.ensures

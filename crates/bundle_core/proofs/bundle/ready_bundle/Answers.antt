@@ -9,7 +9,7 @@ use Rattle.view_parts.specs.Shown.{view}
 use Rattle.bundle_core.specs.Made.{told_of}
 use Rattle.bundle_core.specs.Plans.{told_changes}
 use Rattle.bundle_core.specs.SessionState.{SessionState}
-use Rattle.bundle_core.specs.Telling.{told_by}
+use Rattle.bundle_core.specs.Telling.{are_mixed, told_by}
 use Rattle.bundle_core.specs.View.{is_owner}
 use Rattle.bundle_core.proofs.Readied.{ready_as, reply_is}
 use Rattle.bundle_core.proofs.bundle.ready_bundle.Goals as goal
@@ -35,5 +35,6 @@ returns-clause-reply g c =
 pub returns-clause-ready : goal.returns-clause-ready
 returns-clause-ready g c =
     let s = g.D.DocTables.document c.args.tables.now in
-    ready_as (told_by c.in_ok-told.told) (told_changes s c.args.plan.now.actions.items) c.ready_all.new.sessions.items
-    (λ owner. c.in_ok-told.ensures.told owner ∙ ap (λ l. told_changes s l owner) c.deref.ensures.value) c.in_ok-ready_all.ensures.ready
+    ready_as (told_by c.in_ok-told.told) (told_changes s c.args.plan.now.actions.items) c.are_mixed.result c.args.sessions.now.items c.ready_all.new.sessions.items
+    c.in_ok-ready_all.ensures.same (sym (c.are_mixed.ensures ∙ ap are_mixed c.deref-sessions.ensures.value))
+    (λ owner asks. c.in_ok-told.ensures.told owner asks ∙ ap (λ l. told_changes s l owner) c.deref.ensures.value) c.in_ok-ready_all.ensures.ready

@@ -1,0 +1,4 @@
+pub mod DescribedLemmas
+pub mod LookupLemmas
+pub mod SchemaLawLemmas
+pub mod TextLemmas

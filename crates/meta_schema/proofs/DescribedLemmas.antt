@@ -42,7 +42,7 @@ in_order_again [] a = refl
 in_order_again (e ∷ es) a =
     ap (put_described e) (in_order_again es a.1) ∙ put_low e es (each_unmapped (λ q. e.column.row < q) described_row es a.0)
 
-neither : (a b : Bool) → (a || b) ≡ false → (a ≡ false) × (b ≡ false)
+pub neither : (a b : Bool) → (a || b) ≡ false → (a ≡ false) × (b ≡ false)
 neither true b e = absurd (cc)
 neither false b e = (refl, e)
 

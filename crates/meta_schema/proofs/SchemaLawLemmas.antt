@@ -33,7 +33,7 @@ record IsReadBack (d : ColDef) : Type 0 where
   id : name_of d.id ≡ Some d.id
   ty : type_of (type_text d.info.ty) ≡ Some d.info.ty
 
-sound_type : (d : ColDef) → is_sound_info d.info ≡ true → is_sound_type d.info.ty ≡ true
+pub sound_type : (d : ColDef) → is_sound_info d.info ≡ true → is_sound_type d.info.ty ≡ true
 sound_type d e =
     let one : ((is_sound_type d.info.ty && is_short d.info.formula) ≡ true) × _ = and_parts (is_sound_type d.info.ty && is_short d.info.formula) (d.info.is_formula || is_empty d.info.formula) e in
     (and_parts (is_sound_type d.info.ty) (is_short d.info.formula) one.0).0
@@ -56,12 +56,12 @@ module _ (r u : Grid ColDef) (p : List Table) where
   abbrev whole : Document
   whole = with_schema r u p
 
-  tables_part : grid_at whole tables_id ≡ tables_grid p
+  pub tables_part : grid_at whole tables_id ≡ tables_grid p
   tables_part =
       ap (λ o. elim o as (λ _. Grid ColDef) [ None ↦ no_grid | Some t ↦ t.grid ])
       (cond_true (bytes_eq tables_id tables_id) (Some (metadata_table tables_id (tables_grid p))) (find_id table_id tables_id (metadata_table columns_id (columns_grid p) ∷ metadata_table resources_id r ∷ metadata_table rules_id u ∷ p)) (bytes_itself tables_id))
 
-  columns_part : grid_at whole columns_id ≡ columns_grid p
+  pub columns_part : grid_at whole columns_id ≡ columns_grid p
   columns_part =
       ap (λ o. elim o as (λ _. Grid ColDef) [ None ↦ no_grid | Some t ↦ t.grid ])
       (cond_false (bytes_eq tables_id columns_id) (Some (metadata_table tables_id (tables_grid p))) (find_id table_id columns_id (metadata_table columns_id (columns_grid p) ∷ metadata_table resources_id r ∷ metadata_table rules_id u ∷ p)) tables_columns_apart
@@ -72,7 +72,7 @@ module _ (r u : Grid ColDef) (p : List Table) where
       → cell column_id g c row ≡ beside (λ d. bytes_eq (column_id d) c) g.columns cells value.Null
   cell_in g c row cells h = ap (λ vs. beside (λ d. bytes_eq (column_id d) c) g.columns vs value.Null) h
 
-  told_table_id : (t : Table) → Stands table_row (λ (t : Table). value.Text t.id ∷ []) p [] t → told whole tables_id (codes "tableId") t.row ≡ value.Text t.id
+  pub told_table_id : (t : Table) → Stands table_row (λ (t : Table). value.Text t.id ∷ []) p [] t → told whole tables_id (codes "tableId") t.row ≡ value.Text t.id
   told_table_id t h =
       ap (λ g. cell column_id g (codes "tableId") t.row) tables_part
       ∙ cell_in (tables_grid p) (codes "tableId") t.row (value.Text t.id ∷ []) h
@@ -83,19 +83,19 @@ module _ (r u : Grid ColDef) (p : List Table) where
         ap (λ g. cell column_id g c e.column.row) columns_part
         ∙ cell_in (columns_grid p) c e.column.row (describe e) stands
 
-    told_parent : told whole columns_id (codes "parentId") e.column.row ≡ value.Int (pos e.parent)
+    pub told_parent : told whole columns_id (codes "parentId") e.column.row ≡ value.Int (pos e.parent)
     told_parent = told_column (codes "parentId")
 
-    told_id : told whole columns_id (codes "colId") e.column.row ≡ value.Text e.column.id
+    pub told_id : told whole columns_id (codes "colId") e.column.row ≡ value.Text e.column.id
     told_id = told_column (codes "colId")
 
-    told_type : told whole columns_id (codes "type") e.column.row ≡ value.Text (type_text e.column.info.ty)
+    pub told_type : told whole columns_id (codes "type") e.column.row ≡ value.Text (type_text e.column.info.ty)
     told_type = told_column (codes "type")
 
-    told_is_formula : told whole columns_id (codes "isFormula") e.column.row ≡ value.Bool e.column.info.is_formula
+    pub told_is_formula : told whole columns_id (codes "isFormula") e.column.row ≡ value.Bool e.column.info.is_formula
     told_is_formula = told_column (codes "isFormula")
 
-    told_formula : told whole columns_id (codes "formula") e.column.row ≡ value.Text e.column.info.formula
+    pub told_formula : told whole columns_id (codes "formula") e.column.row ≡ value.Text e.column.info.formula
     told_formula = told_column (codes "formula")
 
     column_found : IsReadBack e.column → column_in whole e.column.row ≡ Some e.column

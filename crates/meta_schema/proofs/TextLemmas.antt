@@ -12,7 +12,7 @@ use Rattle.cell_types.specs.declared.column_type.ColType.TheVariants as type
 use Rattle.doc_model.specs.MetadataIds.{tables_id, columns_id, resources_id, rules_id, is_metadata_id}
 use Rattle.doc_model.specs.Column.{is_sound_type}
 use Rattle.doc_model.specs.Schema.{type_text}
-use Rattle.doc_model.proofs.Choices.{cond_true, both_true}
+use Rattle.doc_model.proofs.Choices.{cond_true, both_true, false_from}
 use Rattle.meta_schema.specs.Decoding.{name_of, after, type_of}
 
 -- ---- what follows a word
@@ -94,3 +94,20 @@ type_of-type_text type.Bool e = refl
 type_of-type_text type.Date e = refl
 type_of-type_text (type.Ref t) e = ap (option_map type.Ref) (name_of-target t e)
 type_of-type_text (type.RefList t) e = ap (option_map type.RefList) (name_of-target t e)
+
+-- ---- a word and a name
+
+-- a text is a word and a name where the name follows the word
+pub names_told : (word text name : List ℕ) (o : Option (List ℕ)) → o ≡ after word text → elim o [ None ↦ false | Some rest ↦ bytes_eq rest name ] ≡ bytes_eq text (word ++ name)
+names_told word text name None h =
+    sym (false_from (bytes_eq text (word ++ name)) (λ is.
+    let same : text ≡ word ++ name = (bytes_eq-Decides text (word ++ name)).0 is in
+    let found : Some name ≡ after word text = sym (ap (after word) same ∙ after-append word name) in
+    absurd (cc)))
+names_told word text name (Some rest) h =
+    let parts : text ≡ word ++ rest = after_parts word text rest (sym h) in
+    sym (ap (λ t. bytes_eq t (word ++ name)) parts ∙ joined word)
+  where
+    joined : (word : List ℕ) → bytes_eq (word ++ rest) (word ++ name) ≡ bytes_eq rest name
+    joined [] = refl
+    joined (b ∷ word) = ap (λ x. x && bytes_eq (word ++ rest) (word ++ name)) (eq-eqb b b refl) ∙ joined word

@@ -63,7 +63,8 @@ holds (value.Int n) row = int_eq n (pos row)
 holds _ row = false
 
 -- the column of these parts, where all are there
-abbrev pub column_of : Option (List ℕ) → Option ColType → Option Bool → Option (List ℕ) → ℕ → Option ColDef
+abbrev pub column_of :
+    Option (List ℕ) → Option ColType → Option Bool → Option (List ℕ) → ℕ → Option ColDef
 column_of (Some id) (Some ty) (Some is_formula) (Some formula) row = Some (record {
   id = id;
   info = record { ty = ty; is_formula = is_formula; formula = formula };

@@ -1,6 +1,6 @@
 //! The ids of the schema tables and of their columns.
 
-ghost use Rattle.std.specs.Prelude.{◌≡◌, codes, IfOk};
+ghost use Rattle.std.specs.Prelude.{◌≡◌, IfOk};
 ghost use Rattle.cell_types.specs.NameLength.{HasNameLength};
 ghost use Rattle.meta_schema.specs.Names.{AreSchemaNames};
 

@@ -1,7 +1,9 @@
 //! Names and types, read from their texts.
 
-ghost use Rattle.std.specs.Prelude.{◌≡◌, None, codes, IfOk, option_copied};
+ghost use Rattle.std.specs.Prelude.{◌≡◌, ◌++◌, None, codes, IfOk, option_copied};
+ghost use Rattle.std.specs.Str.{bytes_eq};
 ghost use Rattle.cell_types.specs.declared.column_type.ColType.TheVariants.{Ref, RefList};
+ghost use Rattle.doc_model.specs.Schema.{type_text};
 ghost use Rattle.meta_schema.specs.Decoding.{after, name_of, reference, type_of};
 
 use cell_types::{CellText, ColType, Name};
@@ -54,4 +56,30 @@ pub(crate) fn type_of(alloc: Global, text: &str) -> Result<Option<ColType>, Allo
         return Ok(Some(ColType::Date));
     }
     reference_of(alloc, text)
+}
+
+// Whether a text is a word and then the name of that table.
+#[tactic(auto, using(crate::proofs::TextLemmas::names_told))]
+fn names_table(text: &str, word: &str, table: &Name) -> bool
+    ensures { result ≡ bytes_eq text.now (word.now ++ table.now) }
+{
+    match after(text, word) {
+        Some(rest) => rest == table.as_str(),
+        None => false,
+    }
+}
+
+/// Whether a text is that of a type.
+pub(crate) fn is_type_text(text: &str, ty: &ColType) -> bool
+    ensures { result ≡ bytes_eq text.now (type_text ty.now) }
+{
+    match ty {
+        ColType::Any => text == "Any",
+        ColType::Text => text == "Text",
+        ColType::Int => text == "Int",
+        ColType::Bool => text == "Bool",
+        ColType::Date => text == "Date",
+        ColType::Ref(table) => names_table(text, "Ref:", table),
+        ColType::RefList(table) => names_table(text, "RefList:", table),
+    }
 }

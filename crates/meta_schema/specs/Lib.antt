@@ -1,0 +1,5 @@
+pub mod Agreement
+pub mod AgreementLaw
+pub mod Decoding
+pub mod Names
+pub mod SchemaLaw

@@ -1,0 +1,28 @@
+//! What the two schema tables of a document say, and whether the document agrees with them.
+//!
+//! Stands on `cell_types` (values, names and types), `doc_model` (documents, and what a store
+//! answers) and `doc_readers` (the parts of a document that a store tells).
+//! Used by whoever has the tables of a document alone, and wants its schema.
+//!
+//! Promises: `schema_of` is the definition in specs/Decoding.antt, for every document that a store
+//! holds; rows of the schema tables that say no table or no column are passed over. `agrees` is the
+//! test in specs/Agreement.antt, and takes no memory. The laws in laws.rt say what both mean: of a
+//! whole document the schema is the list of its plain tables, with their ids, rows and columns; and
+//! a sound document agrees with its schema exactly where it passes the test and its tables have the
+//! metadata rows that the table of tables has for them, which no store tells.
+//! Not promised: speed. The columns of each table are found by a walk over all that are described.
+//! Read first: specs/Decoding.antt and reading.rt, then specs/Agreement.antt and agreement.rt.
+#![tactic(auto)]
+
+mod agreement;
+pub mod laws;
+mod metadata_tables;
+mod reading;
+mod schema_names;
+mod schema_table;
+mod told_cells;
+mod type_texts;
+
+pub use agreement::agrees;
+pub use reading::schema_of;
+pub use schema_table::{Schema, SchemaTable};

@@ -193,7 +193,7 @@ module _ (users : List User) (s s' : Document) (xs : List SessionState) (p : ℕ
       let whole : List SessionState = take p qs ++ y ∷ drop (suc p) qs in
       let judged' : judge (is_owner y.holder.user) s actions ≡ accepted s' ms = ap (λ (h : Holder). judge (is_owner h.user) s actions) holders ∙ judged in
       let comes : (n : ℕ) → (if y.lagging then from_behind (state_of s n whole) e.request else from_inside (state_of s n whole) y.holder e.kept e.request)
-          ≡ bundle_of y.holder s true (accepted s' ms) = λ n.
+      ≡ bundle_of y.holder s true (accepted s' ms) = λ n.
       ap (λ l. if l then from_behind (state_of s n whole) e.request else from_inside (state_of s n whole) y.holder e.kept e.request) quick'
       ∙ ap (from_inside (state_of s n whole) y.holder e.kept) asks
       ∙ ap (λ t. bundle_of y.holder s t (judge (is_owner y.holder.user) s actions)) kept

@@ -22,9 +22,7 @@ use crate::judging::{Judged, judge};
 use crate::seek::place_of;
 use crate::session::{OpenSession, is_owner};
 use crate::turns::{leave, reply_alone, stay};
-use doc_model::{
-    DocTables, Entry, LimitKind, Request, User, UserActionList, View, ViewTableList,
-};
+use doc_model::{DocTables, Entry, LimitKind, Request, User, UserActionList, View, ViewTableList};
 use grist_json::{Line, Verdict};
 use plain_view::changes;
 use std::alloc::{AllocError, Global};

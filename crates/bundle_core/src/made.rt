@@ -12,8 +12,8 @@ ghost use Rattle.bundle_core.specs.Made.{is_single, known_rows, made_alone, made
 use cell_types::{CellText, Name, RowList};
 use doc_model::{DocAction, DocTables, Step, UserAction};
 use doc_readers::holds_row;
-use name_rules::is_name;
 use grist_json::{RetIdList, RetValue, RetValueList};
+use name_rules::is_name;
 use std::alloc::{AllocError, Global};
 use view_parts::{is_column_shown, rows_shown};
 
@@ -43,7 +43,10 @@ fn records_made(single: bool, table: &Name, rows: &RowList) -> Result<Made, Allo
     let table = table.clone()?;
     match rows.as_slice() {
         [row, ..] if single => Ok(Made::Record { table, row: *row }),
-        _ => Ok(Made::Records { table, rows: rows.clone()? }),
+        _ => Ok(Made::Records {
+            table,
+            rows: rows.clone()?,
+        }),
     }
 }
 

@@ -41,10 +41,12 @@ loop-place-preserved g c =
     let l = c.loop-place in
     let now : IsAt c.args.owner start c.args.asked.now l.place t c.append.new.self.items [] l.made.items l.tally =
     at_done c.args.owner start c.args.asked.now l.place s l.actions.items l.next.items l.made.items l.tally l.invariant.0 t c.append.new.self.items
-    (c.in_ok-put_all.ensures.done ∙ ap (apply_all s) c.deref.ensures.value) c.in_ok-append.ensures.items in
-    (at_next c.args.owner start c.args.asked.now l.place t c.append.new.self.items l.made.items l.tally c.index-asked-place.result (drop (l.place + 1) c.args.asked.now) now
-    (left_at l.place c.args.asked.now c.index-asked-place.result c.loop-place-test.true c.index-asked-place.is) c.in-Accepted.ruled c.push.new.self.items refl (rw c.in-Accepted.is at c.in_ok-verdict.ensures) c.in_ok-push-in-Accepted.ensures.items,
-    c.in_ok-put_all.ensures.fit, c.in_ok-put_all.ensures.back ∙ l.invariant.2)
+    (c.in_ok-put_all.ensures.done ∙ ap (apply_all s) c.deref.ensures.value) c.in_ok-append.ensures.items in (
+      at_next c.args.owner start c.args.asked.now l.place t c.append.new.self.items l.made.items l.tally c.index-asked-place.result (drop (l.place + 1) c.args.asked.now) now
+          (left_at l.place c.args.asked.now c.index-asked-place.result c.loop-place-test.true c.index-asked-place.is) c.in-Accepted.ruled c.push.new.self.items refl (rw c.in-Accepted.is at c.in_ok-verdict.ensures) c.in_ok-push-in-Accepted.ensures.items,
+      c.in_ok-put_all.ensures.fit,
+      c.in_ok-put_all.ensures.back ∙ l.invariant.2,
+    )
 
 pub returns-clause-judged : goal.returns-clause-judged
 returns-clause-judged g c =

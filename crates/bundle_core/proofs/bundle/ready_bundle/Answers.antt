@@ -18,23 +18,23 @@ pub reply_to-requires-clause-whole : goal.reply_to-requires-clause-whole
 reply_to-requires-clause-whole g c =
     let s = g.D.DocTables.document c.args.tables.now in
     let P : Document → Type 0 = λ t. IsWhole t in
-    subst P (sym (c.in_ok-told.ensures.document ∙ ap (apply_all s) c.deref.ensures.value)) (IsWhole-apply_all s c.args.plan.now.actions.items c.requires.whole c.requires.valid)
+    subst P (sym (c.in_ok-told.ensures.document ∙ ap (apply_all s) c.deref-2.ensures.value)) (IsWhole-apply_all s c.args.plan.now.actions.items c.requires.whole c.requires.valid)
 
 pub returns-clause-reply : goal.returns-clause-reply
 returns-clause-reply g c =
     let s = g.D.DocTables.document c.args.tables.now in
     let t = g.D.DocTables.document c.done_and_told.new.tables in
-    let after : t ≡ apply_all s c.args.plan.now.actions.items = c.in_ok-told.ensures.document ∙ ap (apply_all s) c.deref.ensures.value in
+    let after : t ≡ apply_all s c.args.plan.now.actions.items = c.in_ok-told.ensures.document ∙ ap (apply_all s) c.deref-2.ensures.value in
     let x = c.index.result.now in
     c.in_ok-reply.ensures
-    ∙ ap (λ (y : SessionState). reply_text (Bundle (y.holder.bundles + 1) (map (told_of (view (is_owner y.holder.user) t)) c.deref-2.result.now))) c.index.ensures
-    ∙ ap (λ u. reply_text (Bundle ((get_or c.args.sessions.now.items c.args.place x).holder.bundles + 1) (map (told_of (view (is_owner (get_or c.args.sessions.now.items c.args.place x).holder.user) u)) c.deref-2.result.now))) after
-    ∙ ap (λ l. reply_text (Bundle ((get_or c.args.sessions.now.items c.args.place x).holder.bundles + 1) (map (told_of (view (is_owner (get_or c.args.sessions.now.items c.args.place x).holder.user) (apply_all s c.args.plan.now.actions.items))) l))) c.deref-2.ensures.value
+    ∙ ap (λ (y : SessionState). reply_text (Bundle (y.holder.bundles + 1) (map (told_of (view (is_owner y.holder.user) t)) c.deref-3.result.now))) c.index.ensures
+    ∙ ap (λ u. reply_text (Bundle ((get_or c.args.sessions.now.items c.args.place x).holder.bundles + 1) (map (told_of (view (is_owner (get_or c.args.sessions.now.items c.args.place x).holder.user) u)) c.deref-3.result.now))) after
+    ∙ ap (λ l. reply_text (Bundle ((get_or c.args.sessions.now.items c.args.place x).holder.bundles + 1) (map (told_of (view (is_owner (get_or c.args.sessions.now.items c.args.place x).holder.user) (apply_all s c.args.plan.now.actions.items))) l))) c.deref-3.ensures.value
     ∙ reply_is c.args.sessions.now.items c.args.place x (apply_all s c.args.plan.now.actions.items) c.args.plan.now.made.items c.requires.within
 
 pub returns-clause-ready : goal.returns-clause-ready
 returns-clause-ready g c =
     let s = g.D.DocTables.document c.args.tables.now in
-    ready_as (told_by c.in_ok-told.told) (told_changes s c.args.plan.now.actions.items) c.are_mixed.result c.args.sessions.now.items c.ready_all.new.sessions.items
-    c.in_ok-ready_all.ensures.same (sym (c.are_mixed.ensures ∙ ap are_mixed c.deref-sessions.ensures.value))
-    (λ owner asks. c.in_ok-told.ensures.told owner asks ∙ ap (λ l. told_changes s l owner) c.deref.ensures.value) c.in_ok-ready_all.ensures.ready
+    ready_as (told_by c.in_ok-told.told) (told_changes s c.args.plan.now.actions.items) c.are_mixed-mixed.result c.args.sessions.now.items c.ready_all.new.sessions.items
+    c.in_ok-ready_all.ensures.same (sym (c.are_mixed-mixed.ensures ∙ ap are_mixed c.deref.ensures.value))
+    (λ owner asks. c.in_ok-told.ensures.told owner asks ∙ ap (λ l. told_changes s l owner) c.deref-2.ensures.value) c.in_ok-ready_all.ensures.ready

@@ -22,8 +22,6 @@ mod numbers;
 mod record_actions;
 mod schema_actions;
 mod spelled;
-#[cfg(test)]
-mod tests;
 mod values;
 
 pub use actions::read_actions;

@@ -26,8 +26,6 @@ mod made;
 mod seek;
 mod session;
 mod telling;
-#[cfg(test)]
-mod tests;
 mod turns;
 mod ways;
 

@@ -19,8 +19,6 @@ mod name;
 mod reference;
 mod same;
 mod sequence;
-#[cfg(test)]
-mod tests;
 mod text;
 mod value;
 mod value_text;

@@ -17,8 +17,6 @@ mod limit;
 mod request;
 mod rows;
 mod tables;
-#[cfg(test)]
-mod tests;
 mod user;
 mod user_action;
 mod view;

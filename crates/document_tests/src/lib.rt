@@ -13,6 +13,10 @@
 #[cfg(test)]
 mod actions;
 #[cfg(test)]
+mod bounds;
+#[cfg(test)]
+mod new_documents;
+#[cfg(test)]
 mod reading;
 #[cfg(test)]
 mod tests;

@@ -12,8 +12,6 @@ mod character;
 mod fault;
 mod lexer;
 mod reading;
-#[cfg(test)]
-mod tests;
 mod token;
 
 pub use fault::LexFault;

@@ -19,8 +19,6 @@ mod parser;
 mod reduce;
 mod rule;
 mod step;
-#[cfg(test)]
-mod tests;
 mod tree;
 
 pub use fault::ParseFault;

@@ -18,8 +18,6 @@ mod printed_actions;
 mod printed_replies;
 mod printed_values;
 mod requests;
-#[cfg(test)]
-mod tests;
 mod users;
 mod verdict;
 mod writers;

@@ -19,8 +19,6 @@ mod outbox;
 mod sink;
 mod source;
 mod standard;
-#[cfg(test)]
-mod tests;
 mod writing;
 
 pub use laws::{kept_law, stream_law};

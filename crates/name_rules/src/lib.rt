@@ -14,8 +14,6 @@
 
 mod free_id;
 mod name_rule;
-#[cfg(test)]
-mod tests;
 
 pub use free_id::free_name;
 pub use name_rule::is_name;

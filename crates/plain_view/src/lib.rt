@@ -25,8 +25,6 @@ mod rebuilding;
 mod records;
 mod revision;
 mod rows;
-#[cfg(test)]
-mod tests;
 mod view_changes;
 
 pub use full::are_full;

@@ -37,8 +37,6 @@ mod search;
 mod steps;
 mod table;
 mod tables;
-#[cfg(test)]
-mod tests;
 mod written;
 
 pub use table::RowTable;

@@ -33,8 +33,6 @@ mod rows;
 mod schema_steps;
 mod tables;
 mod tally;
-#[cfg(test)]
-mod tests;
 mod told;
 mod values;
 mod weighing;

@@ -18,8 +18,6 @@ mod joining;
 mod membership;
 mod numbers;
 mod order;
-#[cfg(test)]
-mod tests;
 mod truthfulness;
 
 pub use division::division_law;

@@ -19,8 +19,6 @@ mod laws;
 mod parts;
 mod rows;
 mod tables;
-#[cfg(test)]
-mod tests;
 mod wanted;
 mod whole;
 

@@ -6,11 +6,11 @@
 ghost use Rattle.std.specs.Prelude.{IfOk};
 ghost use Rattle.doc_model.specs.Changes.{IsView};
 
-use crate::{PatchFault, are_full, changes, patch};
 use cell_types::{CellText, CellValue, ColType, Name, RowList, ValueList};
 use doc_model::{
     CellColumn, ColumnList, View, ViewAction, ViewActionList, ViewCol, ViewColList, ViewTableList,
 };
+use plain_view::{PatchFault, are_full, changes, patch};
 use std::alloc::{AllocError, Global};
 
 fn name(alloc: Global, id: &str) -> Result<Name, AllocError> {

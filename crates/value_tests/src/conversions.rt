@@ -10,9 +10,9 @@
 
 mod samples;
 
-use crate::{CellValue, ColType, Same, convert, copy_of, default_of, text_of};
 use Part::{Bool, Date, Int, Letters, Null, Rec, Text};
 use Sample::{List, One, RecSet};
+use cell_types::{CellValue, ColType, Same, convert, copy_of, default_of, text_of};
 use samples::{Part, Sample, quoted, shown, text, types, value_of};
 use std::alloc::{AllocError, Global};
 use std::test::Fail;

@@ -1,6 +1,6 @@
 //! Values and types of the tables, and the texts that show values there.
 
-use crate::{
+use cell_types::{
     CellItem, CellList, CellText, CellValue, ColType, ErrKind, Name, RowList, RowRef, RowSet,
     text_of,
 };

@@ -3,12 +3,12 @@
 
 ghost use Rattle.doc_model.specs.Changes.{IsView};
 
-use crate::refuse;
 use cell_types::CellText;
 use doc_model::{
     IdList, Refusal, UserAction, UserCol, UserColList, UserColumnList, View, ViewTableList,
 };
 use std::alloc::{AllocError, Global};
+use user_actions::refuse;
 
 fn empty(alloc: Global) -> View
     ensures { IsView result.tables }

@@ -3,9 +3,9 @@
 //! `printed_frame`). The expected texts are those of the stored cases and of the protocol, a row a line;
 //! what is read is shown as `Debug` shows it.
 
-use crate::*;
 use cell_types::*;
 use doc_model::*;
+use grist_json::*;
 use std::test::Fail;
 
 const REQUESTS: &str =

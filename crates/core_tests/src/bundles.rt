@@ -2,7 +2,7 @@
 //! one of a single owner (`bundles_come_to_their_replies`): records, columns and tables changed, refused,
 //! and told. The texts are those of the protocol, worked out by hand.
 
-use crate::{Answer, Core};
+use bundle_core::{Answer, Core};
 use cell_types::{CellText, Name};
 use doc_model::{Request, UserList};
 use grist_json::{UserLine, read_request, read_user};

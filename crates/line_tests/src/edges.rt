@@ -2,7 +2,7 @@
 //! sources and sinks (`fails_at_listed_calls`, `sink_keeps_its_room`), the buffer in front of a sink
 //! (`outbox_gathers`, `outbox_hands_on_faults`), the edge over readers and writers of std (`std_streams`).
 
-use crate::*;
+use io_edges::*;
 use std::test::Fail;
 
 // Each line that a reader gives, with a mark for how it ended.

@@ -2,7 +2,7 @@
 //! (`spelled_values`), and JSON that stands for none (`no_actions`). What is expected is written out by hand
 //! from the protocol, a row a line.
 
-use crate::*;
+use action_lines::*;
 use doc_model::UserAction;
 use serde_json::Value;
 use std::test::Fail;

@@ -4,7 +4,7 @@
 //! `keeps_the_limits` its bounds. `reads_rules` shows what the other dialect has and leaves out;
 //! `faults_tell_their_place` has the messages.
 
-use crate::{Dialect, Formula, Node, ParseFault, RuleAtom, parse, read_tree};
+use formula_parse::{Dialect, Formula, Node, ParseFault, RuleAtom, parse, read_tree};
 use std::alloc::{AllocError, Global};
 use std::test::Fail;
 

@@ -2,8 +2,8 @@
 //! of one and of 64 characters, also of two bytes each; `passes_numbers_that_give_one_text` has an id
 //! whose numbers 2 to 9 give the texts that 22 to 29 give.
 
-use crate::{free_name, is_name};
 use cell_types::{CellText, Name};
+use name_rules::{free_name, is_name};
 use std::alloc::Global;
 use std::test::Fail;
 

@@ -1,8 +1,10 @@
 //! Bounds and tests of rows against values from outside. What documents and views are at traps is
 //! computed in proofs/Traps.antt.
 
-use crate::{ColDef, ColInfo, LimitKind, all_rows_in, are_rows_once, no_row_in, place_of_column};
 use cell_types::{CellText, ColType, Name};
+use doc_model::{
+    ColDef, ColInfo, LimitKind, all_rows_in, are_rows_once, no_row_in, place_of_column,
+};
 use std::alloc::{AllocError, Global};
 
 #[test]

@@ -6,12 +6,12 @@
 //! `kinds_meet_as_the_page_says` has each operator at each pair of kinds; the others have the rest of
 //! the page, and what is told of a fault.
 
-use crate::{
-    OpFault, add, contains, equal, floor_div, less, modulo, mul, negate, same, sub, truth,
-};
 use cell_types::{CellItem, CellList, CellText, CellValue, ErrKind, Name, RowList, RowRef, RowSet};
 use std::alloc::{AllocError, Global};
 use std::test::Fail;
+use value_ops::{
+    OpFault, add, contains, equal, floor_div, less, modulo, mul, negate, same, sub, truth,
+};
 
 #[derive(Clone, Copy)]
 enum Operator {

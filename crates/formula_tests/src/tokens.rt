@@ -2,7 +2,7 @@
 //! `reads_tokens` shows kinds, values and places; `refuses_texts` shows where reading ends;
 //! `faults_tell_their_place` has the messages.
 
-use crate::{LexFault, Token, TokenKind, tokens};
+use formula_lex::{LexFault, Token, TokenKind, tokens};
 use std::alloc::{AllocError, Global};
 use std::test::Fail;
 

@@ -14,8 +14,8 @@ use Rattle.doc_model.specs.Document.{Document}
 use Rattle.doc_model.specs.DocumentLaws.{IsWhole}
 use Rattle.doc_model.specs.NewDocument.{new_document}
 use Rattle.doc_model.proofs.Choices.{each_weaker, each_mapped, each_unmapped}
-use Rattle.user_actions.specs.declared.tally.Tally.{Tally}
-use Rattle.user_actions.specs.Tallies.{IsTally}
+use Rattle.action_limits.specs.declared.tally.Tally.{Tally}
+use Rattle.action_limits.specs.Tallies.{IsTally}
 use Rattle.bundle_core.specs.Core.{state_after, entry_bound, size_bound, size_of, is_gone, is_full, bytes_left, counted, IsCore}
 use Rattle.bundle_core.specs.Desk.{AreSame, Answers, Finds, IsCounted, kept_name, Misses, state_of}
 use Rattle.bundle_core.specs.Mailbox.{Mailbox, own, quiet}

@@ -17,12 +17,12 @@ use Rattle.doc_model.specs.Valid.{valid}
 use Rattle.doc_model.proofs.InverseLaws.{IsWhole-apply_all}
 use Rattle.grist_json.specs.declared.verdict.Verdict.{Verdict}
 use Rattle.grist_json.specs.declared.verdict.Verdict.TheVariants.{Limited, Refused}
-use Rattle.user_actions.specs.declared.tally.Tally.{Tally}
+use Rattle.action_limits.specs.declared.tally.Tally.{Tally}
 use Rattle.user_actions.specs.declared.objection.Objection.{Objection}
 use Rattle.user_actions.specs.Codes.{code_of, refusal_of}
 use Rattle.user_actions.specs.Objections.{objection_to}
 use Rattle.user_actions.specs.StepLaws.{action_of}
-use Rattle.user_actions.specs.Tallies.{AreSteps, IsTally, after}
+use Rattle.action_limits.specs.Tallies.{AreSteps, IsTally, after}
 use Rattle.view_parts.specs.Shown.{view}
 use Rattle.bundle_core.specs.declared.judging.Next.{Next}
 use Rattle.bundle_core.specs.declared.made.Made.{Made}

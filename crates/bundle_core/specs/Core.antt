@@ -9,8 +9,8 @@ use Rattle.doc_model.specs.ByIds.{IsByIds}
 use Rattle.doc_model.specs.Document.{Document}
 use Rattle.doc_model.specs.DocumentLaws.{IsWhole}
 use Rattle.doc_model.specs.NewDocument.{new_document}
-use Rattle.user_actions.specs.declared.tally.Tally.{Tally}
-use Rattle.user_actions.specs.Tallies.{IsTally}
+use Rattle.action_limits.specs.declared.tally.Tally.{Tally}
+use Rattle.action_limits.specs.Tallies.{IsTally}
 use Rattle.bundle_core.specs.Desk.{kept_name, state_of, IsCounted}
 use Rattle.bundle_core.specs.SessionState.{SessionState}
 use Rattle.bundle_core.specs.State.{State, opening, run, session_of, given}

@@ -13,7 +13,7 @@ use Rattle.user_actions.specs.Codes.{code_of}
 use Rattle.user_actions.specs.Objections.{objection_to}
 use Rattle.user_actions.specs.StepLaws.{action_of}
 use Rattle.user_actions.specs.Steps.{steps_of}
-use Rattle.user_actions.specs.Tallies.{after}
+use Rattle.action_limits.specs.Tallies.{after}
 use Rattle.view_parts.specs.Shown.{view}
 use Rattle.bundle_core.specs.declared.made.Made.{Made}
 use Rattle.bundle_core.specs.Forms.{is_in_form}

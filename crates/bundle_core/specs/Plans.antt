@@ -10,8 +10,8 @@ use Rattle.doc_model.specs.Changes.{changes}
 use Rattle.doc_model.specs.Document.{Document}
 use Rattle.grist_json.specs.declared.verdict.Verdict.{Verdict}
 use Rattle.grist_json.specs.declared.verdict.Verdict.TheVariants.{Limited, Refused}
-use Rattle.user_actions.specs.declared.tally.Tally.{Tally}
-use Rattle.user_actions.specs.Tallies.{IsTally}
+use Rattle.action_limits.specs.declared.tally.Tally.{Tally}
+use Rattle.action_limits.specs.Tallies.{IsTally}
 use Rattle.view_parts.specs.Shown.{view}
 use Rattle.bundle_core.specs.declared.judging.Judged.{Judged}
 use Rattle.bundle_core.specs.declared.judging.Judged.TheVariants as judged

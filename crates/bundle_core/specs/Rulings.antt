@@ -4,8 +4,8 @@ use Rattle.doc_model.specs.declared.action.DocAction.{DocAction}
 use Rattle.doc_model.specs.declared.user_action.UserAction.{UserAction}
 use Rattle.doc_model.specs.Apply.{apply_all, all_valid}
 use Rattle.doc_model.specs.Document.{Document}
-use Rattle.user_actions.specs.declared.tally.Tally.{Tally}
-use Rattle.user_actions.specs.Tallies.{after}
+use Rattle.action_limits.specs.declared.tally.Tally.{Tally}
+use Rattle.action_limits.specs.Tallies.{after}
 use Rattle.bundle_core.specs.declared.judging.Next.{Next}
 use Rattle.bundle_core.specs.declared.judging.Ruling.{Ruling}
 use Rattle.bundle_core.specs.declared.judging.Ruling.TheVariants as ruling

@@ -10,7 +10,7 @@ ghost use Rattle.doc_model.specs.Changes.{changes};
 ghost use Rattle.doc_model.specs.DocumentLaws.{IsWhole};
 ghost use Rattle.doc_model.specs.declared.request.Request.TheVariants.{Open, Apply};
 ghost use Rattle.grist_json.specs.Lines.{reply_text};
-ghost use Rattle.user_actions.specs.Tallies.{IsTally};
+ghost use Rattle.action_limits.specs.Tallies.{IsTally};
 ghost use Rattle.bundle_core.specs.Desk.{AreSame, Answers, Misses, Finds, kept_name};
 ghost use Rattle.bundle_core.specs.Requests.{refusal_outside, refusal_inside};
 ghost use Rattle.bundle_core.specs.SessionState.{SessionState};
@@ -22,11 +22,11 @@ use crate::judging::{Judged, judge};
 use crate::seek::place_of;
 use crate::session::{OpenSession, is_owner};
 use crate::turns::{leave, reply_alone, stay};
+use action_limits::Tally;
 use doc_model::{DocTables, Entry, LimitKind, Request, User, UserActionList, View, ViewTableList};
 use grist_json::{Line, Verdict};
 use plain_view::changes;
 use std::alloc::{AllocError, Global};
-use user_actions::Tally;
 use view_parts::whole_view;
 
 /// How many sessions may be open.

@@ -8,13 +8,13 @@ ghost use Rattle.bundle_core.specs.State.{session_of};
 use crate::desk::answer;
 use crate::seek::place_of;
 use crate::session::OpenSession;
+use action_limits::Tally;
 use cell_types::{Name, Sequence};
 use doc_model::{Entry, EntryList, Request, UserList};
 use grist_json::Line;
 use row_tables::RowTables;
 use std::alloc::{AllocError, Global};
 use std::marker::Model;
-use user_actions::Tally;
 
 /// How many entries a history may have before a step answers that it is full.
 pub const MAX_ENTRIES: usize = 1_048_576;

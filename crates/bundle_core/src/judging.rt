@@ -7,7 +7,7 @@ ghost use Rattle.grist_json.specs.declared.verdict.Verdict.TheVariants.{Limited,
 ghost use Rattle.user_actions.specs.Allowed.{is_allowed};
 ghost use Rattle.user_actions.specs.Objections.{objection_to};
 ghost use Rattle.user_actions.specs.StepLaws.{action_of};
-ghost use Rattle.user_actions.specs.Tallies.{IsTally};
+ghost use Rattle.action_limits.specs.Tallies.{IsTally};
 ghost use Rattle.view_parts.specs.Shown.{view};
 ghost use Rattle.bundle_core.specs.Forms.{is_in_form};
 ghost use Rattle.bundle_core.specs.Judgement.{judge_from, limited};
@@ -18,10 +18,11 @@ ghost use Rattle.bundle_core.specs.Ways.{AllFit, went_back};
 use crate::forms::are_in_form;
 use crate::made::{Made, made_of};
 use crate::ways::{put_all, take_back_all};
+use action_limits::{Expansion, Tally, expand};
 use doc_model::{DocAction, DocTables, LimitKind, MAX_ACTIONS, Refusal, StepList, UserAction};
 use grist_json::Verdict;
 use std::alloc::{AllocError, Global};
-use user_actions::{Expansion, Tally, expand, refuse};
+use user_actions::refuse;
 use view_parts::{allowed_law, asked_law, asked_view};
 
 /// A bundle that is accepted: its document actions, what its user actions made, and the tally of the

@@ -1,7 +1,7 @@
 //! The core: a document, its open sessions, and what each entry of a history makes of them.
 //!
 //! Stands on `doc_model` (documents, changes, entries), `row_tables` (the document in memory),
-//! `user_actions` (refusals, steps and limits), `view_parts` and `plain_view` (what users see and are
+//! `user_actions` (refusals), `action_limits` (steps and limits), `view_parts` and `plain_view` (what users see and are
 //! told) and `grist_json` (the texts of lines). What an entry comes to is said in specs/State.antt, and
 //! what a bundle comes to in specs/Judgement.antt, over plain lists, for every document.
 //!

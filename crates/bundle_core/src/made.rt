@@ -1,7 +1,6 @@
 //! What the actions of a bundle made, and what is told of it.
 
 ghost use Rattle.std.specs.Prelude.{◌≡◌, [], map, true, IfOk, is_some};
-ghost use Rattle.cell_types.specs.NameRule.{is_name};
 ghost use Rattle.doc_model.specs.DocumentLaws.{IsWhole};
 ghost use Rattle.doc_model.specs.Rows.{IsAscending};
 ghost use Rattle.user_actions.specs.Allowed.{is_allowed};
@@ -9,11 +8,11 @@ ghost use Rattle.user_actions.specs.StepLaws.{action_of};
 ghost use Rattle.view_parts.specs.Shown.{view};
 ghost use Rattle.bundle_core.specs.Made.{is_single, known_rows, made_alone, made_by, made_of, records_made, row_told, told_of};
 
-use cell_types::{CellText, Name, RowList};
+use cell_types::{Name, RowList};
 use doc_model::{DocAction, DocTables, Step, UserAction};
 use doc_readers::holds_row;
 use grist_json::{RetIdList, RetValue, RetValueList};
-use name_rules::is_name;
+use name_rules::name_of;
 use std::alloc::{AllocError, Global};
 use view_parts::{is_column_shown, rows_shown};
 
@@ -81,24 +80,13 @@ fn made_alone<D: DocTables>(
     ensures { IfOk result (λ m. m ≡ made_alone action.now) }
 {
     match action {
-        UserAction::RenameTable { new, .. } => Ok(Made::Table(name_of(alloc, new)?)),
+        UserAction::RenameTable { new, .. } => Ok(Made::Table(name_of(alloc, new.as_str())?)),
         UserAction::RenameColumn { table, new, .. } => Ok(Made::Column {
-            table: name_of(alloc, table)?,
-            column: name_of(alloc, new)?,
+            table: name_of(alloc, table.as_str())?,
+            column: name_of(alloc, new.as_str())?,
         }),
         _ => Ok(Made::Nothing),
     }
-}
-
-// The name that a text is.
-fn name_of(alloc: Global, text: &CellText) -> Result<Name, AllocError>
-    requires { is_name text.now ≡ true }
-    ensures { IfOk result (λ n. n ≡ text.now) }
-{
-    if !is_name(text.as_str()) {
-        unreachable!()
-    }
-    Ok(Name::new(CellText::copy_of(alloc, text.as_str())?))
 }
 
 /// What an action of these steps made.

@@ -17,4 +17,4 @@ mod told;
 pub use base_values::{are_base, is_base, is_short};
 pub use known_ids::{is_acl_id, is_metadata_id, is_schema_id};
 pub use row_ids::holds_row;
-pub use told::{cell_in, find_column, has_column, has_table, rows_in};
+pub use told::{cell_in, columns_table, find_column, has_column, has_table, rows_in, tables_table};

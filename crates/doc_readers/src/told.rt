@@ -8,6 +8,7 @@ ghost use Rattle.doc_model.specs.Column.{column_id};
 ghost use Rattle.doc_model.specs.Document.{table_id};
 ghost use Rattle.doc_model.specs.DocumentLaws.{IsWhole};
 ghost use Rattle.doc_model.specs.Grid.{cell};
+ghost use Rattle.doc_model.specs.MetadataIds.{columns_id, tables_id};
 ghost use Rattle.doc_model.specs.Rows.{IsAscending};
 
 use cell_types::{CellValue, Name, copy_of};
@@ -76,4 +77,26 @@ pub fn cell_in<D: DocTables>(
         Some(value) => copy_of(value),
         None => Ok(CellValue::Null),
     }
+}
+
+/// The id of the table whose rows describe the tables. It is the first one.
+pub fn tables_table<D: DocTables>(tables: &D) -> &Name
+    requires { IsWhole (D.document tables.now) }
+    ensures { result.now ≡ tables_id }
+{
+    let Some(id) = tables.table(0) else {
+        unreachable!()
+    };
+    id
+}
+
+/// The id of the table whose rows describe the columns. It is the second one.
+pub fn columns_table<D: DocTables>(tables: &D) -> &Name
+    requires { IsWhole (D.document tables.now) }
+    ensures { result.now ≡ columns_id }
+{
+    let Some(id) = tables.table(1) else {
+        unreachable!()
+    };
+    id
 }

@@ -7,6 +7,8 @@ ghost use Rattle.name_rules.specs.NameStart.{starts_name};
 ghost use Rattle.cell_types.specs.NameLength.{HasNameLength};
 ghost use Rattle.cell_types.specs.NameRule.{is_reserved, has_name_characters, is_name};
 
+use cell_types::{CellText, Name};
+use std::alloc::{AllocError, Global};
 use unicode_ident::{is_xid_continue, is_xid_start};
 
 /// How many characters a name has at most.
@@ -79,4 +81,17 @@ pub fn is_name(text: &str) -> bool
     ensures length { result ≡ true → HasNameLength text.now }
 {
     has_name_characters(text) && character_count(text) <= MAX_NAME_CHARACTERS && !is_reserved(text)
+}
+
+/// The name that a text is.
+///
+/// Errors: want of memory.
+pub fn name_of(alloc: Global, text: &str) -> Result<Name, AllocError>
+    requires { is_name text.now ≡ true }
+    ensures { IfOk result (λ n. n ≡ text.now) }
+{
+    if !is_name(text) {
+        unreachable!()
+    }
+    Ok(Name::new(CellText::copy_of(alloc, text)?))
 }

@@ -2,18 +2,10 @@ pub mod AllowedLemmas
 mod FitLemmas
 mod NumberLemmas
 mod ObjectionLemmas
-mod RecordStepLemmas
+pub mod RecordStepLemmas
 mod RetypedLemmas
 mod SchemaStepLemmas
-mod StepsValid
+pub mod StepsValid
 mod UnopposedLemmas
 mod ViewLemmas
-mod WalkLemmas
-mod SumLemmas
-mod CountedLemmas
-mod SumMoves
-mod PeakMoves
-mod ExpansionLemmas
-mod StepMoves
-mod AddMoves
-mod SchemaGrowth
+pub mod WalkLemmas

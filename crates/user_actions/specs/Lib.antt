@@ -7,6 +7,3 @@ pub mod Steps
 pub mod StepLaws
 pub mod Allowed
 pub mod Unopposed
-pub mod Tallies
-pub mod Capped
-pub mod Grown

@@ -17,9 +17,9 @@ use crate::retyping::modify_steps;
 use crate::schema_steps::{
     add_column_steps, add_table_steps, rename_column_steps, rename_table_steps,
 };
-use crate::told::name_of;
 use cell_types::Name;
 use doc_model::{DocAction, DocTables, StepList, UserAction};
+use name_rules::name_of;
 use std::alloc::{AllocError, Global};
 
 fn remove_table_steps(alloc: Global, table: &Name) -> Result<StepList, AllocError>

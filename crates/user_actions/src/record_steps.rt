@@ -12,12 +12,13 @@ ghost use Rattle.user_actions.specs.Steps.{all_fitted, direct, fitted, last_row,
 ghost use Rattle.user_actions.specs.Allowed.{has_name};
 
 use crate::rows::row_number;
-use crate::told::{last_row, name_of};
+use crate::told::last_row;
 use cell_types::{CellValue, ColType, Name, RowList, ValueList, convert};
 use doc_model::{
     CellColumn, ColumnList, DocAction, DocTables, LAST_ROW_ID, Step, StepList, UserColumn,
 };
 use doc_readers::find_column;
+use name_rules::name_of;
 use std::alloc::{AllocError, Global};
 
 // So many rows after the last one; nothing where they would pass the last row id.

@@ -203,7 +203,7 @@ fn to_schema(table: &ViewTable, action: &UserAction) -> Option<Objection>
 }
 
 /// The table that the action names.
-pub(crate) fn table_of(action: &UserAction) -> &str
+pub fn table_of(action: &UserAction) -> &str
     ensures { result.now ≡ table_of action.now }
 {
     match action {

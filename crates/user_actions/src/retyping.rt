@@ -14,12 +14,12 @@ ghost use Rattle.user_actions.specs.Steps.{column_refitted, direct, indirect, mo
 
 use crate::record_steps::direct;
 use crate::schema_steps::info_said;
-use crate::told::name_of;
 use cell_types::{CellValue, ColType, Name, RowList, Same, ValueList, convert};
 use doc_model::{
     CellColumn, ColDef, ColInfo, ColumnList, DocAction, DocTables, Step, StepList, UserCol,
 };
 use doc_readers::{cell_in, find_column, rows_in};
+use name_rules::name_of;
 use std::alloc::{AllocError, Global};
 
 fn is_same_value(left: &CellValue, right: &CellValue) -> bool

@@ -15,12 +15,13 @@ ghost use Rattle.user_actions.specs.Steps.{column_ids, column_said, direct, info
 
 use crate::infos::type_of;
 use crate::record_steps::direct;
-use crate::told::{column_ids, columns_table, last_row, name_of, table_ids, tables_table};
+use crate::told::{column_ids, last_row, table_ids};
 use cell_types::{CellText, ColType, Name};
 use doc_model::{
     ColDef, ColDefList, ColInfo, DocAction, DocTables, LAST_ROW_ID, StepList, UserCol,
 };
-use name_rules::free_name;
+use doc_readers::{columns_table, tables_table};
+use name_rules::{free_name, name_of};
 use std::alloc::{AllocError, Global};
 
 // A new id beside the taken ones.

@@ -1,31 +1,17 @@
 //! What expansions ask of a document.
 
-ghost use Rattle.std.specs.Prelude.{◌≡◌, true, map, length, IfOk};
-ghost use Rattle.cell_types.specs.NameRule.{is_name};
+ghost use Rattle.std.specs.Prelude.{◌≡◌, map, length, IfOk};
 ghost use Rattle.doc_model.specs.Column.{column_id};
 ghost use Rattle.doc_model.specs.DocumentLaws.{IsWhole};
-ghost use Rattle.doc_model.specs.MetadataIds.{columns_id, tables_id};
 ghost use Rattle.user_actions.specs.Steps.{column_ids, last_row, table_ids};
 
-use cell_types::{CellText, Name};
+use cell_types::Name;
 use doc_model::DocTables;
 use doc_readers::rows_in;
-use name_rules::is_name;
 use std::alloc::{AllocError, Global};
 
-/// The name that a text is.
-pub(crate) fn name_of(alloc: Global, text: &str) -> Result<Name, AllocError>
-    requires { is_name text.now ≡ true }
-    ensures { IfOk result (λ n. n ≡ text.now) }
-{
-    if !is_name(text) {
-        unreachable!()
-    }
-    Ok(Name::new(CellText::copy_of(alloc, text)?))
-}
-
 /// The greatest row of a table, 0 where it has none.
-pub(crate) fn last_row<D: DocTables>(tables: &D, table: &Name) -> u32
+pub fn last_row<D: DocTables>(tables: &D, table: &Name) -> u32
     requires { IsWhole (D.document tables.now) }
     ensures { result ≡ last_row (D.document tables.now) table.now }
 {
@@ -62,26 +48,4 @@ pub(crate) fn column_ids<D: DocTables>(
         ids.push(column.id.clone()?)?;
     }
     Ok(ids)
-}
-
-/// The id of the table whose rows describe the tables. It is the first one.
-pub(crate) fn tables_table<D: DocTables>(tables: &D) -> &Name
-    requires { IsWhole (D.document tables.now) }
-    ensures { result.now ≡ tables_id }
-{
-    let Some(id) = tables.table(0) else {
-        unreachable!()
-    };
-    id
-}
-
-/// The id of the table whose rows describe the columns. It is the second one.
-pub(crate) fn columns_table<D: DocTables>(tables: &D) -> &Name
-    requires { IsWhole (D.document tables.now) }
-    ensures { result.now ≡ columns_id }
-{
-    let Some(id) = tables.table(1) else {
-        unreachable!()
-    };
-    id
 }

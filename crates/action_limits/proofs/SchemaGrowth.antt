@@ -1,0 +1,289 @@
+-- Counts after an action that adds a table or a column.
+use Rattle.std.proofs.Common.{ℕ, suc, true, false, cond, ◌+◌, ◌≤◌, max, List, [], ◌∷◌, ◌++◌, map, length, length-append, ◌≡◌, refl, sym, ap, subst, ◌∙◌, Some, arith, ltb}
+use Rattle.std.proofs.lemmas.Bool.{and_parts, true≢false}
+use Rattle.std.proofs.lemmas.Slice.Eq.{bytes_eq-Decides}
+use Rattle.std.specs.List.{AllByRecursion}
+use Rattle.std.specs.Str.{bytes_eq}
+use Rattle.doc_model.specs.declared.action.DocAction.{DocAction}
+use Rattle.doc_model.specs.declared.action.DocAction.TheVariants as action
+use Rattle.doc_model.specs.declared.column.ColDef.{ColDef}
+use Rattle.doc_model.specs.declared.user_action.UserAction.{UserAction}
+use Rattle.doc_model.specs.declared.user_action.UserAction.TheVariants.{Add, Update, Remove, AddTable, RemoveTable, RenameTable, AddColumn, RemoveColumn, RenameColumn, ModifyColumn}
+use Rattle.doc_model.specs.declared.user_action.UserCol.{UserCol}
+use Rattle.doc_model.specs.Apply.{all_valid, apply}
+use Rattle.doc_model.specs.ByIds.{find_id}
+use Rattle.doc_model.specs.Column.{column_row}
+use Rattle.doc_model.specs.Counts.{counts, greatest}
+use Rattle.doc_model.specs.Document.{Document, Table, table_id}
+use Rattle.doc_model.specs.DocumentLaws.{IsWhole}
+use Rattle.doc_model.specs.Grid.{Grid}
+use Rattle.doc_model.specs.MetadataIds.{columns_id, tables_id}
+use Rattle.doc_model.specs.PeakLaws.{AreGreatest, Peaks, at_schema, peaks_after, peaks_then}
+use Rattle.doc_model.specs.Rows.{without}
+use Rattle.doc_model.specs.Schema.{plain_tables, resources, rules, with_schema}
+use Rattle.doc_model.specs.Valid.{valid}
+use Rattle.doc_model.proofs.ByIdsLaws.{bytes_itself, found_all, found_id}
+use Rattle.doc_model.proofs.Choices.{each_both, each_weaker}
+use Rattle.doc_model.proofs.PeakSums.{without-none}
+use Rattle.doc_model.proofs.SchemaPeaks.{peaks-apply}
+use Rattle.doc_model.proofs.WholeLaws.{tables_columns_apart}
+use Rattle.doc_readers.specs.Parts.{grid_at}
+use Rattle.action_limits.specs.declared.limits.Extent.{Extent}
+use Rattle.action_limits.specs.Capped.{capped}
+use Rattle.action_limits.specs.Grown.{IsExtentDescribed, IsExtentGrown, grows_schema}
+use Rattle.user_actions.specs.StepLaws.{action_of}
+use Rattle.user_actions.specs.Steps.{column_said, last_row, new_columns, steps_of, table_said}
+use Rattle.action_limits.specs.Tallies.{after}
+use Rattle.action_limits.proofs.AddMoves.{found_below, grids_found, known_below, mapped_below, same_side, table_there}
+use Rattle.action_limits.proofs.CountedLemmas.{capped_above, grid_found}
+use Rattle.action_limits.proofs.ExpansionLemmas.{TellsPeaks, has_named-valid}
+use Rattle.action_limits.proofs.PeakMoves.{IsBelow}
+use Rattle.action_limits.proofs.SumLemmas.{greatest-append, greatest-cons}
+
+-- ---- the schema tables are there
+
+first_found : (r u : Grid ColDef) (p : List Table) → (t : Table) × (find_id table_id tables_id (with_schema r u p) ≡ Some t)
+unfolding tables_id
+first_found r u p = (_, refl)
+
+second_found : (r u : Grid ColDef) (p : List Table) → (t : Table) × (find_id table_id columns_id (with_schema r u p) ≡ Some t)
+unfolding tables_id columns_id
+second_found r u p = (_, refl)
+
+tables_found : (s : Document) → IsWhole s → (t : Table) × (find_id table_id tables_id s ≡ Some t)
+tables_found s whole = subst (λ d. (t : Table) × (find_id table_id tables_id d ≡ Some t)) (sym whole.agrees.schema) (first_found (resources s) (rules s) (plain_tables s))
+
+columns_found : (s : Document) → IsWhole s → (t : Table) × (find_id table_id columns_id s ≡ Some t)
+columns_found s whole = subst (λ d. (t : Table) × (find_id table_id columns_id d ≡ Some t)) (sym whole.agrees.schema) (second_found (resources s) (rules s) (plain_tables s))
+
+turned : (a b : List ℕ) → bytes_eq a b ≡ true → bytes_eq b a ≡ true
+turned a b h = (bytes_eq-Decides b a).1 (sym ((bytes_eq-Decides a b).0 h))
+
+-- ---- rows that come to the schema tables
+
+module _ (s : Document) (whole : IsWhole s) (xs ys : List ℕ) where
+  abbrev there : Table → List ℕ
+  there t = at_schema t.id xs ys ++ without [] t.grid.rows
+
+  length_there : (t : Table) → length (there t) ≡ length (at_schema t.id xs ys) + length t.grid.rows
+  length_there t = length-append (at_schema t.id xs ys) (without [] t.grid.rows) ∙ ap (λ q. length (at_schema t.id xs ys) + length q) (without-none t.grid.rows)
+
+  greatest_there : (t : Table) → greatest (there t) ≡ max (greatest (at_schema t.id xs ys)) (greatest t.grid.rows)
+  greatest_there t = greatest-append (at_schema t.id xs ys) (without [] t.grid.rows) ∙ ap (λ q. max (greatest (at_schema t.id xs ys)) (greatest q)) (without-none t.grid.rows)
+
+  rows_one : (b : ℕ) (t : Table) → length t.grid.rows ≤ b → (bytes_eq t.id tables_id ≡ true → grid_at s tables_id ≡ t.grid) → (bytes_eq t.id columns_id ≡ true → grid_at s columns_id ≡ t.grid)
+      → length (there t) ≤ max b (max (length (grid_at s tables_id).rows + length xs) (length (grid_at s columns_id).rows + length ys))
+  rows_one b t small first second =
+      let n : ℕ = max (length (grid_at s tables_id).rows + length xs) (length (grid_at s columns_id).rows + length ys) in
+      subst (λ m. m ≤ max b n) (sym (length_there t))
+      (elim (bytes_eq tables_id t.id) as (λ c. bytes_eq tables_id t.id ≡ c → length (cond c xs (cond (bytes_eq columns_id t.id) ys [])) + length t.grid.rows ≤ max b n) [
+        | true ↦ λ is. let e : length (grid_at s tables_id).rows ≡ length t.grid.rows = ap (λ (g : Grid ColDef). length g.rows) (first (turned tables_id t.id is)) in grind arith
+        | false ↦ λ _. elim (bytes_eq columns_id t.id) as (λ c. bytes_eq columns_id t.id ≡ c → length (cond c ys []) + length t.grid.rows ≤ max b n) [
+          | true ↦ λ is. let e : length (grid_at s columns_id).rows ≡ length t.grid.rows = ap (λ (g : Grid ColDef). length g.rows) (second (turned columns_id t.id is)) in grind arith
+          | false ↦ λ _. grind arith
+        ] refl
+      ] refl)
+
+  pub rows_each : (b : ℕ) → (counts s).rows ≤ b → AllByRecursion (λ t. length (there t) ≤ max b (max (length (grid_at s tables_id).rows + length xs) (length (grid_at s columns_id).rows + length ys))) s
+  rows_each b le =
+      each_weaker (λ t. (length t.grid.rows ≤ b) × ((bytes_eq t.id tables_id ≡ true → grid_at s tables_id ≡ t.grid) × (bytes_eq t.id columns_id ≡ true → grid_at s columns_id ≡ t.grid)))
+      (λ t. length (there t) ≤ max b (max (length (grid_at s tables_id).rows + length xs) (length (grid_at s columns_id).rows + length ys))) (λ t k. rows_one b t k.0 k.1.0 k.1.1) s
+      (each_both (λ t. length t.grid.rows ≤ b) (λ t. (bytes_eq t.id tables_id ≡ true → grid_at s tables_id ≡ t.grid) × (bytes_eq t.id columns_id ≡ true → grid_at s columns_id ≡ t.grid)) s (known_below s (λ (t : Table). length t.grid.rows) b le)
+      (each_both (λ t. bytes_eq t.id tables_id ≡ true → grid_at s tables_id ≡ t.grid) (λ t. bytes_eq t.id columns_id ≡ true → grid_at s columns_id ≡ t.grid) s (grids_found s whole tables_id) (grids_found s whole columns_id)))
+
+  -- what stands in the schema tables after it
+  first_at : at_schema tables_id xs ys ≡ xs
+  first_at = ap (λ c. cond c xs (cond (bytes_eq columns_id tables_id) ys [])) (bytes_itself tables_id)
+
+  second_at : at_schema columns_id xs ys ≡ ys
+  second_at = ap (λ c. cond c xs (cond (bytes_eq columns_id columns_id) ys [])) tables_columns_apart ∙ ap (λ c. cond c ys []) (bytes_itself columns_id)
+
+  pub rows_first : (t : Table) → find_id table_id tables_id s ≡ Some t → length (there t) ≡ length (grid_at s tables_id).rows + length xs
+  rows_first t found =
+      let own : length (grid_at s tables_id).rows ≡ length t.grid.rows = ap (λ (g : Grid ColDef). length g.rows) (grid_found s tables_id t found) in
+      let all : length (there t) ≡ length xs + length t.grid.rows = length_there t ∙ ap (λ i. length (at_schema i xs ys) + length t.grid.rows) (found_id table_id tables_id s t found) ∙ ap (λ q. length q + length t.grid.rows) first_at in
+      omega (arith, own, all)
+
+  pub rows_second : (t : Table) → find_id table_id columns_id s ≡ Some t → length (there t) ≡ length (grid_at s columns_id).rows + length ys
+  rows_second t found =
+      let own : length (grid_at s columns_id).rows ≡ length t.grid.rows = ap (λ (g : Grid ColDef). length g.rows) (grid_found s columns_id t found) in
+      let all : length (there t) ≡ length ys + length t.grid.rows = length_there t ∙ ap (λ i. length (at_schema i xs ys) + length t.grid.rows) (found_id table_id columns_id s t found) ∙ ap (λ q. length q + length t.grid.rows) second_at in
+      omega (arith, own, all)
+
+  pub ids_each : (b n : ℕ) → (counts s).row_id ≤ b → greatest xs ≤ n → greatest ys ≤ n → AllByRecursion (λ t. greatest (there t) ≤ max b n) s
+  ids_each b n le one two =
+      each_weaker (λ t. greatest t.grid.rows ≤ b) (λ t. greatest (there t) ≤ max b n) (λ t k. ids_one t k) s (known_below s (λ (t : Table). greatest t.grid.rows) b le)
+    where
+      ids_one : (t : Table) → greatest t.grid.rows ≤ b → greatest (there t) ≤ max b n
+      ids_one t small =
+          subst (λ m. m ≤ max b n) (sym (greatest_there t))
+          (elim (bytes_eq tables_id t.id) as (λ c. max (greatest (cond c xs (cond (bytes_eq columns_id t.id) ys []))) (greatest t.grid.rows) ≤ max b n) [
+            | true ↦ grind arith
+            | false ↦ elim (bytes_eq columns_id t.id) as (λ c. max (greatest (cond c ys [])) (greatest t.grid.rows) ≤ max b n) [ true ↦ grind arith | false ↦ grind arith ]
+          ])
+
+  pub ids_first : (t : Table) → find_id table_id tables_id s ≡ Some t → greatest xs ≤ greatest (there t)
+  ids_first t found =
+      let all : greatest (there t) ≡ max (greatest xs) (greatest t.grid.rows) = greatest_there t ∙ ap (λ i. max (greatest (at_schema i xs ys)) (greatest t.grid.rows)) (found_id table_id tables_id s t found) ∙ ap (λ q. max (greatest q) (greatest t.grid.rows)) first_at in
+      grind arith
+
+  pub ids_second : (t : Table) → find_id table_id columns_id s ≡ Some t → greatest ys ≤ greatest (there t)
+  ids_second t found =
+      let all : greatest (there t) ≡ max (greatest ys) (greatest t.grid.rows) = greatest_there t ∙ ap (λ i. max (greatest (at_schema i xs ys)) (greatest t.grid.rows)) (found_id table_id columns_id s t found) ∙ ap (λ q. max (greatest q) (greatest t.grid.rows)) second_at in
+      grind arith
+
+last_below : (s : Document) → (id : List ℕ) (t : Table) → find_id table_id id s ≡ Some t → (b : ℕ) → (counts s).row_id ≤ b → last_row s id ≤ b
+last_below s id t found b le =
+    subst (λ (g : Grid ColDef). greatest g.rows ≤ b) (sym (grid_found s id t found))
+    (found_all table_id (λ t. greatest t.grid.rows ≤ b) id s t (known_below s (λ (t : Table). greatest t.grid.rows) b le) found)
+
+capped_max : (m n : ℕ) → max (capped m) (capped n) ≡ capped (max m n)
+capped_max m n = grind arith
+
+max_zero : (n : ℕ) → max 0 n ≡ n
+max_zero n = grind arith
+
+-- the rows and row ids of a document whose peaks are those, one of which may be of no rows
+module _ (s : Document) (whole : IsWhole s) (xs ys : List ℕ) (h : Table → Peaks) (rows_are : (t : Table) → (h t).rows ≡ length (there s whole xs ys t)) (ids_are : (t : Table) → (h t).row_id ≡ greatest (there s whole xs ys t)) where
+  rows_side : (b n : ℕ) → (counts s).rows ≤ b → n ≡ greatest (map (λ (p : Peaks). p.rows) (map h s)) → ltb b (max (length (grid_at s tables_id).rows + length xs) (length (grid_at s columns_id).rows + length ys)) ≡ ltb b n
+  rows_side b n le is =
+      let m : ℕ = max (length (grid_at s tables_id).rows + length xs) (length (grid_at s columns_id).rows + length ys) in
+      let up : n ≤ max b m = subst (λ k. k ≤ max b m) (sym is) (mapped_below (λ (p : Peaks). p.rows) h (max b m) s
+      (each_weaker (λ t. length (there s whole xs ys t) ≤ max b m) (λ t. (h t).rows ≤ max b m) (λ t k. subst (λ q. q ≤ max b m) (sym (rows_are t)) k) s (rows_each s whole xs ys b le))) in
+      let one : (t : Table) × (find_id table_id tables_id s ≡ Some t) = tables_found s whole in
+      let two : (t : Table) × (find_id table_id columns_id s ≡ Some t) = columns_found s whole in
+      let first : (h one.0).rows ≤ n = subst (λ k. (h one.0).rows ≤ k) (sym is) (found_below (λ (p : Peaks). p.rows) h s tables_id one.0 one.1) in
+      let second : (h two.0).rows ≤ n = subst (λ k. (h two.0).rows ≤ k) (sym is) (found_below (λ (p : Peaks). p.rows) h s columns_id two.0 two.1) in
+      let e : (h one.0).rows ≡ length (grid_at s tables_id).rows + length xs = rows_are one.0 ∙ rows_first s whole xs ys one.0 one.1 in
+      let f : (h two.0).rows ≡ length (grid_at s columns_id).rows + length ys = rows_are two.0 ∙ rows_second s whole xs ys two.0 two.1 in
+      same_side b m n up (grind arith)
+
+  ids_side : (b m n : ℕ) → (counts s).row_id ≤ b → n ≡ greatest (map (λ (p : Peaks). p.row_id) (map h s)) → greatest xs ≤ m → greatest ys ≤ m → m ≤ max b (max (greatest xs) (greatest ys)) → ltb b m ≡ ltb b n
+  ids_side b m n le is small_xs small_ys from =
+      let up : n ≤ max b m = subst (λ k. k ≤ max b m) (sym is) (mapped_below (λ (p : Peaks). p.row_id) h (max b m) s
+      (each_weaker (λ t. greatest (there s whole xs ys t) ≤ max b m) (λ t. (h t).row_id ≤ max b m) (λ t k. subst (λ q. q ≤ max b m) (sym (ids_are t)) k) s (ids_each s whole xs ys b m le small_xs small_ys))) in
+      let one : (t : Table) × (find_id table_id tables_id s ≡ Some t) = tables_found s whole in
+      let two : (t : Table) × (find_id table_id columns_id s ≡ Some t) = columns_found s whole in
+      let first : (h one.0).row_id ≤ n = subst (λ k. (h one.0).row_id ≤ k) (sym is) (found_below (λ (p : Peaks). p.row_id) h s tables_id one.0 one.1) in
+      let second : (h two.0).row_id ≤ n = subst (λ k. (h two.0).row_id ≤ k) (sym is) (found_below (λ (p : Peaks). p.row_id) h s columns_id two.0 two.1) in
+      let e : greatest xs ≤ (h one.0).row_id = subst (λ k. greatest xs ≤ k) (sym (ids_are one.0)) (ids_first s whole xs ys one.0 one.1) in
+      let f : greatest ys ≤ (h two.0).row_id = subst (λ k. greatest ys ≤ k) (sym (ids_are two.0)) (ids_second s whole xs ys two.0 two.1) in
+      same_side b m n up (grind arith)
+
+-- ---- new columns
+
+length-new_columns : (taken : List (List ℕ)) (row : ℕ) (cs : List UserCol) → length (new_columns taken row cs) ≡ length cs
+length-new_columns taken row [] = refl
+length-new_columns taken row (c ∷ cs) = ap suc (length-new_columns (taken ++ Rattle.name_rules.specs.FreeName.free_name taken c.id ∷ []) (row + 1) cs)
+
+length-rows : (ds : List ColDef) → length (map column_row ds) ≡ length ds
+length-rows [] = refl
+length-rows (d ∷ ds) = ap suc (length-rows ds)
+
+greatest-new_columns : (b : ℕ) (taken : List (List ℕ)) (row : ℕ) (cs : List UserCol) → (greatest (map column_row (new_columns taken row cs)) ≤ row + length cs) × (row ≤ b → row + length cs ≤ max b (greatest (map column_row (new_columns taken row cs))))
+greatest-new_columns b taken row [] = (omega arith, λ h. grind arith)
+greatest-new_columns b taken row (c ∷ cs) =
+    let rest : List ℕ = map column_row (new_columns (taken ++ Rattle.name_rules.specs.FreeName.free_name taken c.id ∷ []) (row + 1) cs) in
+    let e : greatest ((row + 1) ∷ rest) ≡ max (row + 1) (greatest rest) = greatest-cons (row + 1) rest in
+    let later : (greatest rest ≤ row + 1 + length cs) × (row + 1 ≤ row + 1 → row + 1 + length cs ≤ max (row + 1) (greatest rest)) = greatest-new_columns (row + 1) (taken ++ Rattle.name_rules.specs.FreeName.free_name taken c.id ∷ []) (row + 1) cs in
+    let up : greatest rest ≤ row + 1 + length cs = later.0 in
+    let low : row + 1 + length cs ≤ max (row + 1) (greatest rest) = later.1 (omega arith) in
+    (grind arith, λ h. grind arith)
+
+-- ---- the two actions
+
+table_peaks : (s : Document) (table : List ℕ) (cs : List UserCol) (e : Extent) → IsWhole s → valid s (table_said s table cs) ≡ true → IsBelow s 1024 1000000 4294967295 → IsExtentDescribed s (length cs) 1 (length cs) e → TellsPeaks e (apply s (table_said s table cs))
+table_peaks s table cs e whole v below told =
+    let act : DocAction = table_said s table cs in
+    let ds : List ColDef = new_columns [] (last_row s columns_id) cs in
+    let xs : List ℕ = (last_row s tables_id + 1) ∷ [] in
+    let ys : List ℕ = map column_row ds in
+    let most : AreGreatest (counts (apply s act)) (peaks_after s act) = peaks-apply s act whole v in
+    let wide : length ds ≡ length cs = length-new_columns [] (last_row s columns_id) cs in
+    let many : length ys ≡ length cs = length-rows ds ∙ wide in
+    let gc : ℕ = greatest (map (λ (p : Peaks). p.columns) (map (peaks_then s act) s)) in
+    let gr : ℕ = greatest (map (λ (p : Peaks). p.rows) (map (peaks_then s act) s)) in
+    let gi : ℕ = greatest (map (λ (p : Peaks). p.row_id) (map (peaks_then s act) s)) in
+    let old_wide : gc ≤ 1024 = mapped_below (λ (p : Peaks). p.columns) (peaks_then s act) 1024 s (known_below s (λ (t : Table). length t.grid.columns) 1024 below.columns) in
+    let columns_told : (counts (apply s act)).columns ≡ max (length ds) gc = most.columns ∙ greatest-cons (length ds) (map (λ (p : Peaks). p.columns) (map (peaks_then s act) s)) in
+    let rows_told : (counts (apply s act)).rows ≡ gr = most.rows ∙ greatest-cons 0 (map (λ (p : Peaks). p.rows) (map (peaks_then s act) s)) ∙ max_zero gr in
+    let ids_told : (counts (apply s act)).row_id ≡ gi = most.row_id ∙ greatest-cons 0 (map (λ (p : Peaks). p.row_id) (map (peaks_then s act) s)) ∙ max_zero gi in
+    let one : (t : Table) × (find_id table_id columns_id s ≡ Some t) = columns_found s whole in
+    let facts : (greatest ys ≤ last_row s columns_id + length cs) × (last_row s columns_id ≤ 4294967295 → last_row s columns_id + length cs ≤ max 4294967295 (greatest ys)) = greatest-new_columns 4294967295 [] (last_row s columns_id) cs in
+    let low : last_row s columns_id + length cs ≤ max 4294967295 (greatest ys) = facts.1 (last_below s columns_id one.0 one.1 4294967295 below.row_id) in
+    let up : greatest ys ≤ last_row s columns_id + length cs = facts.0 in
+    let single : greatest xs ≡ max (last_row s tables_id + 1) 0 = greatest-cons (last_row s tables_id + 1) [] in
+    let last : ℕ = max (last_row s tables_id + 1) (last_row s columns_id + length cs) in
+    record {
+      columns = ap (ltb 1024) told.columns ∙ same_side 1024 (length cs) (counts (apply s act)).columns (grind arith) (grind arith);
+      rows = ap (ltb 1000000) (told.rows ∙ capped_max (length (grid_at s tables_id).rows + 1) (length (grid_at s columns_id).rows + length cs))
+          ∙ capped_above 1000000 (max (length (grid_at s tables_id).rows + 1) (length (grid_at s columns_id).rows + length cs)) (omega arith)
+          ∙ ap (λ n. ltb 1000000 (max (length (grid_at s tables_id).rows + 1) (length (grid_at s columns_id).rows + n))) (sym many)
+          ∙ rows_side s whole xs ys (peaks_then s act) (λ t. refl) (λ t. refl) 1000000 (counts (apply s act)).rows below.rows rows_told;
+      row_id = ap (ltb 4294967295) (told.row_id ∙ capped_max (last_row s tables_id + 1) (last_row s columns_id + length cs))
+          ∙ capped_above 4294967295 last (omega arith)
+          ∙ ids_side s whole xs ys (peaks_then s act) (λ t. refl) (λ t. refl) 4294967295 last (counts (apply s act)).row_id below.row_id ids_told (grind arith) (grind arith) (grind arith);
+    }
+
+column_peaks : (s : Document) (table : List ℕ) (d : ColDef) (e : Extent) → IsWhole s → valid s (action.AddColumn table d) ≡ true → d.row ≡ last_row s columns_id + 1 → IsBelow s 1024 1000000 4294967295
+    → IsExtentDescribed s (capped (length (grid_at s table).columns + 1)) 0 1 e → TellsPeaks e (apply s (action.AddColumn table d))
+column_peaks s table d e whole v row below told =
+    let act : DocAction = action.AddColumn table d in
+    let ys : List ℕ = d.row ∷ [] in
+    let most : AreGreatest (counts (apply s act)) (peaks_after s act) = peaks-apply s act whole v in
+    let mine : (t : Table) × (find_id table_id table s ≡ Some t) = table_there s table (has_named-valid s act v) in
+    let n : ℕ = length (grid_at s table).columns + 1 in
+    let one : (t : Table) × (find_id table_id tables_id s ≡ Some t) = tables_found s whole in
+    let up : (counts (apply s act)).columns ≤ max 1024 n = subst (λ k. k ≤ max 1024 n) (sym most.columns) (mapped_below (λ (p : Peaks). p.columns) (peaks_then s act) (max 1024 n) s
+    (each_weaker (λ t. (length t.grid.columns ≤ 1024) × (bytes_eq t.id table ≡ true → grid_at s table ≡ t.grid)) (λ t. length t.grid.columns + cond (bytes_eq t.id table) 1 0 ≤ max 1024 n) (λ t k. columns_one s table t k.0 k.1) s
+    (each_both (λ t. length t.grid.columns ≤ 1024) (λ t. bytes_eq t.id table ≡ true → grid_at s table ≡ t.grid) s (known_below s (λ (t : Table). length t.grid.columns) 1024 below.columns) (grids_found s whole table)))) in
+    let here : length mine.0.grid.columns + cond (bytes_eq mine.0.id table) 1 0 ≤ (counts (apply s act)).columns
+    = subst (λ k. length mine.0.grid.columns + cond (bytes_eq mine.0.id table) 1 0 ≤ k) (sym most.columns) (found_below (λ (p : Peaks). p.columns) (peaks_then s act) s table mine.0 mine.1) in
+    let is : ◌≡◌ {A = ℕ} (cond (bytes_eq mine.0.id table) 1 0) 1 = ap (λ c. let k : ℕ = cond c 1 0 in k) (ap (λ n. bytes_eq n table) (found_id table_id table s mine.0 mine.1) ∙ bytes_itself table) in
+    let own : length (grid_at s table).columns ≡ length mine.0.grid.columns = ap (λ (g : Grid ColDef). length g.columns) (grid_found s table mine.0 mine.1) in
+    let low : n ≤ (counts (apply s act)).columns = omega (arith, here, is, own) in
+    let single : greatest ys ≡ max d.row 0 = greatest-cons d.row [] in
+    let first : last_row s tables_id ≤ 4294967295 = last_below s tables_id one.0 one.1 4294967295 below.row_id in
+    let last : ℕ = max (last_row s tables_id + 0) (last_row s columns_id + 1) in
+    let mid : ltb 4294967295 last ≡ ltb 4294967295 (last_row s columns_id + 1) = same_side 4294967295 last (last_row s columns_id + 1) (grind arith) (grind arith) in
+    record {
+      columns = ap (ltb 1024) told.columns ∙ capped_above 1024 n (omega arith) ∙ same_side 1024 n (counts (apply s act)).columns up (grind arith);
+      rows = ap (ltb 1000000) (told.rows ∙ capped_max (length (grid_at s tables_id).rows + 0) (length (grid_at s columns_id).rows + 1))
+          ∙ capped_above 1000000 (max (length (grid_at s tables_id).rows + 0) (length (grid_at s columns_id).rows + 1)) (omega arith)
+          ∙ rows_side s whole [] ys (peaks_then s act) (λ t. refl) (λ t. refl) 1000000 (counts (apply s act)).rows below.rows most.rows;
+      row_id = ap (ltb 4294967295) (told.row_id ∙ capped_max (last_row s tables_id + 0) (last_row s columns_id + 1))
+          ∙ capped_above 4294967295 last (omega arith)
+          ∙ mid
+          ∙ ids_side s whole [] ys (peaks_then s act) (λ t. refl) (λ t. refl) 4294967295 (last_row s columns_id + 1) (counts (apply s act)).row_id below.row_id most.row_id (omega arith) (grind arith) (grind arith);
+    }
+  where
+    columns_one : (s : Document) (table : List ℕ) (t : Table) → length t.grid.columns ≤ 1024 → (bytes_eq t.id table ≡ true → grid_at s table ≡ t.grid)
+        → length t.grid.columns + cond (bytes_eq t.id table) 1 0 ≤ max 1024 (length (grid_at s table).columns + 1)
+    columns_one s table t small own = elim (bytes_eq t.id table) as (λ c. bytes_eq t.id table ≡ c → length t.grid.columns + cond c 1 0 ≤ max 1024 (length (grid_at s table).columns + 1)) [
+      | true ↦ λ is. let e : length (grid_at s table).columns ≡ length t.grid.columns = ap (λ (g : Grid ColDef). length g.columns) (own is) in grind arith
+      | false ↦ λ _. grind arith
+    ] refl
+
+pub grown_peaks : (s : Document) (a : UserAction) (e : Extent) → IsWhole s → grows_schema a ≡ true → all_valid s (map action_of (steps_of s a)) ≡ true → IsBelow s 1024 1000000 4294967295 → IsExtentGrown s a e → TellsPeaks e (after s a)
+grown_peaks s (AddTable table cs) e whole grows v below told = table_peaks s table cs e whole (and_parts (valid s (table_said s table cs)) true v).0 below told
+grown_peaks s (AddColumn table c) e whole grows v below told = column_peaks s table (column_said s table c) e whole (and_parts (valid s (action.AddColumn table (column_said s table c))) true v).0 refl below told
+grown_peaks s (Add table single n explicit ks) e whole grows v below told = absurd (true≢false (sym grows))
+grown_peaks s (Update table single rows ks) e whole grows v below told = absurd (true≢false (sym grows))
+grown_peaks s (Remove table single rows) e whole grows v below told = absurd (true≢false (sym grows))
+grown_peaks s (RemoveTable table) e whole grows v below told = absurd (true≢false (sym grows))
+grown_peaks s (RenameTable table new) e whole grows v below told = absurd (true≢false (sym grows))
+grown_peaks s (RemoveColumn table column) e whole grows v below told = absurd (true≢false (sym grows))
+grown_peaks s (RenameColumn table column new) e whole grows v below told = absurd (true≢false (sym grows))
+grown_peaks s (ModifyColumn table c) e whole grows v below told = absurd (true≢false (sym grows))
+
+pub grown_few : (s : Document) (a : UserAction) → grows_schema a ≡ true → length (steps_of s a) ≤ 1
+grown_few s (AddTable table cs) grows = omega arith
+grown_few s (AddColumn table c) grows = omega arith
+grown_few s (Add table single n explicit ks) grows = absurd (true≢false (sym grows))
+grown_few s (Update table single rows ks) grows = absurd (true≢false (sym grows))
+grown_few s (Remove table single rows) grows = absurd (true≢false (sym grows))
+grown_few s (RemoveTable table) grows = absurd (true≢false (sym grows))
+grown_few s (RenameTable table new) grows = absurd (true≢false (sym grows))
+grown_few s (RemoveColumn table column) grows = absurd (true≢false (sym grows))
+grown_few s (RenameColumn table column new) grows = absurd (true≢false (sym grows))
+grown_few s (ModifyColumn table c) grows = absurd (true≢false (sym grows))

@@ -1,0 +1,40 @@
+use Rattle.std.proofs.Common.{◌≡◌, ◌<◌, ◌∙◌, ap, refl, map, length, take, arith}
+use Rattle.doc_model.specs.declared.column.ColDef.{ColDef}
+use Rattle.doc_model.specs.Counts.{greatest}
+use Rattle.doc_model.specs.Document.{Table}
+use Rattle.doc_model.specs.Grid.{Grid}
+use Rattle.action_limits.specs.Capped.{no_table, table_in}
+use Rattle.action_limits.proofs.CountedLemmas.{taken_all}
+use Rattle.action_limits.proofs.SumLemmas.{greatest_step}
+use Rattle.action_limits.proofs.limits.greatest_extent.Goals as goal
+
+pub loop-place-preserved : goal.loop-place-preserved
+loop-place-preserved g c =
+    let s = g.D.DocTables.document c.args.tables.now in
+    let within : c.loop-place.place < length s = omega (arith, c.table_count-place-end.ensures.all, c.loop-place-test.true) in
+    record {
+      columns = greatest_step (λ (t : Table). length t.grid.columns) s c.loop-place.place no_table (table_in s c.loop-place.place) c.loop-place.most.columns c.wider-most.result.columns c.table_extent.result.columns
+          within refl c.loop-place.invariant.columns (c.table_extent.ensures.columns ∙ ap (λ (t : Grid ColDef). length t.columns) c.table_id.ensures.grid) c.wider-most.ensures.columns;
+      rows = greatest_step (λ (t : Table). length t.grid.rows) s c.loop-place.place no_table (table_in s c.loop-place.place) c.loop-place.most.rows c.wider-most.result.rows c.table_extent.result.rows
+          within refl c.loop-place.invariant.rows (c.table_extent.ensures.rows ∙ ap (λ (t : Grid ColDef). length t.rows) c.table_id.ensures.grid) c.wider-most.ensures.rows;
+      row_id = greatest_step (λ (t : Table). greatest t.grid.rows) s c.loop-place.place no_table (table_in s c.loop-place.place) c.loop-place.most.row_id c.wider-most.result.row_id c.table_extent.result.row_id
+          within refl c.loop-place.invariant.row_id (c.table_extent.ensures.row_id ∙ ap (λ (t : Grid ColDef). greatest t.rows) c.table_id.ensures.grid) c.wider-most.ensures.row_id;
+    }
+
+pub returns-clause-columns : goal.returns-clause-columns
+returns-clause-columns g c =
+    let s = g.D.DocTables.document c.args.tables.now in
+    let all : take c.loop-place.place s ≡ s = taken_all s c.loop-place.place (omega (arith, c.table_count-place-end.ensures.all, c.loop-place-test.false)) in
+    c.loop-place.invariant.columns ∙ ap (λ ts. greatest (map (λ (t : Table). length t.grid.columns) ts)) all
+
+pub returns-clause-rows : goal.returns-clause-rows
+returns-clause-rows g c =
+    let s = g.D.DocTables.document c.args.tables.now in
+    let all : take c.loop-place.place s ≡ s = taken_all s c.loop-place.place (omega (arith, c.table_count-place-end.ensures.all, c.loop-place-test.false)) in
+    c.loop-place.invariant.rows ∙ ap (λ ts. greatest (map (λ (t : Table). length t.grid.rows) ts)) all
+
+pub returns-clause-row_id : goal.returns-clause-row_id
+returns-clause-row_id g c =
+    let s = g.D.DocTables.document c.args.tables.now in
+    let all : take c.loop-place.place s ≡ s = taken_all s c.loop-place.place (omega (arith, c.table_count-place-end.ensures.all, c.loop-place-test.false)) in
+    c.loop-place.invariant.row_id ∙ ap (λ ts. greatest (map (λ (t : Table). greatest t.grid.rows) ts)) all

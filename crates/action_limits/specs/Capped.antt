@@ -1,0 +1,140 @@
+-- Counts as far as 64 bits can tell them.
+use Rattle.std.specs.Prelude.{ℕ, Bool, true, ◌+◌, ◌^◌, ◌-◌, ◌≡◌, min, cond, List, [], ◌∷◌, get_or, length, Some, None}
+use Rattle.doc_model.specs.declared.action.DocAction.{DocAction}
+use Rattle.doc_model.specs.declared.action.DocAction.TheVariants.{BulkAdd, BulkUpdate, BulkRemove, AddTable, RemoveTable, RenameTable, AddColumn, RemoveColumn, RenameColumn, ModifyColumn}
+use Rattle.doc_model.specs.declared.action.Step.{Step}
+use Rattle.doc_model.specs.declared.user_action.UserAction.{UserAction}
+use Rattle.doc_model.specs.declared.user_action.UserAction.TheVariants.{Add}
+use Rattle.doc_model.specs.ByIds.{find_id}
+use Rattle.doc_model.specs.CountLaws.{Sums, come, gone}
+use Rattle.doc_model.specs.Counts.{grid_cells, grid_weight, Counts, first_passed}
+use Rattle.doc_model.specs.Document.{Table, Document, table_id}
+use Rattle.doc_model.specs.MetadataIds.{is_schema_id}
+use Rattle.doc_model.specs.Schema.{no_grid}
+use Rattle.doc_model.specs.Valid.{passes}
+use Rattle.doc_readers.specs.Parts.{grid_at}
+use Rattle.action_limits.specs.declared.expansion.Expansion.{Expansion}
+use Rattle.action_limits.specs.declared.expansion.Expansion.TheVariants as expansion
+use Rattle.action_limits.specs.declared.limits.Counted.{Counted}
+use Rattle.action_limits.specs.declared.limits.Extent.{Extent}
+use Rattle.action_limits.specs.declared.moves.Moved.{Moved}
+use Rattle.action_limits.specs.declared.tally.Tally.{Tally}
+use Rattle.user_actions.specs.Steps.{last_row}
+
+-- a count, or the greatest number of 64 bits where it is above it
+abbrev pub capped : ℕ → ℕ
+capped n = min n (2 ^ 64 - 1)
+
+-- no table
+abbrev pub no_table : Table
+no_table = record { id = []; row = 0; grid = no_grid }
+
+-- the table at a place
+abbrev pub table_in : Document → ℕ → Table
+table_in s place = get_or s place no_table
+
+-- the cells of a table that are counted
+abbrev pub counted_cells : Table → ℕ
+counted_cells t = cond (is_schema_id t.id) 0 (grid_cells t.grid)
+
+-- and their weight
+abbrev pub counted_weight : Table → ℕ
+counted_weight t = cond (is_schema_id t.id) 0 (grid_weight t.grid)
+
+-- counts as they are noted
+abbrev pub noted : Counted → Counts
+noted c = record {
+  tables = c.tables;
+  columns = c.columns;
+  rows = c.rows;
+  row_id = c.row_id;
+  cells = c.cells;
+  weight = c.weight;
+}
+
+-- sums as they are noted
+pub record IsCapped (m : Moved) (n : Sums) : Type 0 where
+  pub tables : m.tables ≡ capped n.tables
+  pub cells : m.cells ≡ capped n.cells
+  pub weight : m.weight ≡ capped n.weight
+
+-- the sums after an action, from those before it
+abbrev pub moved_by : Document → Moved → DocAction → Moved
+moved_by s m a = record {
+  tables = capped (m.tables - capped (gone s a).tables + capped (come s a).tables);
+  cells = capped (m.cells - capped (gone s a).cells + capped (come s a).cells);
+  weight = capped (m.weight - capped (gone s a).weight + capped (come s a).weight);
+}
+
+-- and after steps
+abbrev pub all_moved : Document → Moved → List Step → Moved
+all_moved s m [] = m
+all_moved s m (step ∷ steps) = all_moved s (moved_by s m step.action) steps
+
+-- whether the document has the table that an action is about
+abbrev pub has_named : Document → DocAction → Bool
+has_named s (BulkAdd table rows ks) = passes (find_id table_id table s) (λ _. true)
+has_named s (BulkUpdate table rows ks) = passes (find_id table_id table s) (λ _. true)
+has_named s (BulkRemove table rows) = passes (find_id table_id table s) (λ _. true)
+has_named s (AddTable table row columns) = true
+has_named s (RemoveTable table) = passes (find_id table_id table s) (λ _. true)
+has_named s (RenameTable table new) = passes (find_id table_id table s) (λ _. true)
+has_named s (AddColumn table d) = passes (find_id table_id table s) (λ _. true)
+has_named s (RemoveColumn table column) = passes (find_id table_id table s) (λ _. true)
+has_named s (RenameColumn table column new) = passes (find_id table_id table s) (λ _. true)
+has_named s (ModifyColumn table column info) = passes (find_id table_id table s) (λ _. true)
+
+abbrev pub is_there : Document → Step → Bool
+is_there s step = has_named s step.action
+
+-- the counts of these sums and these peaks
+abbrev pub both_noted : Moved → Extent → Counts
+both_noted m e = record {
+  tables = m.tables;
+  columns = e.columns;
+  rows = e.rows;
+  row_id = e.row_id;
+  cells = m.cells;
+  weight = m.weight;
+}
+
+-- what steps come to, by the counts after them
+abbrev pub settled : List Step → Moved → Extent → Expansion
+settled steps m e = elim (first_passed (both_noted m e)) [
+  | None ↦ expansion.Steps steps (record { tables = m.tables; cells = m.cells; weight = m.weight; within = true })
+  | Some kind ↦ expansion.Limit kind
+]
+
+abbrev pub no_more : Extent
+no_more = record { columns = 0; rows = 0; row_id = 0 }
+
+-- a tally's sums, which 64 bits can tell
+pub record AreTaken (t : Tally) (m : Moved) : Type 0 where
+  pub tables : m.tables ≡ t.tables
+  pub cells : m.cells ≡ t.cells
+  pub weight : m.weight ≡ t.weight
+  pub small_tables : m.tables ≡ capped t.tables
+  pub small_cells : m.cells ≡ capped t.cells
+  pub small_weight : m.weight ≡ capped t.weight
+
+-- the counts of peaks alone
+abbrev pub peaks_noted : Moved → Extent → Counts
+peaks_noted m e = record {
+  tables = m.tables;
+  columns = e.columns;
+  rows = e.rows;
+  row_id = e.row_id;
+  cells = 0;
+  weight = 0;
+}
+
+-- the action adds so many records
+abbrev pub AddsSo : UserAction → ℕ → Type 0
+AddsSo (Add table single count explicit ks) n = n ≡ count
+AddsSo _ n = ⊥
+
+-- the rows of a table where so many come to it
+pub record IsExtentAdded (s : Document) (table : List ℕ) (count : ℕ) (e : Extent) : Type 0 where
+  pub columns : e.columns ≡ 0
+  pub rows : e.rows ≡ capped (length (grid_at s table).rows + count)
+  pub row_id : e.row_id ≡ last_row s table + count

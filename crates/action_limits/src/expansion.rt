@@ -1,0 +1,255 @@
+//! What a user action comes to, limits included.
+
+ghost use Rattle.std.specs.Prelude.{◌≡◌, true, false, IfOk};
+ghost use Rattle.doc_model.specs.Counts.{first_passed};
+ghost use Rattle.doc_model.specs.DocumentLaws.{IsWhole};
+ghost use Rattle.user_actions.specs.Allowed.{is_allowed};
+ghost use Rattle.action_limits.specs.Capped.{AddsSo, AreTaken, IsExtentAdded, no_more, peaks_noted, settled};
+ghost use Rattle.user_actions.specs.Kinds.{makes_rows};
+ghost use Rattle.action_limits.specs.Grown.{IsExtentDescribed, IsExtentGrown, grows_schema};
+ghost use Rattle.user_actions.specs.Kinds.{table_of};
+ghost use Rattle.user_actions.specs.StepLaws.{is_well_formed};
+ghost use Rattle.action_limits.specs.Tallies.{IsExpansion, IsTally};
+
+use crate::Tally;
+use crate::limits::{Counted, Extent, first_passed};
+use crate::moves::{Moved, after_steps};
+use crate::weighing::column_count;
+use cell_types::Name;
+use doc_model::{DocTables, LimitKind, StepList, UserAction};
+use doc_readers::{columns_table, rows_in, tables_table};
+use name_rules::name_of;
+use std::alloc::{AllocError, Global};
+use user_actions::{last_row, steps, table_of};
+
+/// What a user action comes to.
+#[derive(Clone, Debug, Drop)]
+pub enum Expansion {
+    /// Its document actions, and the tally of the document after them.
+    Steps { steps: StepList, tally: Tally },
+    /// The first limit that would be passed after them.
+    Limit(LimitKind),
+}
+
+fn no_more() -> Extent
+    ensures { result ≡ no_more }
+{
+    Extent {
+        columns: 0,
+        rows: 0,
+        row_id: 0,
+    }
+}
+
+fn sums_of(tally: Tally) -> Moved
+    ensures { AreTaken tally result }
+{
+    Moved {
+        tables: tally.tables,
+        cells: tally.cells,
+        weight: tally.weight,
+    }
+}
+
+// What steps come to, by the sums and the peaks after them.
+fn settled(steps: StepList, sums: Moved, most: Extent) -> Expansion
+    ensures { result ≡ settled steps sums most }
+{
+    let counts = Counted {
+        tables: sums.tables,
+        columns: most.columns,
+        rows: most.rows,
+        row_id: most.row_id,
+        cells: sums.cells,
+        weight: sums.weight,
+    };
+    match first_passed(counts) {
+        Some(kind) => Expansion::Limit(kind),
+        None => Expansion::Steps {
+            steps,
+            tally: Tally {
+                tables: sums.tables,
+                cells: sums.cells,
+                weight: sums.weight,
+                within: true,
+            },
+        },
+    }
+}
+
+// What an action comes to that makes no rows: no table has more columns or rows after it.
+fn other_expansion<D: DocTables>(
+    alloc: Global,
+    tables: &D,
+    tally: Tally,
+    action: &UserAction,
+) -> Result<Expansion, AllocError>
+    requires whole { IsWhole (D.document tables.now) }
+    requires allowed { is_allowed (D.document tables.now) action.now ≡ true }
+    requires well_formed { is_well_formed action.now ≡ true }
+    requires tally { IsTally (D.document tables.now) tally }
+    requires within { tally.within ≡ true }
+    requires other { makes_rows action.now ≡ false }
+    ensures { IfOk result (λ e. IsExpansion (D.document tables.now) action.now e) }
+{
+    let Some(steps) = steps(alloc, tables, action)? else {
+        unreachable!()
+    };
+    let sums = after_steps(tables, sums_of(tally), steps.as_slice());
+    Ok(settled(steps, sums, no_more()))
+}
+
+// The most rows and the greatest row id where so many records come to a table.
+fn extent_added<D: DocTables>(tables: &D, table: &Name, count: u32) -> Extent
+    requires { IsWhole (D.document tables.now) }
+    ensures { IsExtentAdded (D.document tables.now) table.now count result }
+{
+    Extent {
+        columns: 0,
+        rows: (rows_in(tables, table).len() as u64).saturating_add(count as u64),
+        row_id: last_row(tables, table) as u64 + count as u64,
+    }
+}
+
+// The first limit of tables, columns, rows and row ids that the counts pass.
+fn first_of_peaks(sums: Moved, most: Extent) -> Option<LimitKind>
+    ensures { result ≡ first_passed (peaks_noted sums most) }
+{
+    first_passed(Counted {
+        tables: sums.tables,
+        columns: most.columns,
+        rows: most.rows,
+        row_id: most.row_id,
+        cells: 0,
+        weight: 0,
+    })
+}
+
+// What an action comes to that adds records. Their rows are counted before they are made.
+fn add_expansion<D: DocTables>(
+    alloc: Global,
+    tables: &D,
+    tally: Tally,
+    count: u32,
+    action: &UserAction,
+) -> Result<Expansion, AllocError>
+    requires whole { IsWhole (D.document tables.now) }
+    requires allowed { is_allowed (D.document tables.now) action.now ≡ true }
+    requires well_formed { is_well_formed action.now ≡ true }
+    requires tally { IsTally (D.document tables.now) tally }
+    requires within { tally.within ≡ true }
+    requires adds { AddsSo action.now count }
+    ensures { IfOk result (λ e. IsExpansion (D.document tables.now) action.now e) }
+{
+    let table = name_of(alloc, table_of(action))?;
+    let most = extent_added(tables, &table, count);
+    let before = sums_of(tally);
+    if let Some(kind) = first_of_peaks(before, most) {
+        return Ok(Expansion::Limit(kind));
+    }
+    let Some(steps) = steps(alloc, tables, action)? else {
+        unreachable!()
+    };
+    let sums = after_steps(tables, before, steps.as_slice());
+    Ok(settled(steps, sums, most))
+}
+
+// The peaks where so many columns come to a table, and rows that describe a table and columns.
+fn extent_described<D: DocTables>(
+    tables: &D,
+    columns: u64,
+    new_tables: u64,
+    new_columns: u64,
+) -> Extent
+    requires { IsWhole (D.document tables.now) }
+    ensures { IsExtentDescribed (D.document tables.now) columns new_tables new_columns result }
+{
+    let of_tables = tables_table(tables);
+    let of_columns = columns_table(tables);
+    let tables_rows = rows_in(tables, of_tables).len() as u64;
+    let columns_rows = rows_in(tables, of_columns).len() as u64;
+    let last_table = last_row(tables, of_tables) as u64;
+    let last_column = last_row(tables, of_columns) as u64;
+    Extent {
+        columns,
+        rows: tables_rows
+            .saturating_add(new_tables)
+            .max(columns_rows.saturating_add(new_columns)),
+        row_id: last_table
+            .saturating_add(new_tables)
+            .max(last_column.saturating_add(new_columns)),
+    }
+}
+
+fn extent_grown<D: DocTables>(tables: &D, table: &Name, action: &UserAction) -> Extent
+    requires whole { IsWhole (D.document tables.now) }
+    requires named { table.now ≡ table_of action.now }
+    ensures { IsExtentGrown (D.document tables.now) action.now result }
+{
+    match action {
+        UserAction::AddTable { columns, .. } => {
+            let count = columns.len() as u64;
+            extent_described(tables, count, 1, count)
+        }
+        _ => {
+            let columns = (column_count(tables, table) as u64).saturating_add(1);
+            extent_described(tables, columns, 0, 1)
+        }
+    }
+}
+
+// What an action comes to that adds a table or a column.
+fn schema_expansion<D: DocTables>(
+    alloc: Global,
+    tables: &D,
+    tally: Tally,
+    action: &UserAction,
+) -> Result<Expansion, AllocError>
+    requires whole { IsWhole (D.document tables.now) }
+    requires allowed { is_allowed (D.document tables.now) action.now ≡ true }
+    requires well_formed { is_well_formed action.now ≡ true }
+    requires tally { IsTally (D.document tables.now) tally }
+    requires within { tally.within ≡ true }
+    requires grows { grows_schema action.now ≡ true }
+    ensures { IfOk result (λ e. IsExpansion (D.document tables.now) action.now e) }
+{
+    let table = name_of(alloc, table_of(action))?;
+    let most = extent_grown(tables, &table, action);
+    let Some(steps) = steps(alloc, tables, action)? else {
+        return Err(AllocError);
+    };
+    let sums = after_steps(tables, sums_of(tally), steps.as_slice());
+    Ok(settled(steps, sums, most))
+}
+
+/// The document actions of a user action, or the first limit that would be passed after them, by the
+/// tally of the document.
+///
+/// Errors: want of memory. It is also answered, for now, where a table was above its bounds before, and
+/// where the row that describes a new table or column would pass the last row id.
+/// Cost: the rows and values that are given; a new type of a column costs all
+/// its cells, and a new id the ids beside it.
+/// Source: docs/DEFINITIONS.md, "user_actions".
+pub fn expand<D: DocTables>(
+    alloc: Global,
+    tables: &D,
+    tally: Tally,
+    action: &UserAction,
+) -> Result<Expansion, AllocError>
+    requires whole { IsWhole (D.document tables.now) }
+    requires allowed { is_allowed (D.document tables.now) action.now ≡ true }
+    requires well_formed { is_well_formed action.now ≡ true }
+    requires tally { IsTally (D.document tables.now) tally }
+    ensures { IfOk result (λ e. IsExpansion (D.document tables.now) action.now e) }
+{
+    if !tally.within {
+        return Err(AllocError);
+    }
+    match action {
+        UserAction::Add { count, .. } => add_expansion(alloc, tables, tally, *count, action),
+        UserAction::AddTable { .. } | UserAction::AddColumn { .. } => {
+            schema_expansion(alloc, tables, tally, action)
+        }
+        _ => other_expansion(alloc, tables, tally, action),
+    }
+}

@@ -1,0 +1,185 @@
+//! What a document counts, and the first limit that it passes.
+
+ghost use Rattle.std.specs.Prelude.{◌≡◌, ◌<◌, ◌+◌, length, max};
+ghost use Rattle.doc_model.specs.Counts.{counts, first_passed, greatest, over, passed};
+ghost use Rattle.doc_model.specs.DocumentLaws.{IsWhole};
+ghost use Rattle.doc_readers.specs.Parts.{grid_at};
+ghost use Rattle.action_limits.specs.Capped.{capped, counted_cells, counted_weight, noted, table_in};
+
+use crate::weighing::{column_count, table_cells, table_weight};
+use cell_types::Name;
+use doc_model::{DocTables, LimitKind};
+use doc_readers::{is_schema_id, rows_in, tables_table};
+use user_actions::last_row;
+
+/// What is counted of a document.
+#[derive(Clone, Copy, Debug)]
+pub(crate) struct Counted {
+    pub(crate) tables: u64,
+    pub(crate) columns: u64,
+    pub(crate) rows: u64,
+    pub(crate) row_id: u64,
+    pub(crate) cells: u64,
+    pub(crate) weight: u64,
+}
+
+/// The most columns, the most rows and the greatest row id of tables.
+#[derive(Clone, Copy, Debug)]
+pub(crate) struct Extent {
+    pub(crate) columns: u64,
+    pub(crate) rows: u64,
+    pub(crate) row_id: u64,
+}
+
+// The limit where the count is above its bound, or else the next one.
+fn passed(kind: LimitKind, count: u64, next: Option<LimitKind>) -> Option<LimitKind>
+    ensures { result ≡ passed kind count next }
+{
+    if kind.bound() < count {
+        Some(kind)
+    } else {
+        next
+    }
+}
+
+/// The first limit that the counts pass.
+pub(crate) fn first_passed(counts: Counted) -> Option<LimitKind>
+    ensures { result ≡ first_passed (noted counts) }
+{
+    let next = passed(LimitKind::Weight, counts.weight, None);
+    let next = passed(LimitKind::Cells, counts.cells, next);
+    let next = passed(LimitKind::RowId, counts.row_id, next);
+    let next = passed(LimitKind::Rows, counts.rows, next);
+    let next = passed(LimitKind::Columns, counts.columns, next);
+    passed(LimitKind::Tables, counts.tables, next)
+}
+
+// How many tables there are: the metadata tables, and those that have a row.
+fn table_count<D: DocTables>(tables: &D) -> usize
+    requires { IsWhole (D.document tables.now) }
+    ensures all { result ≡ length (D.document tables.now) }
+    ensures plain { result ≡ (counts (D.document tables.now)).tables + 4 }
+{
+    rows_in(tables, tables_table(tables)).len() + 4
+}
+
+// The id of the table at a place.
+fn table_id<D: DocTables>(tables: &D, place: usize) -> &Name
+    requires whole { IsWhole (D.document tables.now) }
+    requires there { place < length (D.document tables.now) }
+    ensures id { result.now ≡ (table_in (D.document tables.now) place).id }
+    ensures grid { grid_at (D.document tables.now) result.now ≡ (table_in (D.document tables.now) place).grid }
+{
+    let Some(id) = tables.table(place) else {
+        unreachable!()
+    };
+    id
+}
+
+fn table_extent<D: DocTables>(tables: &D, table: &Name) -> Extent
+    requires { IsWhole (D.document tables.now) }
+    ensures columns { result.columns ≡ length (grid_at (D.document tables.now) table.now).columns }
+    ensures rows { result.rows ≡ length (grid_at (D.document tables.now) table.now).rows }
+    ensures row_id { result.row_id ≡ greatest (grid_at (D.document tables.now) table.now).rows }
+{
+    Extent {
+        columns: column_count(tables, table) as u64,
+        rows: rows_in(tables, table).len() as u64,
+        row_id: last_row(tables, table) as u64,
+    }
+}
+
+fn wider(left: Extent, right: Extent) -> Extent
+    ensures columns { result.columns ≡ max left.columns right.columns }
+    ensures rows { result.rows ≡ max left.rows right.rows }
+    ensures row_id { result.row_id ≡ max left.row_id right.row_id }
+{
+    Extent {
+        columns: left.columns.max(right.columns),
+        rows: left.rows.max(right.rows),
+        row_id: left.row_id.max(right.row_id),
+    }
+}
+
+/// The most columns, the most rows and the greatest row id of any table.
+pub(crate) fn greatest_extent<D: DocTables>(tables: &D) -> Extent
+    requires { IsWhole (D.document tables.now) }
+    ensures columns { result.columns ≡ (counts (D.document tables.now)).columns }
+    ensures rows { result.rows ≡ (counts (D.document tables.now)).rows }
+    ensures row_id { result.row_id ≡ (counts (D.document tables.now)).row_id }
+{
+    let mut most = Extent {
+        columns: 0,
+        rows: 0,
+        row_id: 0,
+    };
+    for place in 0..table_count(tables) {
+        most = wider(most, table_extent(tables, table_id(tables, place)));
+    }
+    most
+}
+
+fn counted_cells<D: DocTables>(tables: &D, place: usize) -> u64
+    requires whole { IsWhole (D.document tables.now) }
+    requires there { place < length (D.document tables.now) }
+    ensures { result ≡ capped (counted_cells (table_in (D.document tables.now) place)) }
+{
+    let id = table_id(tables, place);
+    if is_schema_id(id.as_str()) {
+        return 0;
+    }
+    table_cells(tables, id)
+}
+
+fn counted_weight<D: DocTables>(tables: &D, place: usize) -> u64
+    requires whole { IsWhole (D.document tables.now) }
+    requires there { place < length (D.document tables.now) }
+    ensures { result ≡ capped (counted_weight (table_in (D.document tables.now) place)) }
+{
+    let id = table_id(tables, place);
+    if is_schema_id(id.as_str()) {
+        return 0;
+    }
+    table_weight(tables, id)
+}
+
+fn all_cells<D: DocTables>(tables: &D) -> u64
+    requires { IsWhole (D.document tables.now) }
+    ensures { result ≡ capped (counts (D.document tables.now)).cells }
+{
+    let mut cells = 0u64;
+    for place in 0..table_count(tables) {
+        cells = cells.saturating_add(counted_cells(tables, place));
+    }
+    cells
+}
+
+fn all_weight<D: DocTables>(tables: &D) -> u64
+    requires { IsWhole (D.document tables.now) }
+    ensures { result ≡ capped (counts (D.document tables.now)).weight }
+{
+    let mut weight = 0u64;
+    for place in 0..table_count(tables) {
+        weight = weight.saturating_add(counted_weight(tables, place));
+    }
+    weight
+}
+
+/// The first limit that a document passes.
+///
+/// Memory: none. Cost: a walk over all cells.
+/// Source: docs/DEFINITIONS.md, "user_actions".
+pub fn over<D: DocTables>(tables: &D) -> Option<LimitKind>
+    requires whole { IsWhole (D.document tables.now) }
+    ensures { result ≡ over (D.document tables.now) }
+{
+    let most = greatest_extent(tables);
+    first_passed(Counted {
+        tables: table_count(tables) as u64 - 4,
+        columns: most.columns,
+        rows: most.rows,
+        row_id: most.row_id,
+        cells: all_cells(tables),
+        weight: all_weight(tables),
+    })
+}

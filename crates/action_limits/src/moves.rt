@@ -1,0 +1,205 @@
+//! What document actions take from the counted sums of a document, and what they add to them.
+
+ghost use Rattle.std.specs.Prelude.{◌≡◌, ◌+◌, ◌-◌, ◌*◌, length, map, true};
+ghost use Rattle.std.specs.List.{list_all};
+ghost use Rattle.doc_model.specs.CountLaws.{bytes_of_formula, column_weight, come, given_weight, gone, nothing};
+ghost use Rattle.doc_model.specs.Counts.{formula_bytes, total};
+ghost use Rattle.doc_model.specs.DocumentLaws.{IsWhole};
+ghost use Rattle.doc_model.specs.declared.column.CellColumn.{CellColumn};
+ghost use Rattle.doc_readers.specs.Parts.{grid_at};
+ghost use Rattle.action_limits.specs.Capped.{IsCapped, all_moved, capped, has_named, is_there, moved_by};
+
+use crate::weighing::{
+    column_count, column_weight, rows_weight, table_cells, table_weight, values_weight,
+};
+use cell_types::Name;
+use doc_model::{CellColumn, ColDef, DocAction, DocTables, Step};
+use doc_readers::{find_column, rows_in};
+
+/// Tables, cells and weight, each as far as 64 bits can tell.
+#[derive(Clone, Copy, Debug)]
+pub(crate) struct Moved {
+    pub(crate) tables: u64,
+    pub(crate) cells: u64,
+    pub(crate) weight: u64,
+}
+
+// The weight of the cells of given columns in these rows.
+fn cells_given<D: DocTables>(tables: &D, table: &Name, rows: &[u32], columns: &[CellColumn]) -> u64
+    ensures { result ≡ capped (total (map (λ (k : CellColumn). column_weight (grid_at (D.document tables.now) table.now) rows.now k.id) columns.now)) }
+{
+    let mut weight = 0u64;
+    for column in columns {
+        weight = weight.saturating_add(column_weight(tables, table, &column.id, rows));
+    }
+    weight
+}
+
+fn given_weight(columns: &[CellColumn]) -> u64
+    ensures { result ≡ capped (given_weight columns.now) }
+{
+    let mut weight = 0u64;
+    for column in columns {
+        weight = weight.saturating_add(values_weight(column.values.as_slice()));
+    }
+    weight
+}
+
+fn formulas_given(columns: &[ColDef]) -> u64
+    ensures { result ≡ capped (total (map formula_bytes columns.now)) }
+{
+    let mut weight = 0u64;
+    for column in columns {
+        weight = weight.saturating_add(column.info.formula.len() as u64);
+    }
+    weight
+}
+
+fn bytes_of_formula<D: DocTables>(tables: &D, table: &Name, column: &Name) -> u64
+    requires { IsWhole (D.document tables.now) }
+    ensures { result ≡ capped (bytes_of_formula (grid_at (D.document tables.now) table.now) column.now) }
+{
+    match find_column(tables, table, column) {
+        Some(known) => known.info.formula.len() as u64,
+        None => 0,
+    }
+}
+
+fn cells_in_rows<D: DocTables>(tables: &D, table: &Name, rows: &[u32]) -> u64
+    requires { IsWhole (D.document tables.now) }
+    ensures { result ≡ capped (length rows.now * length (grid_at (D.document tables.now) table.now).columns) }
+{
+    (rows.len() as u64).saturating_mul(column_count(tables, table) as u64)
+}
+
+fn column_gone<D: DocTables>(tables: &D, table: &Name, column: &Name) -> u64
+    requires { IsWhole (D.document tables.now) }
+    ensures { result ≡ capped (column_weight (grid_at (D.document tables.now) table.now) (grid_at (D.document tables.now) table.now).rows column.now + bytes_of_formula (grid_at (D.document tables.now) table.now) column.now) }
+{
+    let cells = column_weight(tables, table, column, rows_in(tables, table));
+    cells.saturating_add(bytes_of_formula(tables, table, column))
+}
+
+fn nothing() -> Moved
+    ensures { IsCapped result nothing }
+{
+    Moved {
+        tables: 0,
+        cells: 0,
+        weight: 0,
+    }
+}
+
+// What an action takes away.
+fn gone<D: DocTables>(tables: &D, action: &DocAction) -> Moved
+    requires whole { IsWhole (D.document tables.now) }
+    requires there { has_named (D.document tables.now) action.now ≡ true }
+    ensures { IsCapped result (gone (D.document tables.now) action.now) }
+{
+    match action {
+        DocAction::BulkUpdate {
+            table,
+            rows,
+            columns,
+        } => Moved {
+            tables: 0,
+            cells: 0,
+            weight: cells_given(tables, table, rows.as_slice(), columns.as_slice()),
+        },
+        DocAction::BulkRemove { table, rows } => Moved {
+            tables: 0,
+            cells: cells_in_rows(tables, table, rows.as_slice()),
+            weight: rows_weight(tables, table, rows.as_slice()),
+        },
+        DocAction::RemoveTable { table } => Moved {
+            tables: 1,
+            cells: table_cells(tables, table),
+            weight: table_weight(tables, table),
+        },
+        DocAction::RemoveColumn { table, column } => Moved {
+            tables: 0,
+            cells: rows_in(tables, table).len() as u64,
+            weight: column_gone(tables, table, column),
+        },
+        DocAction::ModifyColumn { table, column, .. } => Moved {
+            tables: 0,
+            cells: 0,
+            weight: bytes_of_formula(tables, table, column),
+        },
+        _ => nothing(),
+    }
+}
+
+// What an action brings.
+fn come<D: DocTables>(tables: &D, action: &DocAction) -> Moved
+    requires whole { IsWhole (D.document tables.now) }
+    requires there { has_named (D.document tables.now) action.now ≡ true }
+    ensures { IsCapped result (come (D.document tables.now) action.now) }
+{
+    match action {
+        DocAction::BulkAdd {
+            table,
+            rows,
+            columns,
+        } => Moved {
+            tables: 0,
+            cells: cells_in_rows(tables, table, rows.as_slice()),
+            weight: given_weight(columns.as_slice()),
+        },
+        DocAction::BulkUpdate { columns, .. } => Moved {
+            tables: 0,
+            cells: 0,
+            weight: given_weight(columns.as_slice()),
+        },
+        DocAction::AddTable { columns, .. } => Moved {
+            tables: 1,
+            cells: 0,
+            weight: formulas_given(columns.as_slice()),
+        },
+        DocAction::AddColumn { table, column } => Moved {
+            tables: 0,
+            cells: rows_in(tables, table).len() as u64,
+            weight: column.info.formula.len() as u64,
+        },
+        DocAction::ModifyColumn { info, .. } => Moved {
+            tables: 0,
+            cells: 0,
+            weight: info.formula.len() as u64,
+        },
+        _ => nothing(),
+    }
+}
+
+// A sum after an action that takes and brings so much.
+fn sum_after(before: u64, gone: u64, come: u64) -> u64
+    ensures { result ≡ capped (before - gone + come) }
+{
+    before.saturating_sub(gone).saturating_add(come)
+}
+
+fn after_step<D: DocTables>(tables: &D, before: Moved, action: &DocAction) -> Moved
+    requires whole { IsWhole (D.document tables.now) }
+    requires there { has_named (D.document tables.now) action.now ≡ true }
+    ensures { result ≡ moved_by (D.document tables.now) before action.now }
+{
+    let gone = gone(tables, action);
+    let come = come(tables, action);
+    Moved {
+        tables: sum_after(before.tables, gone.tables, come.tables),
+        cells: sum_after(before.cells, gone.cells, come.cells),
+        weight: sum_after(before.weight, gone.weight, come.weight),
+    }
+}
+
+/// The sums after steps, from those before them.
+pub(crate) fn after_steps<D: DocTables>(tables: &D, before: Moved, steps: &[Step]) -> Moved
+    requires whole { IsWhole (D.document tables.now) }
+    requires there { list_all (is_there (D.document tables.now)) steps.now ≡ true }
+    ensures { result ≡ all_moved (D.document tables.now) before steps.now }
+{
+    let mut sums = before;
+    for step in steps {
+        sums = after_step(tables, sums, &step.action);
+    }
+    sums
+}

@@ -1,7 +1,0 @@
-use Rattle.std.proofs.Common.{◌≡◌, take}
-use Rattle.doc_model.proofs.TotalsLaws.{sum_of}
-use Rattle.user_actions.specs.Capped.{capped, counted_weight}
-use Rattle.user_actions.proofs.limits.all_weight.Given as goal
-
-abbrev pub invariant-loop-place : goal.invariant-loop-place
-invariant-loop-place g l = l.weight ≡ capped (sum_of counted_weight (take l.place (g.D.DocTables.document l.tables)))

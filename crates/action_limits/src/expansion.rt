@@ -23,7 +23,7 @@ use std::alloc::{AllocError, Global};
 use user_actions::{last_row, steps, table_of};
 
 /// What a user action comes to.
-#[derive(Clone, Debug, Drop)]
+#[derive(Debug, Drop)]
 pub enum Expansion {
     /// Its document actions, and the tally of the document after them.
     Steps { steps: StepList, tally: Tally },

@@ -3,7 +3,7 @@
 use crate::{CellValue, Name, Sequence};
 
 /// A cell: a column of a table in one row. None of the three need be there.
-#[derive(Clone, Debug, Drop)]
+#[derive(Drop)]
 pub struct CellId {
     pub table: Name,
     pub column: Name,
@@ -11,7 +11,7 @@ pub struct CellId {
 }
 
 /// A cell and the value that it had.
-#[derive(Clone, Debug, Drop)]
+#[derive(Drop)]
 pub struct CellOld {
     pub cell: CellId,
     pub old: CellValue,
@@ -19,7 +19,7 @@ pub struct CellOld {
 
 /// One key of a lookup. With `contains` it is met by lists and sets that hold the value, else by
 /// cells that agree with it.
-#[derive(Clone, Debug, Drop)]
+#[derive(Drop)]
 pub struct KeyItem {
     pub column: Name,
     pub value: CellValue,
@@ -27,7 +27,7 @@ pub struct KeyItem {
 }
 
 /// What a formula read: a cell, every cell of a key column, or which rows a table has.
-#[derive(Clone, Debug, Drop)]
+#[derive(Drop)]
 pub enum Read {
     Cell(CellId),
     Key { table: Name, column: Name },

@@ -44,7 +44,7 @@ pub enum LimitKind {
 
 /// The rule that denied an action: its row of `_grist_ACLRules`, 0 for the built-in rule, and its
 /// memo.
-#[derive(Clone, Debug, Drop)]
+#[derive(Debug, Drop)]
 pub struct RuleRef {
     pub row: u32,
     pub memo: CellText,

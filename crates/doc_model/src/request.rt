@@ -7,7 +7,7 @@ use cell_types::CellText;
 ///
 /// `Bad` is a line that spells no request, `TooLong` one of too many bytes, and `Gone` the end of a
 /// connection, which no line spells.
-#[derive(Clone, Debug, Drop)]
+#[derive(Debug, Drop)]
 pub enum Request {
     Bad,
     TooLong,

@@ -4,7 +4,7 @@ use cell_types::{CellText, Sequence, ValueList};
 
 /// What a user asks of a document. Texts and ids are as they were written: nothing of them is
 /// checked yet. `single` says that the form for one record was used.
-#[derive(Clone, Debug, Drop)]
+#[derive(Debug, Drop)]
 pub enum UserAction {
     Add {
         table: CellText,
@@ -55,7 +55,7 @@ pub enum UserAction {
 }
 
 /// What a user says of a column; what is left out is the default, or stays.
-#[derive(Clone, Debug, Drop)]
+#[derive(Debug, Drop)]
 pub struct UserCol {
     pub id: CellText,
     pub ty: Option<CellText>,
@@ -64,7 +64,7 @@ pub struct UserCol {
 }
 
 /// Values for one column, one for each record of the action.
-#[derive(Clone, Debug, Drop)]
+#[derive(Debug, Drop)]
 pub struct UserColumn {
     pub id: CellText,
     pub values: ValueList,

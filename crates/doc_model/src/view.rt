@@ -14,7 +14,7 @@ pub struct ViewCol {
 
 /// A table as a user sees it: columns by id, row ids that ascend, and the cells of each row in the
 /// order of the columns.
-#[derive(Clone, Debug, Drop)]
+#[derive(Debug, Drop)]
 pub struct ViewTable {
     pub id: Name,
     pub columns: ViewColList,
@@ -23,13 +23,13 @@ pub struct ViewTable {
 }
 
 /// What a user sees of a document: tables by id.
-#[derive(Clone, Debug, Drop)]
+#[derive(Debug, Drop)]
 pub struct View {
     pub tables: ViewTableList,
 }
 
 /// One change of a view.
-#[derive(Clone, Debug, Drop)]
+#[derive(Debug, Drop)]
 pub enum ViewAction {
     AddTable {
         table: Name,

@@ -49,7 +49,7 @@ pub enum Sign {
 }
 
 /// What a token is.
-#[derive(Clone, Debug, Drop)]
+#[derive(Debug, Drop)]
 pub enum TokenKind {
     /// Decimal digits, by their value.
     Number(u64),
@@ -66,7 +66,7 @@ pub enum TokenKind {
 /// A token, and the bytes of the text that it takes.
 ///
 /// Units: `from` and `to` count bytes; `to` is the place behind the token.
-#[derive(Clone, Debug, Drop)]
+#[derive(Debug, Drop)]
 pub struct Token {
     pub kind: TokenKind,
     pub from: usize,
@@ -74,7 +74,7 @@ pub struct Token {
 }
 
 /// The text of a name or a string. Contracts see its bytes; they are UTF-8.
-#[derive(Clone, Debug, Drop)]
+#[derive(Debug, Drop)]
 pub struct TokenText {
     text: String,
 }

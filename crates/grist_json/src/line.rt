@@ -4,7 +4,7 @@ ghost use Rattle.std.specs.Prelude.{◌≡◌, IsUtf8, string_bytes};
 use std::marker::Model;
 
 /// A line without its newline, as one of the writers made it. It is seen as its bytes.
-#[derive(Clone, Debug, Drop)]
+#[derive(Debug, Drop)]
 pub struct Line {
     text: String,
 }

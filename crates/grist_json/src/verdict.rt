@@ -4,7 +4,7 @@ use doc_model::{LimitKind, RuleRef, ViewActionList};
 
 /// What one user action of a bundle made: nothing that can be told, a record, records, or the id of a
 /// table or column.
-#[derive(Clone, Debug, Drop)]
+#[derive(Debug, Drop)]
 pub enum RetValue {
     Null,
     Id(u32),
@@ -21,7 +21,7 @@ pub type RetValueList = Sequence<RetValue>;
 /// The answer to one request.
 ///
 /// Units: `action` is the place of an action in its bundle, from 0; bundles are numbered from 1.
-#[derive(Clone, Debug, Drop)]
+#[derive(Debug, Drop)]
 pub enum Verdict {
     /// It was done, and there is nothing to tell.
     Done,

@@ -1,28 +1,10 @@
-//! Row ids and metadata rows: tests that validity and patches make, and the place of a column.
+//! Row ids and metadata rows: whether rows stand once, and the place of a column.
 
 ghost use Rattle.std.specs.Prelude.{◌≡◌, ◌≤◌, length};
 ghost use Rattle.doc_model.specs.Places.{column_place};
-ghost use Rattle.doc_model.specs.Rows.{all_in, is_once, none_in};
+ghost use Rattle.doc_model.specs.Rows.{is_once};
 
 use crate::ColDef;
-
-/// Whether each of the wanted rows stands among the rows.
-///
-/// Memory: none. Cost: the product of both lengths.
-pub fn all_rows_in(wanted: &[u32], rows: &[u32]) -> bool
-    ensures { result ≡ all_in wanted.now rows.now }
-{
-    wanted.iter().all(|row| rows.contains(row))
-}
-
-/// Whether none of the new rows stands among the rows.
-///
-/// Memory: none. Cost: the product of both lengths.
-pub fn no_row_in(new: &[u32], rows: &[u32]) -> bool
-    ensures { result ≡ none_in new.now rows.now }
-{
-    new.iter().all(|row| !rows.contains(row))
-}
 
 /// Whether no row stands twice.
 ///

@@ -2,9 +2,7 @@
 //! computed in proofs/Traps.antt.
 
 use cell_types::{CellText, ColType, Name};
-use doc_model::{
-    ColDef, ColInfo, LimitKind, all_rows_in, are_rows_once, no_row_in, place_of_column,
-};
+use doc_model::{ColDef, ColInfo, LimitKind, are_rows_once, place_of_column};
 use std::alloc::{AllocError, Global};
 
 #[test]
@@ -24,11 +22,7 @@ fn limits_have_their_bounds(rt: HostRuntime) {
 }
 
 #[test]
-fn rows_are_found_in_any_order(rt: HostRuntime) {
-    assert!(rt; all_rows_in(&[3, 1], &[1, 2, 3]));
-    assert!(rt; !all_rows_in(&[3, 4], &[1, 2, 3]));
-    assert!(rt; no_row_in(&[5, 4], &[1, 2, 3]));
-    assert!(rt; !no_row_in(&[5, 1], &[1, 2, 3]));
+fn repeated_rows_are_found_in_any_order(rt: HostRuntime) {
     assert!(rt; are_rows_once(&[2, 1, 3]));
     assert!(rt; !are_rows_once(&[2, 1, 2]));
 }

@@ -4,7 +4,7 @@ ghost use Rattle.std.specs.Prelude.{◌≡◌, ℕ, ◌+◌, ◌≤◌, List, []
 ghost use Rattle.formula_parse.specs.Tree.{Tree, attribute, height_of, from_list, heights, keys_from, key_heights};
 ghost use Rattle.formula_parse.specs.Machine.{kept, close_step, close_list_step, comma_step};
 ghost use Rattle.formula_parse.specs.Operands.{rule_name, point_step, word_operand, sign_operand, name_operand, operand_step, close_empty, close_empty_list, first_step};
-ghost use Rattle.formula_parse.specs.Steps.{word_after, sign_after, after_step, is_step, name_step, table_step, first_key_step, next_key_step, key_step};
+ghost use Rattle.formula_parse.specs.Steps.{word_after, sign_after, after_step, is_step, name_step, table_step, first_key_step, next_key_step, key_step, not_step, dot_step, name_point_step, lookup_step, subject_step, subject_point_step, user_point_step};
 ghost use Rattle.formula_parse.specs.Runs.{step, finish};
 ghost use Rattle.formula_parse.specs.Grammar.{all_word, lookup_word};
 ghost use Rattle.formula_parse.specs.Parsed.{Gives};
@@ -478,6 +478,88 @@ fn after_key(
     }
 }
 
+// A `not` behind an operand has to go on with `in`.
+fn after_not(
+    alloc: Global,
+    dialect: Dialect,
+    frames: &mut Stack,
+    tree: Formula,
+    lexeme: Lexeme,
+) -> Result<Mode, Stop>
+    ensures { Gives (λ m. (frames.new, m)) result (not_step dialect lexeme frames.old tree) }
+{
+    match lexeme {
+        Lexeme::Keyword(Keyword::In) => infix(alloc, dialect, BinaryOp::NotIn, frames, tree),
+        _ => Err(Stop::Syntax),
+    }
+}
+
+fn after_dot(alloc: Global, tree: Formula, lexeme: Lexeme) -> Result<Mode, Stop>
+    ensures { (fs : List Frame) → Gives (λ m. (fs, m)) result (dot_step lexeme fs tree) }
+{
+    match lexeme {
+        Lexeme::Name(name) => Ok(Mode::Operator(attribute(alloc, tree, name)?)),
+        _ => Err(Stop::Syntax),
+    }
+}
+
+// The point behind the name of a table.
+fn after_table_point(
+    alloc: Global,
+    frames: &mut Stack,
+    table: Name,
+    lexeme: Lexeme,
+) -> Result<Mode, Stop>
+    ensures { Gives (λ m. (frames.new, m)) result (name_point_step lexeme frames.old table) }
+{
+    match lexeme {
+        Lexeme::Name(name) => after_point(alloc, frames, table, name.as_str()),
+        _ => Err(Stop::Syntax),
+    }
+}
+
+fn after_lookup(kind: LookupKind, table: Name, lexeme: Lexeme) -> Result<Mode, Stop>
+    ensures { (fs : List Frame) → Gives (λ m. (fs, m)) result (lookup_step lexeme fs kind table) }
+{
+    match lexeme {
+        Lexeme::Sign(Sign::Open) => Ok(Mode::FirstKey(kind, table)),
+        _ => Err(Stop::Syntax),
+    }
+}
+
+fn after_subject(subject: Subject, lexeme: Lexeme) -> Result<Mode, Stop>
+    ensures { (fs : List Frame) → Gives (λ m. (fs, m)) result (subject_step lexeme fs subject) }
+{
+    match lexeme {
+        Lexeme::Sign(Sign::Point) => Ok(Mode::SubjectPoint(subject)),
+        _ => Err(Stop::Syntax),
+    }
+}
+
+fn after_subject_point(alloc: Global, subject: Subject, lexeme: Lexeme) -> Result<Mode, Stop>
+    ensures { (fs : List Frame) → Gives (λ m. (fs, m)) result (subject_point_step lexeme fs subject) }
+{
+    match lexeme {
+        Lexeme::Name(name) => {
+            let atom = Node::Rule(asked(subject, name));
+            Ok(Mode::Operator(kept(alloc, atom, 0)?))
+        }
+        _ => Err(Stop::Syntax),
+    }
+}
+
+fn after_user_point(alloc: Global, first: Name, lexeme: Lexeme) -> Result<Mode, Stop>
+    ensures { (fs : List Frame) → Gives (λ m. (fs, m)) result (user_point_step lexeme fs first) }
+{
+    match lexeme {
+        Lexeme::Name(name) => {
+            let atom = Node::Rule(RuleAtom::UserAttribute(first, name));
+            Ok(Mode::Operator(kept(alloc, atom, 0)?))
+        }
+        _ => Err(Stop::Syntax),
+    }
+}
+
 /// What the next token makes of what is open.
 #[tactic(auto, unfolding(crate::specs::Runs::step))]
 pub(crate) fn step(
@@ -493,46 +575,20 @@ pub(crate) fn step(
         Mode::Operand => operand(alloc, dialect, frames, lexeme),
         Mode::FirstItem => first_item(alloc, dialect, frames, lexeme),
         Mode::Operator(tree) => after(alloc, dialect, frames, tree, lexeme),
-        Mode::AfterNot(tree) => match lexeme {
-            Lexeme::Keyword(Keyword::In) => infix(alloc, dialect, BinaryOp::NotIn, frames, tree),
-            _ => Err(Stop::Syntax),
-        },
+        Mode::AfterNot(tree) => after_not(alloc, dialect, frames, tree, lexeme),
         Mode::AfterIs(tree) => after_is(alloc, dialect, frames, tree, lexeme),
-        Mode::AfterDot(tree) => match lexeme {
-            Lexeme::Name(name) => Ok(Mode::Operator(attribute(alloc, tree, name)?)),
-            _ => Err(Stop::Syntax),
-        },
+        Mode::AfterDot(tree) => after_dot(alloc, tree, lexeme),
         Mode::AfterName(name) => after_name(alloc, frames, name, lexeme),
-        Mode::AfterPoint(table) => match lexeme {
-            Lexeme::Name(name) => after_point(alloc, frames, table, name.as_str()),
-            _ => Err(Stop::Syntax),
-        },
-        Mode::AfterLookup(kind, table) => match lexeme {
-            Lexeme::Sign(Sign::Open) => Ok(Mode::FirstKey(kind, table)),
-            _ => Err(Stop::Syntax),
-        },
+        Mode::AfterPoint(table) => after_table_point(alloc, frames, table, lexeme),
+        Mode::AfterLookup(kind, table) => after_lookup(kind, table, lexeme),
         Mode::FirstKey(kind, table) => first_key(alloc, frames, kind, table, lexeme),
         Mode::NextKey(kind, table, keys) => next_key(frames, kind, table, keys, lexeme),
         Mode::AfterKey(kind, table, keys, name) => {
             after_key(frames, kind, table, keys, name, lexeme)
         }
-        Mode::AfterSubject(subject) => match lexeme {
-            Lexeme::Sign(Sign::Point) => Ok(Mode::SubjectPoint(subject)),
-            _ => Err(Stop::Syntax),
-        },
-        Mode::SubjectPoint(subject) => match lexeme {
-            Lexeme::Name(name) => {
-                Ok(Mode::Operator(kept(alloc, Node::Rule(asked(subject, name)), 0)?))
-            }
-            _ => Err(Stop::Syntax),
-        },
-        Mode::UserPoint(first) => match lexeme {
-            Lexeme::Name(name) => {
-                let atom = RuleAtom::UserAttribute(first, name);
-                Ok(Mode::Operator(kept(alloc, Node::Rule(atom), 0)?))
-            }
-            _ => Err(Stop::Syntax),
-        },
+        Mode::AfterSubject(subject) => after_subject(subject, lexeme),
+        Mode::SubjectPoint(subject) => after_subject_point(alloc, subject, lexeme),
+        Mode::UserPoint(first) => after_user_point(alloc, first, lexeme),
     }
 }
 

@@ -140,10 +140,20 @@ module _ (r u : Grid ColDef) (p : List Table) where
         = leaves (metadata_table tables_id (tables_grid p)) step.tables_go (step.goes tables_id ∙ at_tables step.tables_go step.columns_go) (length-without step.tables_go (map table_row p) good.tables_ascend step.tables_once step.tables_there) in
         let described : List ℕ = map described_row (in_order (all_columns p)) in
         let columns : length (without (rows_out whole a columns_id) described) + length (rows_out whole a columns_id) ≡ length described
-        = leaves (metadata_table columns_id (columns_grid p)) step.columns_go (step.goes columns_id ∙ at_columns step.tables_go step.columns_go) (length-without step.columns_go described (IsAscending-in_order (all_columns p)) step.columns_once step.columns_there) in
-        (tables, (columns, (leaves_all (metadata_table resources_id r) tables_resources_apart columns_resources_apart, (leaves_all (metadata_table rules_id u) tables_rules_apart columns_rules_apart,
-        each_weaker (λ t. is_metadata_id t.id ≡ false) (λ t. length (without (rows_out whole a t.id) t.grid.rows) + length (rows_out whole a t.id) ≡ length t.grid.rows)
-        (λ t e. let plain : IsPlain t.id = plain_from t.id e in leaves_all t plain.tables plain.columns) p good.plain))))
+        = leaves (metadata_table columns_id (columns_grid p)) step.columns_go (step.goes columns_id ∙ at_columns step.tables_go step.columns_go) (length-without step.columns_go described (IsAscending-in_order (all_columns p)) step.columns_once step.columns_there) in (
+          tables,
+          (
+            columns,
+            (
+              leaves_all (metadata_table resources_id r) tables_resources_apart columns_resources_apart,
+              (
+                leaves_all (metadata_table rules_id u) tables_rules_apart columns_rules_apart,
+                each_weaker (λ t. is_metadata_id t.id ≡ false) (λ t. length (without (rows_out whole a t.id) t.grid.rows) + length (rows_out whole a t.id) ≡ length t.grid.rows)
+                    (λ t e. let plain : IsPlain t.id = plain_from t.id e in leaves_all t plain.tables plain.columns) p good.plain,
+              ),
+            ),
+          ),
+        )
 
   module _ (good : IsGood r u p) where
     -- the rows of the columns of the plain tables after an action stand once

@@ -1,5 +1,5 @@
 -- Counts after an action that adds records.
-use Rattle.std.proofs.Common.{ℕ, zero, suc, true, false, cond, ◌+◌, ◌*◌, ◌<◌, ◌≤◌, max, List, [], ◌∷◌, ◌++◌, map, length, length-append, ◌≡◌, refl, sym, ap, subst, ◌∙◌, Option, Some, None, arith, ltb}
+use Rattle.std.proofs.Common.{ℕ, zero, suc, true, false, cond, ◌+◌, ◌*◌, ◌≤◌, max, List, [], ◌∷◌, ◌++◌, map, length, length-append, ◌≡◌, refl, sym, ap, subst, ◌∙◌, Option, Some, None, arith, ltb}
 use Rattle.std.proofs.lemmas.Bool.{and_parts, le-ltb, lt-ltb, ltb-true, ltb-false}
 use Rattle.std.proofs.lemmas.Slice.Eq.{bytes_eq-Decides}
 use Rattle.std.specs.List.{AllByRecursion}
@@ -34,16 +34,10 @@ use Rattle.user_actions.specs.Steps.{all_fitted, last_new_row, last_row, numbers
 use Rattle.action_limits.specs.Tallies.{after}
 use Rattle.action_limits.proofs.CountedLemmas.{capped_above, grid_found}
 use Rattle.user_actions.proofs.RecordStepLemmas.{length-numbers_after}
-use Rattle.action_limits.proofs.ExpansionLemmas.{TellsPeaks, has_named-valid}
-use Rattle.action_limits.proofs.PeakMoves.{IsBelow, all_below, each_below}
+use Rattle.action_limits.proofs.ExpansionLemmas.{has_named-valid}
+use Rattle.action_limits.proofs.PeakMoves.{all_below, each_below, never-less}
+use Rattle.action_limits.proofs.Rising.{TellsMore, same_side}
 use Rattle.action_limits.proofs.SumLemmas.{greatest-append, greatest-cons}
-
--- numbers on the same side of a bound
-pub same_side : (b r n : ℕ) → n ≤ max b r → r ≤ max b n → ltb b r ≡ ltb b n
-same_side b r n up low = elim (ltb b r) as (λ c. ltb b r ≡ c → c ≡ ltb b n) [
-  | true ↦ λ is. let lt : b < r = ltb-true b r is in sym (lt-ltb b n (grind arith))
-  | false ↦ λ is. let ge : r ≤ b = ltb-false b r is in sym (le-ltb b n (grind arith))
-] refl
 
 -- each table's grid is what its id finds
 pub grids_found : (s : Document) → IsWhole s → (c : List ℕ) → AllByRecursion (λ t. bytes_eq t.id c ≡ true → grid_at s c ≡ t.grid) s
@@ -172,28 +166,29 @@ greatest_from : (b n count : ℕ) → n ≤ b → n + count ≤ max b (greatest 
 greatest_from b n zero h = grind arith
 greatest_from b n (suc count) h = let e : greatest (numbers_after n (suc count)) ≡ n + suc count = greatest-numbers n count in grind arith
 
-pub add_peaks : (s : Document) (a : UserAction) (count : ℕ) (e : Extent) → IsWhole s → AddsSo a count → all_valid s (map action_of (steps_of s a)) ≡ true → IsBelow s 1024 1000000 4294967295 → IsExtentAdded s (table_of a) count e → TellsPeaks e (after s a)
-add_peaks s (Add table single n explicit ks) count e whole same v below told =
+pub add_peaks : (s : Document) (a : UserAction) (count : ℕ) (e : Extent) → IsWhole s → AddsSo a count → all_valid s (map action_of (steps_of s a)) ≡ true → IsExtentAdded s (table_of a) count e → TellsMore e s (after s a)
+add_peaks s (Add table single n explicit ks) count e whole same v told =
     let rows : List ℕ = numbers_after (last_row s table) n in
     let ok : valid s (BulkAdd table rows (all_fitted s table ks)) ≡ true = (and_parts (valid s (BulkAdd table rows (all_fitted s table ks))) true v).0 in
     let cs : List CellColumn = all_fitted s table ks in
     record {
-      columns = ap (ltb 1024) told.columns ∙ added_columns s whole table rows cs ok 1024 below.columns;
-      rows = ap (ltb 1000000) told.rows ∙ capped_above 1000000 (length (grid_at s table).rows + count) (omega arith)
+      columns = λ le. ap (ltb 1024) told.columns ∙ added_columns s whole table rows cs ok 1024 le;
+      rows = λ le. ap (ltb 1000000) told.rows ∙ capped_above 1000000 (length (grid_at s table).rows + count) (omega arith)
           ∙ ap (λ m. ltb 1000000 (length (grid_at s table).rows + m)) (same ∙ sym (length-numbers_after (last_row s table) n))
-          ∙ added_rows s whole table rows cs ok 1000000 below.rows;
-      row_id = ap (ltb 4294967295) told.row_id ∙ ap (λ m. ltb 4294967295 (last_row s table + m)) same
-          ∙ added_ids s whole table rows cs ok 4294967295 (last_row s table + n) below.row_id (greatest_from 4294967295 (last_row s table) n (last_below s whole table rows cs ok 4294967295 below.row_id)) (greatest_to (last_row s table) n);
+          ∙ added_rows s whole table rows cs ok 1000000 le;
+      row_id = λ le. ap (ltb 4294967295) told.row_id ∙ ap (λ m. ltb 4294967295 (last_row s table + m)) same
+          ∙ added_ids s whole table rows cs ok 4294967295 (last_row s table + n) le (greatest_from 4294967295 (last_row s table) n (last_below s whole table rows cs ok 4294967295 le)) (greatest_to (last_row s table) n);
+      less = never-less s (BulkAdd table rows cs) whole ok refl;
     }
-add_peaks s (Update table single rows ks) count e whole same v below told = absurd same
-add_peaks s (Remove table single rows) count e whole same v below told = absurd same
-add_peaks s (AddTable table cs) count e whole same v below told = absurd same
-add_peaks s (RemoveTable table) count e whole same v below told = absurd same
-add_peaks s (RenameTable table new) count e whole same v below told = absurd same
-add_peaks s (AddColumn table c) count e whole same v below told = absurd same
-add_peaks s (RemoveColumn table column) count e whole same v below told = absurd same
-add_peaks s (RenameColumn table column new) count e whole same v below told = absurd same
-add_peaks s (ModifyColumn table c) count e whole same v below told = absurd same
+add_peaks s (Update table single rows ks) count e whole same v told = absurd same
+add_peaks s (Remove table single rows) count e whole same v told = absurd same
+add_peaks s (AddTable table cs) count e whole same v told = absurd same
+add_peaks s (RemoveTable table) count e whole same v told = absurd same
+add_peaks s (RenameTable table new) count e whole same v told = absurd same
+add_peaks s (AddColumn table c) count e whole same v told = absurd same
+add_peaks s (RemoveColumn table column) count e whole same v told = absurd same
+add_peaks s (RenameColumn table column new) count e whole same v told = absurd same
+add_peaks s (ModifyColumn table c) count e whole same v told = absurd same
 
 pub add_tables : (s : Document) (a : UserAction) (count : ℕ) → IsWhole s → AddsSo a count → all_valid s (map action_of (steps_of s a)) ≡ true → (counts s).tables ≡ (counts (after s a)).tables
 add_tables s (Add table single n explicit ks) count whole same v = sym (added_tables s whole table (numbers_after (last_row s table) n) (all_fitted s table ks) (and_parts (valid s (BulkAdd table (numbers_after (last_row s table) n) (all_fitted s table ks))) true v).0)

@@ -24,6 +24,7 @@ use Rattle.action_limits.specs.declared.limits.Extent.{Extent}
 use Rattle.action_limits.specs.declared.moves.Moved.{Moved}
 use Rattle.action_limits.specs.declared.tally.Tally.{Tally}
 use Rattle.action_limits.specs.Capped.{AreTaken, all_moved, both_noted, capped, has_named, is_there, moved_by, peaks_noted, settled}
+use Rattle.action_limits.specs.Left.{TellsPeaks}
 use Rattle.user_actions.specs.StepLaws.{action_of}
 use Rattle.user_actions.specs.Steps.{steps_of}
 use Rattle.action_limits.specs.Tallies.{IsExpansion, IsTally, after, are_within}
@@ -154,12 +155,6 @@ under c h =
     let wk : (ltb 268435456 c.weight ≡ false) × (◌≡◌ {A = Option LimitKind} None None) = none_chosen (ltb 268435456 c.weight) limit.Weight None nk.1 in
     record { tables = t.0; columns = ck.0; rows = rk.0; row_id = ik.0; cells = nk.0; weight = wk.0 }
 
--- the peaks stand on the same sides as those of the document
-pub record TellsPeaks (e : Extent) (s : Document) : Type 0 where
-  pub columns : ltb 1024 e.columns ≡ ltb 1024 (counts s).columns
-  pub rows : ltb 1000000 e.rows ≡ ltb 1000000 (counts s).rows
-  pub row_id : ltb 4294967295 e.row_id ≡ ltb 4294967295 (counts s).row_id
-
 both_told : (s : Document) (m : Moved) (e : Extent) → TellsSums m s → TellsPeaks e s → first_passed (both_noted m e) ≡ over s
 both_told s m e sums most = first_passed-same (both_noted m e) (counts s) (record {
   tables = ap (ltb 2048) sums.tables ∙ Rattle.action_limits.proofs.CountedLemmas.capped_above 2048 (counts s).tables (omega arith);
@@ -228,10 +223,10 @@ chosen_early false false true i n w kind h = h
 chosen_early false false false true n w kind h = h
 chosen_early false false false false n w kind h = absurd (cc)
 
-pub early_is : (s : Document) (m : Moved) (e : Extent) (kind : LimitKind) → m.tables ≡ (counts s).tables → TellsPeaks e s → first_passed (peaks_noted m e) ≡ Some kind → over s ≡ Some kind
+pub early_is : (s : Document) (m : Moved) (e : Extent) (kind : LimitKind) → ltb 2048 m.tables ≡ ltb 2048 (counts s).tables → TellsPeaks e s → first_passed (peaks_noted m e) ≡ Some kind → over s ≡ Some kind
 early_is s m e kind tables most h =
     chosen_early (ltb 2048 (counts s).tables) (ltb 1024 (counts s).columns) (ltb 1000000 (counts s).rows) (ltb 4294967295 (counts s).row_id) (ltb 4000000 (counts s).cells) (ltb 268435456 (counts s).weight) kind
-    (sym (ap (λ n. chosen (ltb 2048 n) (ltb 1024 e.columns) (ltb 1000000 e.rows) (ltb 4294967295 e.row_id) false false) tables
+    (sym (ap (λ b. chosen b (ltb 1024 e.columns) (ltb 1000000 e.rows) (ltb 4294967295 e.row_id) false false) tables
     ∙ ap (λ b. chosen (ltb 2048 (counts s).tables) b (ltb 1000000 e.rows) (ltb 4294967295 e.row_id) false false) most.columns
     ∙ ap (λ b. chosen (ltb 2048 (counts s).tables) (ltb 1024 (counts s).columns) b (ltb 4294967295 e.row_id) false false) most.rows
     ∙ ap (λ b. chosen (ltb 2048 (counts s).tables) (ltb 1024 (counts s).columns) (ltb 1000000 (counts s).rows) b false false) most.row_id) ∙ h)

@@ -2,6 +2,8 @@ mod SumLemmas
 mod CountedLemmas
 mod SumMoves
 mod PeakMoves
+mod Rising
+mod Leaving
 mod ExpansionLemmas
 mod StepMoves
 mod AddMoves

@@ -1,6 +1,6 @@
 -- The most columns and rows and the greatest row id after an action, against their bounds.
-use Rattle.std.proofs.Common.{ℕ, Bool, true, false, cond, not, ◌≤◌, max, List, [], ◌∷◌, ◌++◌, map, filter, length, ◌≡◌, refl, sym, subst, arith}
-use Rattle.std.proofs.lemmas.Bool.{true≢false}
+use Rattle.std.proofs.Common.{ℕ, Bool, true, false, cond, not, ◌&&◌, ◌+◌, ◌≤◌, max, List, [], ◌∷◌, ◌++◌, map, filter, length, length-append, ◌≡◌, refl, sym, ap, subst, ◌∙◌, arith}
+use Rattle.std.proofs.lemmas.Bool.{and_parts, true≢false}
 use Rattle.std.specs.List.{AllByRecursion}
 use Rattle.std.specs.Str.{bytes_eq}
 use Rattle.doc_model.specs.declared.action.DocAction.{DocAction}
@@ -13,9 +13,10 @@ use Rattle.doc_model.specs.DocumentLaws.{IsWhole}
 use Rattle.doc_model.specs.PeakLaws.{AreGreatest, Peaks, columns_then, new_peaks, peaks_after, peaks_then, rows_in, rows_out, staying}
 use Rattle.doc_model.specs.Rows.{has, without}
 use Rattle.doc_model.specs.Valid.{valid}
-use Rattle.doc_model.proofs.Choices.{each_weaker}
+use Rattle.doc_model.proofs.Choices.{each_weaker, map-map, not_true}
+use Rattle.doc_model.proofs.PeakSums.{without-none}
 use Rattle.doc_model.proofs.SchemaPeaks.{peaks-apply}
-use Rattle.action_limits.proofs.SumLemmas.{greatest-cons}
+use Rattle.action_limits.proofs.SumLemmas.{greatest-append, greatest-cons, map-append}
 
 -- ---- the greatest of a list and a bound
 
@@ -48,6 +49,15 @@ length-filter p (x ∷ xs) =
     let later : length (filter p xs) ≤ length xs = length-filter p xs in
     elim (p x) as (λ c. length (cond c (x ∷ filter p xs) (filter p xs)) ≤ length (x ∷ xs)) [ true ↦ omega arith | false ↦ omega arith ]
 
+greatest_more : {X : Type 0} (h k : X → ℕ) → ((x : X) → h x ≤ k x) → (xs : List X) → greatest (map h xs) ≤ greatest (map k xs)
+greatest_more h k more [] = omega arith
+greatest_more h k more (x ∷ xs) =
+    let one : greatest (h x ∷ map h xs) ≡ max (h x) (greatest (map h xs)) = greatest-cons (h x) (map h xs) in
+    let two : greatest (k x ∷ map k xs) ≡ max (k x) (greatest (map k xs)) = greatest-cons (k x) (map k xs) in
+    let here : h x ≤ k x = more x in
+    let later : greatest (map h xs) ≤ greatest (map k xs) = greatest_more h k more xs in
+    grind arith
+
 -- ---- actions after which no table has more
 
 abbrev pub is_growing : DocAction → Bool
@@ -56,7 +66,7 @@ is_growing (AddTable table row columns) = true
 is_growing (AddColumn table d) = true
 is_growing _ = false
 
-no_new_table : (a : DocAction) → is_growing a ≡ false → new_peaks a ≡ []
+pub no_new_table : (a : DocAction) → is_growing a ≡ false → new_peaks a ≡ []
 no_new_table (BulkAdd table rows ks) h = refl
 no_new_table (BulkUpdate table rows ks) h = refl
 no_new_table (BulkRemove table rows) h = refl
@@ -68,7 +78,7 @@ no_new_table (RemoveColumn table column) h = refl
 no_new_table (RenameColumn table column new) h = refl
 no_new_table (ModifyColumn table column info) h = refl
 
-no_new_rows : (a : DocAction) (id : List ℕ) → is_growing a ≡ false → rows_in a id ≡ []
+pub no_new_rows : (a : DocAction) (id : List ℕ) → is_growing a ≡ false → rows_in a id ≡ []
 no_new_rows (BulkAdd table rows ks) id h = absurd (true≢false h)
 no_new_rows (BulkUpdate table rows ks) id h = refl
 no_new_rows (BulkRemove table rows) id h = refl
@@ -151,4 +161,90 @@ stays-below s a c r i whole v shrinks below =
       columns = subst (λ n. n ≤ c) (sym told.columns) (stays_below (λ (p : Peaks). p.columns) c s a (λ (t : Table). length t.grid.columns) shrinks (λ t. no_new_columns a t shrinks) below.columns);
       rows = subst (λ n. n ≤ r) (sym told.rows) (stays_below (λ (p : Peaks). p.rows) r s a (λ (t : Table). length t.grid.rows) shrinks (λ t. fewer_rows s a t shrinks) below.rows);
       row_id = subst (λ n. n ≤ i) (sym told.row_id) (stays_below (λ (p : Peaks). p.row_id) i s a (λ (t : Table). greatest t.grid.rows) shrinks (λ t. lesser_rows s a t shrinks) below.row_id);
+    }
+
+-- ---- actions after which no table has less
+
+abbrev pub is_taking : DocAction → Bool
+is_taking (BulkRemove table rows) = true
+is_taking (RemoveTable table) = true
+is_taking (RemoveColumn table column) = true
+is_taking _ = false
+
+-- every table stays, with its rows and its columns
+record AreKept (s : Document) (a : DocAction) : Type 0 where
+  rows : (id : List ℕ) → rows_out s a id ≡ []
+  tables : staying a s ≡ s
+  columns : (t : Table) → length t.grid.columns ≤ columns_then a t
+
+are_kept : (s : Document) (a : DocAction) → is_taking a ≡ false → AreKept s a
+are_kept s (BulkAdd table rows ks) h = record { rows = λ id. refl; tables = refl; columns = λ t. omega arith }
+are_kept s (BulkUpdate table rows ks) h = record { rows = λ id. refl; tables = refl; columns = λ t. omega arith }
+are_kept s (BulkRemove table rows) h = absurd (true≢false h)
+are_kept s (AddTable table row columns) h = record { rows = λ id. refl; tables = refl; columns = λ t. omega arith }
+are_kept s (RemoveTable table) h = absurd (true≢false h)
+are_kept s (RenameTable table new) h = record { rows = λ id. refl; tables = refl; columns = λ t. omega arith }
+are_kept s (AddColumn table d) h = record { rows = λ id. refl; tables = refl; columns = λ t. omega arith }
+are_kept s (RemoveColumn table column) h = absurd (true≢false h)
+are_kept s (RenameColumn table column new) h = record { rows = λ id. refl; tables = refl; columns = λ t. omega arith }
+are_kept s (ModifyColumn table column info) h = record { rows = λ id. refl; tables = refl; columns = λ t. omega arith }
+
+-- what is no less in each table is no less in all
+rises : (f : Peaks → ℕ) (s : Document) (a : DocAction) (h : Table → ℕ) → AreKept s a → ((t : Table) → h t ≤ f (peaks_then s a t)) → greatest (map h s) ≤ greatest (map f (peaks_after s a))
+rises f s a h kept more =
+    let all : greatest (map f (new_peaks a ++ map (peaks_then s a) (staying a s))) ≡ max (greatest (map f (new_peaks a))) (greatest (map f (map (peaks_then s a) (staying a s))))
+    = ap greatest (map-append f (new_peaks a) (map (peaks_then s a) (staying a s))) ∙ greatest-append (map f (new_peaks a)) (map f (map (peaks_then s a) (staying a s))) in
+    let stay : greatest (map f (map (peaks_then s a) (staying a s))) ≡ greatest (map (λ t. f (peaks_then s a t)) s)
+    = ap (λ ts. greatest (map f (map (peaks_then s a) ts))) kept.tables ∙ ap greatest (sym (map-map f (peaks_then s a) s)) in
+    let each : greatest (map h s) ≤ greatest (map (λ t. f (peaks_then s a t)) s) = greatest_more h (λ t. f (peaks_then s a t)) more s in
+    grind arith
+
+no_fewer : (ins rows : List ℕ) → length rows ≤ length (ins ++ without [] rows)
+no_fewer ins rows =
+    let all : length (ins ++ without [] rows) ≡ length ins + length (without [] rows) = length-append ins (without [] rows) in
+    let same : length (without [] rows) ≡ length rows = ap length (without-none rows) in
+    omega arith
+
+no_lesser : (ins rows : List ℕ) → greatest rows ≤ greatest (ins ++ without [] rows)
+no_lesser ins rows =
+    let all : greatest (ins ++ without [] rows) ≡ max (greatest ins) (greatest (without [] rows)) = greatest-append ins (without [] rows) in
+    let same : greatest (without [] rows) ≡ greatest rows = ap greatest (without-none rows) in
+    grind arith
+
+-- the peaks of the document are no greater than those after the action
+pub never-less : (s : Document) (a : DocAction) → IsWhole s → valid s a ≡ true → is_taking a ≡ false → IsBelow s (counts (apply s a)).columns (counts (apply s a)).rows (counts (apply s a)).row_id
+never-less s a whole v keeps =
+    let told : AreGreatest (counts (apply s a)) (peaks_after s a) = peaks-apply s a whole v in
+    let kept : AreKept s a = are_kept s a keeps in
+    record {
+      columns = subst (λ n. (counts s).columns ≤ n) (sym told.columns) (rises (λ (p : Peaks). p.columns) s a (λ (t : Table). length t.grid.columns) kept kept.columns);
+      rows = subst (λ n. (counts s).rows ≤ n) (sym told.rows) (rises (λ (p : Peaks). p.rows) s a (λ (t : Table). length t.grid.rows) kept
+          (λ t. subst (λ out. length t.grid.rows ≤ length (rows_in a t.id ++ without out t.grid.rows)) (sym (kept.rows t.id)) (no_fewer (rows_in a t.id) t.grid.rows)));
+      row_id = subst (λ n. (counts s).row_id ≤ n) (sym told.row_id) (rises (λ (p : Peaks). p.row_id) s a (λ (t : Table). greatest t.grid.rows) kept
+          (λ t. subst (λ out. greatest t.grid.rows ≤ greatest (rows_in a t.id ++ without out t.grid.rows)) (sym (kept.rows t.id)) (no_lesser (rows_in a t.id) t.grid.rows)));
+    }
+
+-- ---- actions after which all is as before
+
+abbrev pub is_quiet : DocAction → Bool
+is_quiet a = not (is_growing a) && not (is_taking a)
+
+pub record SamePeaks (s s' : Document) : Type 0 where
+  pub columns : (counts s').columns ≡ (counts s).columns
+  pub rows : (counts s').rows ≡ (counts s).rows
+  pub row_id : (counts s').row_id ≡ (counts s).row_id
+
+as_great : (m n : ℕ) → m ≤ n → n ≤ m → m ≡ n
+as_great m n a b = omega arith
+
+pub peaks-quiet : (s : Document) (a : DocAction) → IsWhole s → valid s a ≡ true → is_quiet a ≡ true → SamePeaks s (apply s a)
+peaks-quiet s a whole v quiet =
+    let both : (not (is_growing a) ≡ true) × (not (is_taking a) ≡ true) = and_parts (not (is_growing a)) (not (is_taking a)) quiet in
+    let up : IsBelow (apply s a) (counts s).columns (counts s).rows (counts s).row_id
+    = stays-below s a (counts s).columns (counts s).rows (counts s).row_id whole v (not_true (is_growing a) both.0) (record { columns = omega arith; rows = omega arith; row_id = omega arith }) in
+    let low : IsBelow s (counts (apply s a)).columns (counts (apply s a)).rows (counts (apply s a)).row_id = never-less s a whole v (not_true (is_taking a) both.1) in
+    record {
+      columns = as_great (counts (apply s a)).columns (counts s).columns up.columns low.columns;
+      rows = as_great (counts (apply s a)).rows (counts s).rows up.rows low.rows;
+      row_id = as_great (counts (apply s a)).row_id (counts s).row_id up.row_id low.row_id;
     }

@@ -1,5 +1,5 @@
 -- Counts after an action that adds a table or a column.
-use Rattle.std.proofs.Common.{ℕ, suc, true, false, cond, ◌+◌, ◌≤◌, max, List, [], ◌∷◌, ◌++◌, map, length, length-append, ◌≡◌, refl, sym, ap, subst, ◌∙◌, Some, arith, ltb}
+use Rattle.std.proofs.Common.{ℕ, suc, true, false, cond, ◌+◌, ◌<◌, ◌≤◌, max, List, [], ◌∷◌, ◌++◌, map, length, length-append, ◌≡◌, refl, sym, ap, subst, ◌∙◌, Option, Some, None, arith, ltb}
 use Rattle.std.proofs.lemmas.Bool.{and_parts, true≢false}
 use Rattle.std.proofs.lemmas.Slice.Eq.{bytes_eq-Decides}
 use Rattle.std.specs.List.{AllByRecursion}
@@ -13,6 +13,7 @@ use Rattle.doc_model.specs.declared.user_action.UserCol.{UserCol}
 use Rattle.doc_model.specs.Apply.{all_valid, apply}
 use Rattle.doc_model.specs.ByIds.{find_id}
 use Rattle.doc_model.specs.Column.{column_row}
+use Rattle.doc_model.specs.CountLaws.{Sums, SumsMove, come, nothing}
 use Rattle.doc_model.specs.Counts.{counts, greatest}
 use Rattle.doc_model.specs.Document.{Document, Table, table_id}
 use Rattle.doc_model.specs.DocumentLaws.{IsWhole}
@@ -25,19 +26,21 @@ use Rattle.doc_model.specs.Valid.{valid}
 use Rattle.doc_model.proofs.ByIdsLaws.{bytes_itself, found_all, found_id}
 use Rattle.doc_model.proofs.Choices.{each_both, each_weaker}
 use Rattle.doc_model.proofs.PeakSums.{without-none}
+use Rattle.doc_model.proofs.SchemaCounts.{counts-apply}
 use Rattle.doc_model.proofs.SchemaPeaks.{peaks-apply}
 use Rattle.doc_model.proofs.WholeLaws.{tables_columns_apart}
 use Rattle.doc_readers.specs.Parts.{grid_at}
 use Rattle.action_limits.specs.declared.limits.Extent.{Extent}
 use Rattle.action_limits.specs.Capped.{capped}
-use Rattle.action_limits.specs.Grown.{IsExtentDescribed, IsExtentGrown, grows_schema}
+use Rattle.action_limits.specs.Grown.{IsExtentDescribed, IsExtentGrown, grows_schema, new_tables}
 use Rattle.user_actions.specs.StepLaws.{action_of}
-use Rattle.user_actions.specs.Steps.{column_said, last_row, new_columns, steps_of, table_said}
+use Rattle.user_actions.specs.Steps.{column_said, last_new_row, last_row, new_columns, steps_of, table_said}
 use Rattle.action_limits.specs.Tallies.{after}
-use Rattle.action_limits.proofs.AddMoves.{found_below, grids_found, known_below, mapped_below, same_side, table_there}
+use Rattle.action_limits.proofs.AddMoves.{found_below, grids_found, known_below, mapped_below, table_there}
 use Rattle.action_limits.proofs.CountedLemmas.{capped_above, grid_found}
-use Rattle.action_limits.proofs.ExpansionLemmas.{TellsPeaks, has_named-valid}
-use Rattle.action_limits.proofs.PeakMoves.{IsBelow}
+use Rattle.action_limits.proofs.ExpansionLemmas.{has_named-valid}
+use Rattle.action_limits.proofs.PeakMoves.{never-less}
+use Rattle.action_limits.proofs.Rising.{TellsMore, same_side}
 use Rattle.action_limits.proofs.SumLemmas.{greatest-append, greatest-cons}
 
 -- ---- the schema tables are there
@@ -192,8 +195,8 @@ greatest-new_columns b taken row (c ∷ cs) =
 
 -- ---- the two actions
 
-table_peaks : (s : Document) (table : List ℕ) (cs : List UserCol) (e : Extent) → IsWhole s → valid s (table_said s table cs) ≡ true → IsBelow s 1024 1000000 4294967295 → IsExtentDescribed s (length cs) 1 (length cs) e → TellsPeaks e (apply s (table_said s table cs))
-table_peaks s table cs e whole v below told =
+table_peaks : (s : Document) (table : List ℕ) (cs : List UserCol) (e : Extent) → IsWhole s → valid s (table_said s table cs) ≡ true → IsExtentDescribed s (length cs) 1 (length cs) e → TellsMore e s (apply s (table_said s table cs))
+table_peaks s table cs e whole v told =
     let act : DocAction = table_said s table cs in
     let ds : List ColDef = new_columns [] (last_row s columns_id) cs in
     let xs : List ℕ = (last_row s tables_id + 1) ∷ [] in
@@ -204,57 +207,63 @@ table_peaks s table cs e whole v below told =
     let gc : ℕ = greatest (map (λ (p : Peaks). p.columns) (map (peaks_then s act) s)) in
     let gr : ℕ = greatest (map (λ (p : Peaks). p.rows) (map (peaks_then s act) s)) in
     let gi : ℕ = greatest (map (λ (p : Peaks). p.row_id) (map (peaks_then s act) s)) in
-    let old_wide : gc ≤ 1024 = mapped_below (λ (p : Peaks). p.columns) (peaks_then s act) 1024 s (known_below s (λ (t : Table). length t.grid.columns) 1024 below.columns) in
     let columns_told : (counts (apply s act)).columns ≡ max (length ds) gc = most.columns ∙ greatest-cons (length ds) (map (λ (p : Peaks). p.columns) (map (peaks_then s act) s)) in
     let rows_told : (counts (apply s act)).rows ≡ gr = most.rows ∙ greatest-cons 0 (map (λ (p : Peaks). p.rows) (map (peaks_then s act) s)) ∙ max_zero gr in
     let ids_told : (counts (apply s act)).row_id ≡ gi = most.row_id ∙ greatest-cons 0 (map (λ (p : Peaks). p.row_id) (map (peaks_then s act) s)) ∙ max_zero gi in
     let one : (t : Table) × (find_id table_id columns_id s ≡ Some t) = columns_found s whole in
     let facts : (greatest ys ≤ last_row s columns_id + length cs) × (last_row s columns_id ≤ 4294967295 → last_row s columns_id + length cs ≤ max 4294967295 (greatest ys)) = greatest-new_columns 4294967295 [] (last_row s columns_id) cs in
-    let low : last_row s columns_id + length cs ≤ max 4294967295 (greatest ys) = facts.1 (last_below s columns_id one.0 one.1 4294967295 below.row_id) in
     let up : greatest ys ≤ last_row s columns_id + length cs = facts.0 in
     let single : greatest xs ≡ max (last_row s tables_id + 1) 0 = greatest-cons (last_row s tables_id + 1) [] in
     let last : ℕ = max (last_row s tables_id + 1) (last_row s columns_id + length cs) in
     record {
-      columns = ap (ltb 1024) told.columns ∙ same_side 1024 (length cs) (counts (apply s act)).columns (grind arith) (grind arith);
-      rows = ap (ltb 1000000) (told.rows ∙ capped_max (length (grid_at s tables_id).rows + 1) (length (grid_at s columns_id).rows + length cs))
+      columns = λ le.
+          let old_wide : gc ≤ 1024 = mapped_below (λ (p : Peaks). p.columns) (peaks_then s act) 1024 s (known_below s (λ (t : Table). length t.grid.columns) 1024 le) in
+          ap (ltb 1024) told.columns ∙ same_side 1024 (length cs) (counts (apply s act)).columns (grind arith) (grind arith);
+      rows = λ le. ap (ltb 1000000) (told.rows ∙ capped_max (length (grid_at s tables_id).rows + 1) (length (grid_at s columns_id).rows + length cs))
           ∙ capped_above 1000000 (max (length (grid_at s tables_id).rows + 1) (length (grid_at s columns_id).rows + length cs)) (omega arith)
           ∙ ap (λ n. ltb 1000000 (max (length (grid_at s tables_id).rows + 1) (length (grid_at s columns_id).rows + n))) (sym many)
-          ∙ rows_side s whole xs ys (peaks_then s act) (λ t. refl) (λ t. refl) 1000000 (counts (apply s act)).rows below.rows rows_told;
-      row_id = ap (ltb 4294967295) (told.row_id ∙ capped_max (last_row s tables_id + 1) (last_row s columns_id + length cs))
+          ∙ rows_side s whole xs ys (peaks_then s act) (λ t. refl) (λ t. refl) 1000000 (counts (apply s act)).rows le rows_told;
+      row_id = λ le.
+          let low : last_row s columns_id + length cs ≤ max 4294967295 (greatest ys) = facts.1 (last_below s columns_id one.0 one.1 4294967295 le) in
+          ap (ltb 4294967295) (told.row_id ∙ capped_max (last_row s tables_id + 1) (last_row s columns_id + length cs))
           ∙ capped_above 4294967295 last (omega arith)
-          ∙ ids_side s whole xs ys (peaks_then s act) (λ t. refl) (λ t. refl) 4294967295 last (counts (apply s act)).row_id below.row_id ids_told (grind arith) (grind arith) (grind arith);
+          ∙ ids_side s whole xs ys (peaks_then s act) (λ t. refl) (λ t. refl) 4294967295 last (counts (apply s act)).row_id le ids_told (grind arith) (grind arith) (grind arith);
+      less = never-less s act whole v refl;
     }
 
-column_peaks : (s : Document) (table : List ℕ) (d : ColDef) (e : Extent) → IsWhole s → valid s (action.AddColumn table d) ≡ true → d.row ≡ last_row s columns_id + 1 → IsBelow s 1024 1000000 4294967295
-    → IsExtentDescribed s (capped (length (grid_at s table).columns + 1)) 0 1 e → TellsPeaks e (apply s (action.AddColumn table d))
-column_peaks s table d e whole v row below told =
+column_peaks : (s : Document) (table : List ℕ) (d : ColDef) (e : Extent) → IsWhole s → valid s (action.AddColumn table d) ≡ true → d.row ≡ last_row s columns_id + 1
+    → IsExtentDescribed s (capped (length (grid_at s table).columns + 1)) 0 1 e → TellsMore e s (apply s (action.AddColumn table d))
+column_peaks s table d e whole v row told =
     let act : DocAction = action.AddColumn table d in
     let ys : List ℕ = d.row ∷ [] in
     let most : AreGreatest (counts (apply s act)) (peaks_after s act) = peaks-apply s act whole v in
     let mine : (t : Table) × (find_id table_id table s ≡ Some t) = table_there s table (has_named-valid s act v) in
     let n : ℕ = length (grid_at s table).columns + 1 in
     let one : (t : Table) × (find_id table_id tables_id s ≡ Some t) = tables_found s whole in
-    let up : (counts (apply s act)).columns ≤ max 1024 n = subst (λ k. k ≤ max 1024 n) (sym most.columns) (mapped_below (λ (p : Peaks). p.columns) (peaks_then s act) (max 1024 n) s
-    (each_weaker (λ t. (length t.grid.columns ≤ 1024) × (bytes_eq t.id table ≡ true → grid_at s table ≡ t.grid)) (λ t. length t.grid.columns + cond (bytes_eq t.id table) 1 0 ≤ max 1024 n) (λ t k. columns_one s table t k.0 k.1) s
-    (each_both (λ t. length t.grid.columns ≤ 1024) (λ t. bytes_eq t.id table ≡ true → grid_at s table ≡ t.grid) s (known_below s (λ (t : Table). length t.grid.columns) 1024 below.columns) (grids_found s whole table)))) in
     let here : length mine.0.grid.columns + cond (bytes_eq mine.0.id table) 1 0 ≤ (counts (apply s act)).columns
     = subst (λ k. length mine.0.grid.columns + cond (bytes_eq mine.0.id table) 1 0 ≤ k) (sym most.columns) (found_below (λ (p : Peaks). p.columns) (peaks_then s act) s table mine.0 mine.1) in
     let is : ◌≡◌ {A = ℕ} (cond (bytes_eq mine.0.id table) 1 0) 1 = ap (λ c. let k : ℕ = cond c 1 0 in k) (ap (λ n. bytes_eq n table) (found_id table_id table s mine.0 mine.1) ∙ bytes_itself table) in
     let own : length (grid_at s table).columns ≡ length mine.0.grid.columns = ap (λ (g : Grid ColDef). length g.columns) (grid_found s table mine.0 mine.1) in
     let low : n ≤ (counts (apply s act)).columns = omega (arith, here, is, own) in
     let single : greatest ys ≡ max d.row 0 = greatest-cons d.row [] in
-    let first : last_row s tables_id ≤ 4294967295 = last_below s tables_id one.0 one.1 4294967295 below.row_id in
     let last : ℕ = max (last_row s tables_id + 0) (last_row s columns_id + 1) in
-    let mid : ltb 4294967295 last ≡ ltb 4294967295 (last_row s columns_id + 1) = same_side 4294967295 last (last_row s columns_id + 1) (grind arith) (grind arith) in
     record {
-      columns = ap (ltb 1024) told.columns ∙ capped_above 1024 n (omega arith) ∙ same_side 1024 n (counts (apply s act)).columns up (grind arith);
-      rows = ap (ltb 1000000) (told.rows ∙ capped_max (length (grid_at s tables_id).rows + 0) (length (grid_at s columns_id).rows + 1))
+      columns = λ le.
+          let up : (counts (apply s act)).columns ≤ max 1024 n = subst (λ k. k ≤ max 1024 n) (sym most.columns) (mapped_below (λ (p : Peaks). p.columns) (peaks_then s act) (max 1024 n) s
+          (each_weaker (λ t. (length t.grid.columns ≤ 1024) × (bytes_eq t.id table ≡ true → grid_at s table ≡ t.grid)) (λ t. length t.grid.columns + cond (bytes_eq t.id table) 1 0 ≤ max 1024 n) (λ t k. columns_one s table t k.0 k.1) s
+          (each_both (λ t. length t.grid.columns ≤ 1024) (λ t. bytes_eq t.id table ≡ true → grid_at s table ≡ t.grid) s (known_below s (λ (t : Table). length t.grid.columns) 1024 le) (grids_found s whole table)))) in
+          ap (ltb 1024) told.columns ∙ capped_above 1024 n (omega arith) ∙ same_side 1024 n (counts (apply s act)).columns up (grind arith);
+      rows = λ le. ap (ltb 1000000) (told.rows ∙ capped_max (length (grid_at s tables_id).rows + 0) (length (grid_at s columns_id).rows + 1))
           ∙ capped_above 1000000 (max (length (grid_at s tables_id).rows + 0) (length (grid_at s columns_id).rows + 1)) (omega arith)
-          ∙ rows_side s whole [] ys (peaks_then s act) (λ t. refl) (λ t. refl) 1000000 (counts (apply s act)).rows below.rows most.rows;
-      row_id = ap (ltb 4294967295) (told.row_id ∙ capped_max (last_row s tables_id + 0) (last_row s columns_id + 1))
+          ∙ rows_side s whole [] ys (peaks_then s act) (λ t. refl) (λ t. refl) 1000000 (counts (apply s act)).rows le most.rows;
+      row_id = λ le.
+          let first : last_row s tables_id ≤ 4294967295 = last_below s tables_id one.0 one.1 4294967295 le in
+          let mid : ltb 4294967295 last ≡ ltb 4294967295 (last_row s columns_id + 1) = same_side 4294967295 last (last_row s columns_id + 1) (grind arith) (grind arith) in
+          ap (ltb 4294967295) (told.row_id ∙ capped_max (last_row s tables_id + 0) (last_row s columns_id + 1))
           ∙ capped_above 4294967295 last (omega arith)
           ∙ mid
-          ∙ ids_side s whole [] ys (peaks_then s act) (λ t. refl) (λ t. refl) 4294967295 (last_row s columns_id + 1) (counts (apply s act)).row_id below.row_id most.row_id (omega arith) (grind arith) (grind arith);
+          ∙ ids_side s whole [] ys (peaks_then s act) (λ t. refl) (λ t. refl) 4294967295 (last_row s columns_id + 1) (counts (apply s act)).row_id le most.row_id (omega arith) (grind arith) (grind arith);
+      less = never-less s act whole v refl;
     }
   where
     columns_one : (s : Document) (table : List ℕ) (t : Table) → length t.grid.columns ≤ 1024 → (bytes_eq t.id table ≡ true → grid_at s table ≡ t.grid)
@@ -264,17 +273,54 @@ column_peaks s table d e whole v row below told =
       | false ↦ λ _. grind arith
     ] refl
 
-pub grown_peaks : (s : Document) (a : UserAction) (e : Extent) → IsWhole s → grows_schema a ≡ true → all_valid s (map action_of (steps_of s a)) ≡ true → IsBelow s 1024 1000000 4294967295 → IsExtentGrown s a e → TellsPeaks e (after s a)
-grown_peaks s (AddTable table cs) e whole grows v below told = table_peaks s table cs e whole (and_parts (valid s (table_said s table cs)) true v).0 below told
-grown_peaks s (AddColumn table c) e whole grows v below told = column_peaks s table (column_said s table c) e whole (and_parts (valid s (action.AddColumn table (column_said s table c))) true v).0 refl below told
-grown_peaks s (Add table single n explicit ks) e whole grows v below told = absurd (true≢false (sym grows))
-grown_peaks s (Update table single rows ks) e whole grows v below told = absurd (true≢false (sym grows))
-grown_peaks s (Remove table single rows) e whole grows v below told = absurd (true≢false (sym grows))
-grown_peaks s (RemoveTable table) e whole grows v below told = absurd (true≢false (sym grows))
-grown_peaks s (RenameTable table new) e whole grows v below told = absurd (true≢false (sym grows))
-grown_peaks s (RemoveColumn table column) e whole grows v below told = absurd (true≢false (sym grows))
-grown_peaks s (RenameColumn table column new) e whole grows v below told = absurd (true≢false (sym grows))
-grown_peaks s (ModifyColumn table c) e whole grows v below told = absurd (true≢false (sym grows))
+pub grown_peaks : (s : Document) (a : UserAction) (e : Extent) → IsWhole s → grows_schema a ≡ true → all_valid s (map action_of (steps_of s a)) ≡ true → IsExtentGrown s a e → TellsMore e s (after s a)
+grown_peaks s (AddTable table cs) e whole grows v told = table_peaks s table cs e whole (and_parts (valid s (table_said s table cs)) true v).0 told
+grown_peaks s (AddColumn table c) e whole grows v told = column_peaks s table (column_said s table c) e whole (and_parts (valid s (action.AddColumn table (column_said s table c))) true v).0 refl told
+grown_peaks s (Add table single n explicit ks) e whole grows v told = absurd (true≢false (sym grows))
+grown_peaks s (Update table single rows ks) e whole grows v told = absurd (true≢false (sym grows))
+grown_peaks s (Remove table single rows) e whole grows v told = absurd (true≢false (sym grows))
+grown_peaks s (RemoveTable table) e whole grows v told = absurd (true≢false (sym grows))
+grown_peaks s (RenameTable table new) e whole grows v told = absurd (true≢false (sym grows))
+grown_peaks s (RemoveColumn table column) e whole grows v told = absurd (true≢false (sym grows))
+grown_peaks s (RenameColumn table column new) e whole grows v told = absurd (true≢false (sym grows))
+grown_peaks s (ModifyColumn table c) e whole grows v told = absurd (true≢false (sym grows))
+
+-- how many tables there are after it
+pub grown_tables : (s : Document) (a : UserAction) → IsWhole s → grows_schema a ≡ true → all_valid s (map action_of (steps_of s a)) ≡ true → (counts (after s a)).tables ≡ (counts s).tables + new_tables a
+grown_tables s (AddTable table cs) whole grows v =
+    let moved : SumsMove s (apply s (table_said s table cs)) (table_said s table cs) = counts-apply s (table_said s table cs) whole (and_parts (valid s (table_said s table cs)) true v).0 in
+    let sums : (counts (apply s (table_said s table cs))).tables + 0 ≡ (counts s).tables + 1 = moved.tables in
+    omega (arith, sums)
+grown_tables s (AddColumn table c) whole grows v =
+    let act : DocAction = action.AddColumn table (column_said s table c) in
+    let moved : SumsMove s (apply s act) act = counts-apply s act whole (and_parts (valid s act) true v).0 in
+    let none : (come s act).tables ≡ 0 = elim (find_id table_id table s) as (λ (o : Option Table). (elim o as (λ _. Sums) [ None ↦ nothing | Some t ↦ record { tables = 0; cells = length t.grid.rows; weight = 0 } ]).tables ≡ 0) [ None ↦ refl | Some t ↦ refl ] in
+    let sums : (counts (apply s act)).tables + 0 ≡ (counts s).tables + (come s act).tables = moved.tables in
+    omega (arith, sums, none)
+grown_tables s (Add table single n explicit ks) whole grows v = absurd (true≢false (sym grows))
+grown_tables s (Update table single rows ks) whole grows v = absurd (true≢false (sym grows))
+grown_tables s (Remove table single rows) whole grows v = absurd (true≢false (sym grows))
+grown_tables s (RemoveTable table) whole grows v = absurd (true≢false (sym grows))
+grown_tables s (RenameTable table new) whole grows v = absurd (true≢false (sym grows))
+grown_tables s (RemoveColumn table column) whole grows v = absurd (true≢false (sym grows))
+grown_tables s (RenameColumn table column new) whole grows v = absurd (true≢false (sym grows))
+grown_tables s (ModifyColumn table c) whole grows v = absurd (true≢false (sym grows))
+
+last_capped : (m n e : ℕ) → e ≡ max (capped m) (capped n) → 4294967295 < max m n → 4294967295 < e
+last_capped m n e is past = grind arith
+
+-- a new row past the last row id is seen by the peaks
+pub grown_last : (s : Document) (a : UserAction) (e : Extent) → grows_schema a ≡ true → IsExtentGrown s a e → 4294967295 < last_new_row s a → 4294967295 < e.row_id
+grown_last s (AddTable table cs) e grows told past = last_capped (last_row s tables_id + 1) (last_row s columns_id + length cs) e.row_id told.row_id past
+grown_last s (AddColumn table c) e grows told past = last_capped (last_row s tables_id + 0) (last_row s columns_id + 1) e.row_id told.row_id (grind arith)
+grown_last s (Add table single n explicit ks) e grows told past = absurd (true≢false (sym grows))
+grown_last s (Update table single rows ks) e grows told past = absurd (true≢false (sym grows))
+grown_last s (Remove table single rows) e grows told past = absurd (true≢false (sym grows))
+grown_last s (RemoveTable table) e grows told past = absurd (true≢false (sym grows))
+grown_last s (RenameTable table new) e grows told past = absurd (true≢false (sym grows))
+grown_last s (RemoveColumn table column) e grows told past = absurd (true≢false (sym grows))
+grown_last s (RenameColumn table column new) e grows told past = absurd (true≢false (sym grows))
+grown_last s (ModifyColumn table c) e grows told past = absurd (true≢false (sym grows))
 
 pub grown_few : (s : Document) (a : UserAction) → grows_schema a ≡ true → length (steps_of s a) ≤ 1
 grown_few s (AddTable table cs) grows = omega arith

@@ -1,5 +1,5 @@
 -- Sums and peaks after the steps of an action that makes no rows.
-use Rattle.std.proofs.Common.{ℕ, Bool, true, false, cond, not, ◌&&◌, ◌||◌, ◌+◌, ◌-◌, ◌^◌, ◌<◌, ◌≤◌, List, [], ◌∷◌, map, length, ◌≡◌, refl, sym, ap, subst, ◌∙◌, Option, Some, None, arith}
+use Rattle.std.proofs.Common.{ℕ, Bool, true, false, cond, not, ◌&&◌, ◌||◌, ◌+◌, ◌-◌, ◌^◌, ◌<◌, ◌≤◌, List, [], ◌∷◌, map, length, ◌≡◌, refl, sym, ap, subst, ◌∙◌, Option, Some, None, arith, ltb}
 use Rattle.std.proofs.lemmas.Bool.{and_parts, false≢true, true≢false, le-ltb}
 use Rattle.std.specs.List.{list_all}
 use Rattle.std.specs.Option.{option_map}
@@ -26,7 +26,7 @@ use Rattle.doc_model.specs.Valid.{all_null, schema_table, valid}
 use Rattle.doc_model.specs.ViewEdits.{if_any}
 use Rattle.doc_model.proofs.ByIdsLaws.{bytes_itself}
 use Rattle.doc_model.proofs.ByRowLaws.{find-with_id}
-use Rattle.doc_model.proofs.Choices.{both_true, cond_true}
+use Rattle.doc_model.proofs.Choices.{both_true, cond_true, not_true}
 use Rattle.doc_model.proofs.ColumnsKept.{cell-with_info}
 use Rattle.doc_model.proofs.DocumentParts.{applied, find_plain, passes_parts, schema_table_parts}
 use Rattle.doc_model.proofs.InverseLaws.{IsWhole-apply}
@@ -34,14 +34,16 @@ use Rattle.doc_model.proofs.SchemaCounts.{counts-apply}
 use Rattle.doc_model.proofs.TotalsLaws.{sum_of}
 use Rattle.doc_model.proofs.WholeLaws.{IsPlain}
 use Rattle.doc_readers.specs.Parts.{grid_at}
+use Rattle.action_limits.specs.declared.limits.Extent.{Extent}
 use Rattle.action_limits.specs.declared.moves.Moved.{Moved}
 use Rattle.action_limits.specs.Capped.{all_moved, capped, has_named, is_there, moved_by, no_more}
+use Rattle.action_limits.specs.Left.{TellsPeaks, takes_away}
 use Rattle.user_actions.specs.Kinds.{makes_rows}
 use Rattle.user_actions.specs.StepLaws.{action_of}
 use Rattle.user_actions.specs.Steps.{all_fitted, column_refitted, direct, indirect, info_said, retyped, row_ids, rows_changed, steps_of}
 use Rattle.action_limits.specs.Tallies.{after}
-use Rattle.action_limits.proofs.ExpansionLemmas.{IsExact, TellsPeaks, TellsSums, any_there, any_told, has_named-valid, none_told, one_told}
-use Rattle.action_limits.proofs.PeakMoves.{IsBelow, is_growing, stays-below}
+use Rattle.action_limits.proofs.ExpansionLemmas.{IsExact, TellsSums, any_there, any_told, has_named-valid, none_told, one_told}
+use Rattle.action_limits.proofs.PeakMoves.{IsBelow, SamePeaks, is_growing, is_quiet, is_taking, peaks-quiet, stays-below}
 
 -- ---- a column of another info, and then its cells
 
@@ -180,50 +182,76 @@ other_told s (ModifyColumn table c) m whole other exact v =
 
 -- ---- and the peaks
 
-abbrev shrinks : Step → Bool
-shrinks step = not (is_growing step.action)
+pub none_past : (s : Document) → IsBelow s 1024 1000000 4294967295 → TellsPeaks no_more s
+none_past s below = record {
+  columns = sym (le-ltb 1024 (counts s).columns below.columns);
+  rows = sym (le-ltb 1000000 (counts s).rows below.rows);
+  row_id = sym (le-ltb 4294967295 (counts s).row_id below.row_id);
+}
 
-below_all : (s : Document) (steps : List Step) (c r i : ℕ) → IsWhole s → all_valid s (map action_of steps) ≡ true → list_all shrinks steps ≡ true → IsBelow s c r i → IsBelow (apply_all s (map action_of steps)) c r i
-below_all s [] c r i whole v less below = below
-below_all s (x ∷ steps) c r i whole v less below =
+-- the steps that an action that makes no rows may have, by whether it takes something away
+abbrev fits_kind : Bool → Step → Bool
+fits_kind true step = not (is_growing step.action)
+fits_kind false step = is_quiet step.action
+
+shrinking : (takes : Bool) (step : Step) → fits_kind takes step ≡ true → is_growing step.action ≡ false
+shrinking true step h = not_true (is_growing step.action) h
+shrinking false step h = not_true (is_growing step.action) (and_parts (not (is_growing step.action)) (not (is_taking step.action)) h).0
+
+below_all : (takes : Bool) (s : Document) (steps : List Step) (c r i : ℕ) → IsWhole s → all_valid s (map action_of steps) ≡ true → list_all (fits_kind takes) steps ≡ true → IsBelow s c r i → IsBelow (apply_all s (map action_of steps)) c r i
+below_all takes s [] c r i whole v fit below = below
+below_all takes s (x ∷ steps) c r i whole v fit below =
     let parts : (valid s x.action ≡ true) × (all_valid (apply s x.action) (map action_of steps) ≡ true) = and_parts (valid s x.action) (all_valid (apply s x.action) (map action_of steps)) v in
-    let small : (shrinks x ≡ true) × (list_all shrinks steps ≡ true) = and_parts (shrinks x) (list_all shrinks steps) less in
-    below_all (apply s x.action) steps c r i (IsWhole-apply s x.action whole parts.0) parts.1 small.1
-    (stays-below s x.action c r i whole parts.0 (Rattle.doc_model.proofs.Choices.not_true (is_growing x.action) small.0) below)
+    let each : (fits_kind takes x ≡ true) × (list_all (fits_kind takes) steps ≡ true) = and_parts (fits_kind takes x) (list_all (fits_kind takes) steps) fit in
+    below_all takes (apply s x.action) steps c r i (IsWhole-apply s x.action whole parts.0) parts.1 each.1
+    (stays-below s x.action c r i whole parts.0 (shrinking takes x each.0) below)
 
-shrink_if_any : (rows : List ℕ) (x : Step) → shrinks x ≡ true → list_all shrinks (if_any rows x) ≡ true
-shrink_if_any [] x h = refl
-shrink_if_any (r ∷ rows) x h = both_true (shrinks x) true h refl
+same_all : (s : Document) (steps : List Step) → IsWhole s → all_valid s (map action_of steps) ≡ true → list_all (fits_kind false) steps ≡ true → SamePeaks s (apply_all s (map action_of steps))
+same_all s [] whole v fit = record { columns = refl; rows = refl; row_id = refl }
+same_all s (x ∷ steps) whole v fit =
+    let parts : (valid s x.action ≡ true) × (all_valid (apply s x.action) (map action_of steps) ≡ true) = and_parts (valid s x.action) (all_valid (apply s x.action) (map action_of steps)) v in
+    let each : (is_quiet x.action ≡ true) × (list_all (fits_kind false) steps ≡ true) = and_parts (is_quiet x.action) (list_all (fits_kind false) steps) fit in
+    let one : SamePeaks s (apply s x.action) = peaks-quiet s x.action whole parts.0 each.0 in
+    let others : SamePeaks (apply s x.action) (apply_all (apply s x.action) (map action_of steps)) = same_all (apply s x.action) steps (IsWhole-apply s x.action whole parts.0) parts.1 each.1 in
+    record { columns = others.columns ∙ one.columns; rows = others.rows ∙ one.rows; row_id = others.row_id ∙ one.row_id }
 
-shrink_unless : (b : Bool) (steps : List Step) → list_all shrinks steps ≡ true → list_all shrinks (cond b [] steps) ≡ true
-shrink_unless true steps h = refl
-shrink_unless false steps h = h
+fit_if_any : (p : Step → Bool) (rows : List ℕ) (x : Step) → p x ≡ true → list_all p (if_any rows x) ≡ true
+fit_if_any p [] x h = refl
+fit_if_any p (r ∷ rows) x h = both_true (p x) true h refl
 
-other_shrinks : (s : Document) (a : UserAction) → makes_rows a ≡ false → list_all shrinks (steps_of s a) ≡ true
-other_shrinks s (Add table single count explicit ks) other = absurd (true≢false other)
-other_shrinks s (Update table single rows ks) other = shrink_if_any (row_ids rows) (direct (action.BulkUpdate table (row_ids rows) (all_fitted s table ks))) refl
-other_shrinks s (Remove table single rows) other = refl
-other_shrinks s (AddTable table cs) other = absurd (true≢false other)
-other_shrinks s (RemoveTable table) other = refl
-other_shrinks s (RenameTable table new) other = shrink_unless (bytes_eq table new) _ refl
-other_shrinks s (AddColumn table c) other = absurd (true≢false other)
-other_shrinks s (RemoveColumn table column) other = refl
-other_shrinks s (RenameColumn table column new) other = shrink_unless (bytes_eq column new) _ refl
-other_shrinks s (ModifyColumn table c) other =
+fit_unless : (p : Step → Bool) (b : Bool) (steps : List Step) → list_all p steps ≡ true → list_all p (cond b [] steps) ≡ true
+fit_unless p true steps h = refl
+fit_unless p false steps h = h
+
+other_fits : (s : Document) (a : UserAction) → makes_rows a ≡ false → list_all (fits_kind (takes_away a)) (steps_of s a) ≡ true
+other_fits s (Add table single count explicit ks) other = absurd (true≢false other)
+other_fits s (Update table single rows ks) other = fit_if_any (fits_kind false) (row_ids rows) (direct (action.BulkUpdate table (row_ids rows) (all_fitted s table ks))) refl
+other_fits s (Remove table single rows) other = refl
+other_fits s (AddTable table cs) other = absurd (true≢false other)
+other_fits s (RemoveTable table) other = refl
+other_fits s (RenameTable table new) other = fit_unless (fits_kind false) (bytes_eq table new) _ refl
+other_fits s (AddColumn table c) other = absurd (true≢false other)
+other_fits s (RemoveColumn table column) other = refl
+other_fits s (RenameColumn table column new) other = fit_unless (fits_kind false) (bytes_eq column new) _ refl
+other_fits s (ModifyColumn table c) other =
     let g : Grid ColDef = grid_at s table in
-    elim (find_id column_id c.id g.columns) as (λ (o : Option ColDef). list_all shrinks (elim o as (λ _. List Step) [ None ↦ [] | Some d ↦ retyped table g d (info_said d.info.ty c) ]) ≡ true) [
+    elim (find_id column_id c.id g.columns) as (λ (o : Option ColDef). list_all (fits_kind false) (elim o as (λ _. List Step) [ None ↦ [] | Some d ↦ retyped table g d (info_said d.info.ty c) ]) ≡ true) [
       | None ↦ refl
-      | Some d ↦ shrink_unless (same_type d.info.ty (info_said d.info.ty c).ty) _ (shrink_if_any (rows_changed g d.id (info_said d.info.ty c).ty) _ refl)
+      | Some d ↦ fit_unless (fits_kind false) (same_type d.info.ty (info_said d.info.ty c).ty) _ (fit_if_any (fits_kind false) (rows_changed g d.id (info_said d.info.ty c).ty) _ refl)
     ]
 
 -- where no table is above its bounds, none is after an action that makes no rows
 pub other_peaks : (s : Document) (a : UserAction) → IsWhole s → makes_rows a ≡ false → all_valid s (map action_of (steps_of s a)) ≡ true → IsBelow s 1024 1000000 4294967295 → TellsPeaks no_more (after s a)
-other_peaks s a whole other v below =
-    let b : IsBelow (after s a) 1024 1000000 4294967295 = below_all s (steps_of s a) 1024 1000000 4294967295 whole v (other_shrinks s a other) below in
+other_peaks s a whole other v below = none_past (after s a) (below_all (takes_away a) s (steps_of s a) 1024 1000000 4294967295 whole v (other_fits s a other) below)
+
+-- an action that makes no rows and takes nothing away keeps the peaks
+pub kept_peaks : (s : Document) (a : UserAction) (e : Extent) → IsWhole s → makes_rows a ≡ false → takes_away a ≡ false → all_valid s (map action_of (steps_of s a)) ≡ true → TellsPeaks e s → TellsPeaks e (after s a)
+kept_peaks s a e whole other keeps v told =
+    let same : SamePeaks s (after s a) = same_all s (steps_of s a) whole v (subst (λ b. list_all (fits_kind b) (steps_of s a) ≡ true) keeps (other_fits s a other)) in
     record {
-      columns = sym (le-ltb 1024 (counts (after s a)).columns b.columns);
-      rows = sym (le-ltb 1000000 (counts (after s a)).rows b.rows);
-      row_id = sym (le-ltb 4294967295 (counts (after s a)).row_id b.row_id);
+      columns = told.columns ∙ ap (ltb 1024) (sym same.columns);
+      rows = told.rows ∙ ap (ltb 1000000) (sym same.rows);
+      row_id = told.row_id ∙ ap (ltb 4294967295) (sym same.row_id);
     }
 
 pub below_within : (s : Document) → Rattle.action_limits.specs.Tallies.are_within (counts s) ≡ true → IsBelow s 1024 1000000 4294967295

@@ -38,7 +38,7 @@ greatest-append (m ∷ ms) ns =
     let alone : greatest (m ∷ ms) ≡ max m (greatest ms) = greatest-cons m ms in
     grind arith
 
-map-append : {X Y : Type 0} (f : X → Y) (xs ys : List X) → map f (xs ++ ys) ≡ map f xs ++ map f ys
+pub map-append : {X Y : Type 0} (f : X → Y) (xs ys : List X) → map f (xs ++ ys) ≡ map f xs ++ map f ys
 map-append f [] ys = refl
 map-append f (x ∷ xs) ys = ap (λ zs. f x ∷ zs) (map-append f xs ys)
 

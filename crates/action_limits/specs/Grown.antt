@@ -23,6 +23,11 @@ grows_schema (AddTable table cs) = true
 grows_schema (AddColumn table c) = true
 grows_schema _ = false
 
+-- how many tables it adds
+abbrev pub new_tables : UserAction → ℕ
+new_tables (AddTable table cs) = 1
+new_tables _ = 0
+
 abbrev pub IsExtentGrown : Document → UserAction → Extent → Type 0
 IsExtentGrown s (AddTable table cs) e = IsExtentDescribed s (length cs) 1 (length cs) e
 IsExtentGrown s (AddColumn table c) e =

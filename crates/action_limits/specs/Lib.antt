@@ -1,3 +1,4 @@
 pub mod Tallies
 pub mod Capped
 pub mod Grown
+pub mod Left

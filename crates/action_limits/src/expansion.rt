@@ -1,19 +1,20 @@
 //! What a user action comes to, limits included.
 
-ghost use Rattle.std.specs.Prelude.{◌≡◌, true, false, IfOk};
+ghost use Rattle.std.specs.Prelude.{◌≡◌, ◌+◌, true, false, IfOk};
 ghost use Rattle.doc_model.specs.Counts.{first_passed};
 ghost use Rattle.doc_model.specs.DocumentLaws.{IsWhole};
 ghost use Rattle.user_actions.specs.Allowed.{is_allowed};
-ghost use Rattle.action_limits.specs.Capped.{AddsSo, AreTaken, IsExtentAdded, no_more, peaks_noted, settled};
+ghost use Rattle.action_limits.specs.Capped.{AddsSo, AreTaken, IsExtentAdded, capped, peaks_noted, settled};
 ghost use Rattle.user_actions.specs.Kinds.{makes_rows};
-ghost use Rattle.action_limits.specs.Grown.{IsExtentDescribed, IsExtentGrown, grows_schema};
+ghost use Rattle.action_limits.specs.Grown.{IsExtentDescribed, IsExtentGrown, grows_schema, new_tables};
 ghost use Rattle.user_actions.specs.Kinds.{table_of};
 ghost use Rattle.user_actions.specs.StepLaws.{is_well_formed};
 ghost use Rattle.action_limits.specs.Tallies.{IsExpansion, IsTally};
 
 use crate::Tally;
-use crate::limits::{Counted, Extent, first_passed};
+use crate::limits::{Counted, Extent, first_passed, wider};
 use crate::moves::{Moved, after_steps};
+use crate::peaks::{peaks_after, peaks_before};
 use crate::weighing::column_count;
 use cell_types::Name;
 use doc_model::{DocTables, LimitKind, StepList, UserAction};
@@ -29,16 +30,6 @@ pub enum Expansion {
     Steps { steps: StepList, tally: Tally },
     /// The first limit that would be passed after them.
     Limit(LimitKind),
-}
-
-fn no_more() -> Extent
-    ensures { result ≡ no_more }
-{
-    Extent {
-        columns: 0,
-        rows: 0,
-        row_id: 0,
-    }
 }
 
 fn sums_of(tally: Tally) -> Moved
@@ -77,7 +68,7 @@ fn settled(steps: StepList, sums: Moved, most: Extent) -> Expansion
     }
 }
 
-// What an action comes to that makes no rows: no table has more columns or rows after it.
+// What an action comes to that makes no rows.
 fn other_expansion<D: DocTables>(
     alloc: Global,
     tables: &D,
@@ -88,7 +79,6 @@ fn other_expansion<D: DocTables>(
     requires allowed { is_allowed (D.document tables.now) action.now ≡ true }
     requires well_formed { is_well_formed action.now ≡ true }
     requires tally { IsTally (D.document tables.now) tally }
-    requires within { tally.within ≡ true }
     requires other { makes_rows action.now ≡ false }
     ensures { IfOk result (λ e. IsExpansion (D.document tables.now) action.now e) }
 {
@@ -96,7 +86,8 @@ fn other_expansion<D: DocTables>(
         unreachable!()
     };
     let sums = after_steps(tables, sums_of(tally), steps.as_slice());
-    Ok(settled(steps, sums, no_more()))
+    let most = peaks_after(alloc, tables, tally.within, action)?;
+    Ok(settled(steps, sums, most))
 }
 
 // The most rows and the greatest row id where so many records come to a table.
@@ -137,12 +128,12 @@ fn add_expansion<D: DocTables>(
     requires allowed { is_allowed (D.document tables.now) action.now ≡ true }
     requires well_formed { is_well_formed action.now ≡ true }
     requires tally { IsTally (D.document tables.now) tally }
-    requires within { tally.within ≡ true }
     requires adds { AddsSo action.now count }
     ensures { IfOk result (λ e. IsExpansion (D.document tables.now) action.now e) }
 {
     let table = name_of(alloc, table_of(action))?;
-    let most = extent_added(tables, &table, count);
+    let added = extent_added(tables, &table, count);
+    let most = wider(peaks_before(tables, tally.within), added);
     let before = sums_of(tally);
     if let Some(kind) = first_of_peaks(before, most) {
         return Ok(Expansion::Limit(kind));
@@ -198,7 +189,22 @@ fn extent_grown<D: DocTables>(tables: &D, table: &Name, action: &UserAction) -> 
     }
 }
 
-// What an action comes to that adds a table or a column.
+// The counted tables with those that an action adds.
+fn with_new_tables(tally: Tally, action: &UserAction) -> Moved
+    ensures { result.tables ≡ capped (tally.tables + new_tables action.now) }
+{
+    let added = match action {
+        UserAction::AddTable { .. } => 1,
+        _ => 0,
+    };
+    Moved {
+        tables: tally.tables.saturating_add(added),
+        ..sums_of(tally)
+    }
+}
+
+// What an action comes to that adds a table or a column. Where the row that describes it would pass
+// the last row id no steps are made: a limit is passed.
 fn schema_expansion<D: DocTables>(
     alloc: Global,
     tables: &D,
@@ -209,14 +215,17 @@ fn schema_expansion<D: DocTables>(
     requires allowed { is_allowed (D.document tables.now) action.now ≡ true }
     requires well_formed { is_well_formed action.now ≡ true }
     requires tally { IsTally (D.document tables.now) tally }
-    requires within { tally.within ≡ true }
     requires grows { grows_schema action.now ≡ true }
     ensures { IfOk result (λ e. IsExpansion (D.document tables.now) action.now e) }
 {
     let table = name_of(alloc, table_of(action))?;
-    let most = extent_grown(tables, &table, action);
+    let grown = extent_grown(tables, &table, action);
+    let most = wider(peaks_before(tables, tally.within), grown);
     let Some(steps) = steps(alloc, tables, action)? else {
-        return Err(AllocError);
+        let Some(kind) = first_of_peaks(with_new_tables(tally, action), most) else {
+            unreachable!()
+        };
+        return Ok(Expansion::Limit(kind));
     };
     let sums = after_steps(tables, sums_of(tally), steps.as_slice());
     Ok(settled(steps, sums, most))
@@ -225,10 +234,9 @@ fn schema_expansion<D: DocTables>(
 /// The document actions of a user action, or the first limit that would be passed after them, by the
 /// tally of the document.
 ///
-/// Errors: want of memory. It is also answered, for now, where a table was above its bounds before, and
-/// where the row that describes a new table or column would pass the last row id.
-/// Cost: the rows and values that are given; a new type of a column costs all
-/// its cells, and a new id the ids beside it.
+/// Errors: want of memory.
+/// Cost: the rows and values that are given; a new type of a column costs all its cells, and a new id
+/// the ids beside it. Where a table was above its bounds before, a walk over all tables and columns.
 /// Source: docs/DEFINITIONS.md, "user_actions".
 pub fn expand<D: DocTables>(
     alloc: Global,
@@ -242,9 +250,6 @@ pub fn expand<D: DocTables>(
     requires tally { IsTally (D.document tables.now) tally }
     ensures { IfOk result (λ e. IsExpansion (D.document tables.now) action.now e) }
 {
-    if !tally.within {
-        return Err(AllocError);
-    }
     match action {
         UserAction::Add { count, .. } => add_expansion(alloc, tables, tally, *count, action),
         UserAction::AddTable { .. } | UserAction::AddColumn { .. } => {

@@ -1,6 +1,6 @@
 //! What a document counts, and the first limit that it passes.
 
-ghost use Rattle.std.specs.Prelude.{◌≡◌, ◌<◌, ◌+◌, length, max};
+ghost use Rattle.std.specs.Prelude.{◌≡◌, ◌<◌, ◌≤◌, ◌+◌, length, max};
 ghost use Rattle.doc_model.specs.Counts.{counts, first_passed, greatest, over, passed};
 ghost use Rattle.doc_model.specs.DocumentLaws.{IsWhole};
 ghost use Rattle.doc_readers.specs.Parts.{grid_at};
@@ -54,8 +54,8 @@ pub(crate) fn first_passed(counts: Counted) -> Option<LimitKind>
     passed(LimitKind::Tables, counts.tables, next)
 }
 
-// How many tables there are: the metadata tables, and those that have a row.
-fn table_count<D: DocTables>(tables: &D) -> usize
+/// How many tables there are: the metadata tables, and those that have a row.
+pub(crate) fn table_count<D: DocTables>(tables: &D) -> usize
     requires { IsWhole (D.document tables.now) }
     ensures all { result ≡ length (D.document tables.now) }
     ensures plain { result ≡ (counts (D.document tables.now)).tables + 4 }
@@ -63,8 +63,8 @@ fn table_count<D: DocTables>(tables: &D) -> usize
     rows_in(tables, tables_table(tables)).len() + 4
 }
 
-// The id of the table at a place.
-fn table_id<D: DocTables>(tables: &D, place: usize) -> &Name
+/// The id of the table at a place.
+pub(crate) fn table_id<D: DocTables>(tables: &D, place: usize) -> &Name
     requires whole { IsWhole (D.document tables.now) }
     requires there { place < length (D.document tables.now) }
     ensures id { result.now ≡ (table_in (D.document tables.now) place).id }
@@ -81,6 +81,7 @@ fn table_extent<D: DocTables>(tables: &D, table: &Name) -> Extent
     ensures columns { result.columns ≡ length (grid_at (D.document tables.now) table.now).columns }
     ensures rows { result.rows ≡ length (grid_at (D.document tables.now) table.now).rows }
     ensures row_id { result.row_id ≡ greatest (grid_at (D.document tables.now) table.now).rows }
+    ensures small { result.row_id ≤ 4294967295 }
 {
     Extent {
         columns: column_count(tables, table) as u64,
@@ -89,7 +90,8 @@ fn table_extent<D: DocTables>(tables: &D, table: &Name) -> Extent
     }
 }
 
-fn wider(left: Extent, right: Extent) -> Extent
+/// The greater one of each.
+pub(crate) fn wider(left: Extent, right: Extent) -> Extent
     ensures columns { result.columns ≡ max left.columns right.columns }
     ensures rows { result.rows ≡ max left.rows right.rows }
     ensures row_id { result.row_id ≡ max left.row_id right.row_id }
@@ -107,6 +109,7 @@ pub(crate) fn greatest_extent<D: DocTables>(tables: &D) -> Extent
     ensures columns { result.columns ≡ (counts (D.document tables.now)).columns }
     ensures rows { result.rows ≡ (counts (D.document tables.now)).rows }
     ensures row_id { result.row_id ≡ (counts (D.document tables.now)).row_id }
+    ensures small { result.row_id ≤ 4294967295 }
 {
     let mut most = Extent {
         columns: 0,

@@ -35,7 +35,7 @@ length-insert_rows qs rows o n =
     let c : sum_of (λ _. 1) rows ≡ length rows = length-total rows in
     omega arith
 
-length-without : (qs rows : List ℕ) → IsAscending rows → is_once qs ≡ true → all_in qs rows ≡ true → length (without qs rows) + length qs ≡ length rows
+pub length-without : (qs rows : List ℕ) → IsAscending rows → is_once qs ≡ true → all_in qs rows ≡ true → length (without qs rows) + length qs ≡ length rows
 length-without qs rows asc o t =
     let all : sum_of (λ _. 1) (without qs rows) + sum_of (λ _. 1) qs ≡ sum_of (λ _. 1) rows = total-without (λ _. 1) qs rows asc o t in
     let a : sum_of (λ _. 1) (without qs rows) ≡ length (without qs rows) = length-total (without qs rows) in

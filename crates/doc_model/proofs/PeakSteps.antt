@@ -1,22 +1,25 @@
 -- The most of each table after record actions.
-use Rattle.std.proofs.Common.{ℕ, true, false, cond, ◌&&◌, List, [], ◌∷◌, ◌++◌, map, ◌≡◌, length, refl, sym, ap, ◌∙◌, Some, None}
+use Rattle.std.proofs.Common.{ℕ, true, false, cond, ◌&&◌, ◌+◌, List, [], ◌∷◌, ◌++◌, map, ◌≡◌, length, refl, sym, ap, ◌∙◌, Some, None, arith}
+use Rattle.std.proofs.lemmas.Bool.{and_parts}
 use Rattle.std.proofs.lemmas.Slice.Eq.{bytes_eq-Decides}
 use Rattle.std.specs.List.{AllByRecursion}
 use Rattle.std.specs.Str.{bytes_eq}
+use Rattle.doc_model.specs.declared.action.DocAction.{DocAction}
 use Rattle.doc_model.specs.declared.action.DocAction.TheVariants.{BulkAdd, BulkUpdate, BulkRemove}
 use Rattle.doc_model.specs.declared.column.CellColumn.{CellColumn}
 use Rattle.doc_model.specs.MetadataIds.{is_schema_id}
 use Rattle.doc_model.specs.ByIds.{find_id, AreDistinct}
-use Rattle.doc_model.specs.Rows.{insert_rows, without, is_once, none_in}
+use Rattle.doc_model.specs.Rows.{insert_rows, without, is_once, all_in, none_in}
 use Rattle.doc_model.specs.Records.{add_rows, update_rows, remove_rows}
 use Rattle.doc_model.specs.Column.{column_id, start_of}
 use Rattle.doc_model.specs.Document.{Table, Document, table_id, on_grid}
-use Rattle.doc_model.specs.Sound.{IsSound}
+use Rattle.doc_model.specs.Sound.{IsSound, IsSoundGrid}
 use Rattle.doc_model.specs.Valid.{record_table, from_one, gives_data, valid}
 use Rattle.doc_model.specs.Apply.{effect}
-use Rattle.doc_model.specs.PeakLaws.{Peaks, peaks, peaks_then, peaks_after}
+use Rattle.doc_model.specs.PeakLaws.{Peaks, peaks, peaks_then, peaks_after, rows_out}
 use Rattle.doc_model.proofs.Choices.{parts_4, each_weaker, map_each, map-map}
-use Rattle.doc_model.proofs.ByIdsLaws.{each_found}
+use Rattle.doc_model.proofs.ByIdsLaws.{each_found, found_all}
+use Rattle.doc_model.proofs.CountSteps.{length-without}
 use Rattle.doc_model.proofs.DocumentParts.{passes_parts}
 use Rattle.doc_model.proofs.TotalsLaws.{sum_of, total-insert_rows}
 use Rattle.doc_model.proofs.PeakSums.{SameTotals, total-append, peaks-same, without-none}
@@ -40,7 +43,37 @@ record_found s id t =
 pub none-moved : (rows : List ℕ) → SameTotals rows ([] ++ without [] rows)
 none-moved rows h = ap (sum_of h) (sym (without-none rows))
 
+-- ---- how many rows are left
+
+-- each table has so many rows less as go out
+abbrev pub LeavesRows : Document → DocAction → Type 0
+LeavesRows s a = AllByRecursion (λ t. length (without (rows_out s a t.id) t.grid.rows) + length (rows_out s a t.id) ≡ length t.grid.rows) s
+
+pub none_left : (rows : List ℕ) → length (without [] rows) + 0 ≡ length rows
+none_left rows = let e : length (without [] rows) ≡ length rows = ap length (without-none rows) in omega arith
+
+-- where none goes out
+pub still_rows : (s : Document) (a : DocAction) → ((id : List ℕ) → rows_out s a id ≡ []) → LeavesRows s a
+still_rows s a none = every s
+  where
+    every : (ts : List Table) → AllByRecursion (λ t. length (without (rows_out s a t.id) t.grid.rows) + length (rows_out s a t.id) ≡ length t.grid.rows) ts
+    every [] = tt
+    every (t ∷ ts) = (ap (λ out. length (without out t.grid.rows) + length out) (none t.id) ∙ none_left t.grid.rows, every ts)
+
 module _ (s : Document) (sound : IsSound s) (table : List ℕ) where
+  pub removed_rows : (rows : List ℕ) → valid s (BulkRemove table rows) ≡ true → LeavesRows s (BulkRemove table rows)
+  removed_rows rows v =
+      let parts : (t : Table) × ((record_table s table ≡ Some t) × ((is_once rows && all_in rows t.grid.rows) ≡ true)) = passes_parts (record_table s table) (λ t. is_once rows && all_in rows t.grid.rows) v in
+      let t : Table = parts.0 in
+      let found : find_id table_id table s ≡ Some t = record_found s table t parts.1.0 in
+      let tests : (is_once rows ≡ true) × (all_in rows t.grid.rows ≡ true) = and_parts (is_once rows) (all_in rows t.grid.rows) parts.1.1 in
+      let here : length (without rows t.grid.rows) + length rows ≡ length t.grid.rows = length-without rows t.grid.rows (found_all table_id (λ t. IsSoundGrid t.grid) table s t sound.grids found).is_grid.ascending tests.0 tests.1 in
+      each_weaker (λ x. bytes_eq x.id table ≡ true → x ≡ t) (λ x. length (without (cond (bytes_eq x.id table) rows []) x.grid.rows) + length (cond (bytes_eq x.id table) rows []) ≡ length x.grid.rows)
+      (λ x same. elim (bytes_eq x.id table) as (λ b. bytes_eq x.id table ≡ b → length (without (cond b rows []) x.grid.rows) + length (cond b rows []) ≡ length x.grid.rows) [
+        | true ↦ λ is. ap (λ (y : Table). length (without rows y.grid.rows) + length rows) (same is) ∙ here ∙ ap (λ (y : Table). length y.grid.rows) (sym (same is))
+        | false ↦ λ _. none_left x.grid.rows
+      ] refl) s (found_alone table s t sound.distinct found)
+
   pub add_peaks : (rows : List ℕ) (ks : List CellColumn) → valid s (BulkAdd table rows ks) ≡ true → map peaks_of (effect s (BulkAdd table rows ks)) ≡ peaks_after s (BulkAdd table rows ks)
   add_peaks rows ks v =
       let parts : (t : Table) × ((record_table s table ≡ Some t) × ((((is_once rows && from_one rows) && none_in rows t.grid.rows) && gives_data t.grid rows ks) ≡ true))

@@ -28,7 +28,8 @@ use Rattle.doc_model.proofs.WholeLaws.{IsGood, IsPlain, column_rows, good_from, 
 use Rattle.doc_model.proofs.DocumentParts.{find_plain, schema_table_parts, passes_parts, applied, Outcome}
 use Rattle.doc_model.proofs.InverseLaws.{outcome}
 use Rattle.doc_model.proofs.PeakSums.{SameTotals, total-append, total-map, same-map, greatest-same, peaks-same, without-none, rows-moved, all_in-moved, over_columns, total-described}
-use Rattle.doc_model.proofs.PeakSteps.{peaks_of, found_alone, add_peaks, update_peaks, remove_peaks}
+use Rattle.doc_model.proofs.CountSteps.{length-without}
+use Rattle.doc_model.proofs.PeakSteps.{LeavesRows, peaks_of, found_alone, none_left, still_rows, add_peaks, update_peaks, remove_peaks, removed_rows}
 
 -- ---- what a schema action does to each table
 
@@ -126,6 +127,34 @@ module _ (r u : Grid ColDef) (p : List Table) where
         let move : sum_of h (map peaks_of q) ≡ sum_of h (new_peaks a) + sum_of h (map (λ (t : Table). peaks (columns_then a t) t.grid.rows) (staying a p)) = step.plain_move h in
         omega arith
 
+    -- the rows that are left
+    leaves : (t : Table) (out : List ℕ) → rows_out whole a t.id ≡ out → length (without out t.grid.rows) + length out ≡ length t.grid.rows → length (without (rows_out whole a t.id) t.grid.rows) + length (rows_out whole a t.id) ≡ length t.grid.rows
+    leaves t out e left = ap (λ o. length (without o t.grid.rows) + length o) e ∙ left
+
+    leaves_all : (t : Table) → bytes_eq tables_id t.id ≡ false → bytes_eq columns_id t.id ≡ false → length (without (rows_out whole a t.id) t.grid.rows) + length (rows_out whole a t.id) ≡ length t.grid.rows
+    leaves_all t nt nc = leaves t [] (step.goes t.id ∙ at_plain t.id step.tables_go step.columns_go nt nc) (none_left t.grid.rows)
+
+    left : LeavesRows whole a
+    left =
+        let tables : length (without (rows_out whole a tables_id) (map table_row p)) + length (rows_out whole a tables_id) ≡ length (map table_row p)
+        = leaves (metadata_table tables_id (tables_grid p)) step.tables_go (step.goes tables_id ∙ at_tables step.tables_go step.columns_go) (length-without step.tables_go (map table_row p) good.tables_ascend step.tables_once step.tables_there) in
+        let described : List ℕ = map described_row (in_order (all_columns p)) in
+        let columns : length (without (rows_out whole a columns_id) described) + length (rows_out whole a columns_id) ≡ length described
+        = leaves (metadata_table columns_id (columns_grid p)) step.columns_go (step.goes columns_id ∙ at_columns step.tables_go step.columns_go) (length-without step.columns_go described (IsAscending-in_order (all_columns p)) step.columns_once step.columns_there) in (
+          tables,
+          (
+            columns,
+            (
+              leaves_all (metadata_table resources_id r) tables_resources_apart columns_resources_apart,
+              (
+                leaves_all (metadata_table rules_id u) tables_rules_apart columns_rules_apart,
+                each_weaker (λ t. is_metadata_id t.id ≡ false) (λ t. length (without (rows_out whole a t.id) t.grid.rows) + length (rows_out whole a t.id) ≡ length t.grid.rows)
+                    (λ t e. let plain : IsPlain t.id = plain_from t.id e in leaves_all t plain.tables plain.columns) p good.plain,
+              ),
+            ),
+          ),
+        )
+
   module _ (good : IsGood r u p) where
     -- the rows of the columns of the plain tables after an action stand once
     once_after : (a : DocAction) (q : List Table) → valid whole a ≡ true → effect whole a ≡ with_schema r u q → is_once (column_rows q) ≡ true
@@ -133,8 +162,8 @@ module _ (r u : Grid ColDef) (p : List Table) where
         let o : Outcome whole a (Rattle.doc_model.specs.Inverse.inverse whole a) = outcome whole a (whole_from r u p good) v in
         subst (λ ts. is_once (column_rows ts) ≡ true) (ap plain_tables (sym o.becomes ∙ e)) o.good.once
 
-    stepped_by : (a : DocAction) (q : List Table) → valid whole a ≡ true → effect whole a ≡ with_schema r u q → SchemaStep a q → SameTotals (map peaks_of (with_schema r u q)) (peaks_after whole a)
-    stepped_by a q v e step = stepped good a q (once_after a q v e) step
+    stepped_by : (a : DocAction) (q : List Table) → valid whole a ≡ true → effect whole a ≡ with_schema r u q → SchemaStep a q → SameTotals (map peaks_of (with_schema r u q)) (peaks_after whole a) × LeavesRows whole a
+    stepped_by a q v e step = (stepped good a q (once_after a q v e) step, left good a q (once_after a q v e) step)
 
     plains : AllByRecursion (λ t. IsPlain t.id) p
     plains = each_weaker (λ t. is_metadata_id t.id ≡ false) (λ t. IsPlain t.id) (λ t e. plain_from t.id e) p good.plain
@@ -408,10 +437,10 @@ module _ (r u : Grid ColDef) (p : List Table) where
         let at : IsPlain table × (find_id table_id table p ≡ Some parts.0) = schema_table_parts r u p table parts.0 parts.1.0 in
         (parts.0, (at.0, at.1, parts.1.1))
 
-    told_after : (a : DocAction) → valid whole a ≡ true → SameTotals (map peaks_of (effect whole a)) (peaks_after whole a)
-    told_after (BulkAdd table rows ks) v = λ h. ap (sum_of h) (add_peaks whole (whole_from r u p good).sound table rows ks v)
-    told_after (BulkUpdate table rows ks) v = λ h. ap (sum_of h) (update_peaks whole (whole_from r u p good).sound table rows ks)
-    told_after (BulkRemove table rows) v = λ h. ap (sum_of h) (remove_peaks whole (whole_from r u p good).sound table rows)
+    told_after : (a : DocAction) → valid whole a ≡ true → SameTotals (map peaks_of (effect whole a)) (peaks_after whole a) × LeavesRows whole a
+    told_after (BulkAdd table rows ks) v = (λ h. ap (sum_of h) (add_peaks whole (whole_from r u p good).sound table rows ks v), still_rows whole (BulkAdd table rows ks) (λ id. refl))
+    told_after (BulkUpdate table rows ks) v = (λ h. ap (sum_of h) (update_peaks whole (whole_from r u p good).sound table rows ks), still_rows whole (BulkUpdate table rows ks) (λ id. refl))
+    told_after (BulkRemove table rows) v = (λ h. ap (sum_of h) (remove_peaks whole (whole_from r u p good).sound table rows), removed_rows whole (whole_from r u p good).sound table rows v)
     told_after (AddTable table row columns) v = stepped_by (AddTable table row columns) (put_by_row table_row (new_table table row columns) p) v refl (add_table_step table row columns)
     told_after (RemoveTable table) v =
         let at : (t : Table) × (IsPlain table × (find_id table_id table p ≡ Some t) × (true ≡ true)) = the_table table (λ _. true) v in
@@ -439,13 +468,21 @@ module _ (r u : Grid ColDef) (p : List Table) where
 greatest-told : (s : Document) (ps : List Peaks) (part : Peaks → ℕ) → SameTotals (map peaks_of s) ps → greatest (map (λ t. part (peaks_of t)) s) ≡ greatest (map part ps)
 greatest-told s ps part e = ap greatest (map-map part peaks_of s) ∙ greatest-same (map part (map peaks_of s)) (map part ps) (same-map part (map peaks_of s) ps e)
 
+-- both, of any document
+told_both : (s : Document) (a : DocAction) → IsWhole s → valid s a ≡ true → SameTotals (map peaks_of (apply s a)) (peaks_after s a) × LeavesRows s a
+told_both s a whole_s v =
+    let same : s ≡ with_schema (resources s) (rules s) (plain_tables s) = whole_s.agrees.schema in
+    subst (λ d. SameTotals (map peaks_of d) (peaks_after s a) × LeavesRows s a) (sym (applied s a v))
+    (subst (λ d. SameTotals (map peaks_of (effect d a)) (peaks_after d a) × LeavesRows d a) (sym same) (told_after (resources s) (rules s) (plain_tables s) (good_from s whole_s) a (ap (λ d. valid d a) (sym same) ∙ v)))
+
+-- each table has so many rows less as go out
+pub rows-left : (s : Document) (a : DocAction) → IsWhole s → valid s a ≡ true → LeavesRows s a
+rows-left s a whole_s v = (told_both s a whole_s v).1
+
 -- the counts are the greatest of these
 pub peaks-apply : (s : Document) (a : DocAction) → IsWhole s → valid s a ≡ true → AreGreatest (counts (apply s a)) (peaks_after s a)
 peaks-apply s a whole_s v =
-    let same : s ≡ with_schema (resources s) (rules s) (plain_tables s) = whole_s.agrees.schema in
-    let moved : SameTotals (map peaks_of (apply s a)) (peaks_after s a)
-    = subst (λ d. SameTotals (map peaks_of d) (peaks_after s a)) (sym (applied s a v))
-    (subst (λ d. SameTotals (map peaks_of (effect d a)) (peaks_after d a)) (sym same) (told_after (resources s) (rules s) (plain_tables s) (good_from s whole_s) a (ap (λ d. valid d a) (sym same) ∙ v))) in
+    let moved : SameTotals (map peaks_of (apply s a)) (peaks_after s a) = (told_both s a whole_s v).0 in
     record {
       columns = greatest-told (apply s a) (peaks_after s a) (λ (m : Peaks). m.columns) moved;
       rows = greatest-told (apply s a) (peaks_after s a) (λ (m : Peaks). m.rows) moved;

@@ -1,7 +1,6 @@
 //! The document actions that a user action stands for.
 
 ghost use Rattle.std.specs.Prelude.{◌≡◌, ◌<◌, [], ◌∷◌, true, false, map, IfOk, MatchOption};
-ghost use Rattle.std.specs.Option.{IfSome};
 ghost use Rattle.cell_types.specs.NameRule.{is_name};
 ghost use Rattle.doc_model.specs.Apply.{all_valid};
 ghost use Rattle.doc_model.specs.DocumentLaws.{IsWhole};
@@ -53,7 +52,7 @@ fn growing_steps<D: DocTables>(
     requires allowed { is_allowed (D.document tables.now) action.now ≡ true }
     requires named { table.now ≡ table_of action.now }
     requires grows { makes_rows action.now ≡ true }
-    ensures fresh { IfOk result (λ o. IfSome o (λ _. HasFresh (D.document tables.now) action.now)) }
+    ensures fresh { IfOk result (λ _. HasFresh (D.document tables.now) action.now) }
     ensures made { IfOk result (λ o. MatchOption o (4294967295 < last_new_row (D.document tables.now) action.now) (λ l. l ≡ steps_of (D.document tables.now) action.now)) }
 {
     match action {
@@ -114,7 +113,7 @@ fn makes_rows(action: &UserAction) -> bool
 }
 
 /// The document actions that a user action stands for, in their order; nothing where a new row
-/// would pass the last row id. Limits are not asked here.
+/// would pass the last row id, though they are valid there too. Limits are not asked here.
 ///
 /// Errors: want of memory. Cost: the rows and values that are given; a new type of a column costs
 /// all its cells, and a new id the ids beside it.
@@ -127,15 +126,13 @@ pub fn steps<D: DocTables>(
     requires whole { IsWhole (D.document tables.now) }
     requires allowed { is_allowed (D.document tables.now) action.now ≡ true }
     requires well_formed { is_well_formed action.now ≡ true }
-    ensures valid { IfOk result (λ o. IfSome o (λ l. all_valid (D.document tables.now) (map action_of l) ≡ true)) }
+    ensures valid { IfOk result (λ _. all_valid (D.document tables.now) (map action_of (steps_of (D.document tables.now) action.now)) ≡ true) }
     ensures made { IfOk result (λ o. MatchOption o (4294967295 < last_new_row (D.document tables.now) action.now) (λ l. l ≡ steps_of (D.document tables.now) action.now)) }
 {
     let table = name_of(alloc, table_of(action))?;
     if makes_rows(action) {
-        let Some(steps) = growing_steps(alloc, tables, &table, action)? else {
-            return Ok(None);
-        };
-        return Ok(Some(steps));
+        let steps = growing_steps(alloc, tables, &table, action)?;
+        return Ok(steps);
     }
     let steps = other_steps(alloc, tables, &table, action)?;
     Ok(Some(steps))

@@ -2,7 +2,6 @@
 
 ghost use Rattle.std.specs.Prelude.{◌≡◌, ◌<◌, ◌+◌, [], ◌∷◌, true, false, cond, length, max, bytes_eq, IfOk, MatchOption};
 ghost use Rattle.std.specs.List.{list_all};
-ghost use Rattle.std.specs.Option.{IfSome};
 ghost use Rattle.cell_types.specs.NameRule.{is_name};
 ghost use Rattle.cell_types.specs.declared.column_type.ColType.TheVariants.{Any};
 ghost use Rattle.doc_model.specs.DocumentLaws.{IsWhole};
@@ -80,7 +79,8 @@ fn new_column(
     })
 }
 
-// The columns of a new table; nothing where their rows would pass the last row id.
+// The columns of a new table; nothing where their rows would pass the last row id. Their ids are
+// found in any case, so that the action is known for a valid one.
 fn new_columns(
     alloc: Global,
     last: u32,
@@ -88,18 +88,20 @@ fn new_columns(
 ) -> Result<Option<ColDefList>, AllocError>
     requires { list_all has_good_id columns.now ≡ true }
     ensures made { IfOk result (λ o. MatchOption o (4294967295 < last + length columns.now) (λ l. l ≡ new_columns [] last columns.now)) }
-    ensures fresh { IfOk result (λ o. IfSome o (λ _. AreFresh [] columns.now)) }
+    ensures fresh { IfOk result (λ _. AreFresh [] columns.now) }
 {
-    if LAST_ROW_ID - (last as u64) < columns.len() as u64 {
-        return Ok(None);
-    }
     let mut taken = Vec::new(alloc);
     let mut made = Vec::with_capacity(alloc, columns.len())?;
     for place in 0..columns.len() {
-        let row = last + place as u32 + 1;
+        let row = (last as u64 + 1)
+            .saturating_add(place as u64)
+            .min(LAST_ROW_ID) as u32;
         let column = new_column(alloc, &taken, row, &columns[place])?;
         taken.push(column.id.clone()?)?;
         made.push(column)?;
+    }
+    if LAST_ROW_ID - (last as u64) < columns.len() as u64 {
+        return Ok(None);
     }
     Ok(Some(ColDefList::from(made)))
 }
@@ -115,19 +117,20 @@ fn table_said<D: DocTables>(
     requires name { is_name table.now ≡ true }
     requires names { list_all has_good_id columns.now ≡ true }
     ensures made { IfOk result (λ o. MatchOption o (4294967295 < max (last_row (D.document tables.now) tables_id + 1) (last_row (D.document tables.now) columns_id + length columns.now)) (λ a. a ≡ table_said (D.document tables.now) table.now columns.now)) }
-    ensures fresh { IfOk result (λ o. IfSome o (λ _. IsFresh (table_ids (D.document tables.now)) table.now × AreFresh [] columns.now)) }
+    ensures fresh { IfOk result (λ _. IsFresh (table_ids (D.document tables.now)) table.now × AreFresh [] columns.now) }
 {
     let row = last_row(tables, tables_table(tables));
     let last = last_row(tables, columns_table(tables));
+    let taken = table_ids(alloc, tables)?;
+    let table = free_id(alloc, &taken, table)?;
     let Some(columns) = new_columns(alloc, last, columns)? else {
         return Ok(None);
     };
     if row == u32::MAX {
         return Ok(None);
     }
-    let taken = table_ids(alloc, tables)?;
     Ok(Some(DocAction::AddTable {
-        table: free_id(alloc, &taken, table)?,
+        table,
         row: row + 1,
         columns,
     }))
@@ -143,16 +146,17 @@ fn column_said<D: DocTables>(
     requires whole { IsWhole (D.document tables.now) }
     requires name { has_good_id column.now ≡ true }
     ensures made { IfOk result (λ o. MatchOption o (4294967295 < last_row (D.document tables.now) columns_id + 1) (λ a. a ≡ AddColumn table.now (column_said (D.document tables.now) table.now column.now))) }
-    ensures fresh { IfOk result (λ o. IfSome o (λ _. IsFresh (column_ids (D.document tables.now) table.now) column.now.id)) }
+    ensures fresh { IfOk result (λ _. IsFresh (column_ids (D.document tables.now) table.now) column.now.id) }
 {
     let last = last_row(tables, columns_table(tables));
+    let taken = column_ids(alloc, tables, table)?;
+    let column = new_column(alloc, &taken, last.saturating_add(1), column)?;
     if last == u32::MAX {
         return Ok(None);
     }
-    let taken = column_ids(alloc, tables, table)?;
     Ok(Some(DocAction::AddColumn {
         table: table.clone()?,
-        column: new_column(alloc, &taken, last + 1, column)?,
+        column,
     }))
 }
 
@@ -217,7 +221,7 @@ pub(crate) fn add_table_steps<D: DocTables>(
     requires whole { IsWhole (D.document tables.now) }
     requires name { is_name table.now ≡ true }
     requires names { list_all has_good_id columns.now ≡ true }
-    ensures fresh { IfOk result (λ o. IfSome o (λ _. IsFresh (table_ids (D.document tables.now)) table.now × AreFresh [] columns.now)) }
+    ensures fresh { IfOk result (λ _. IsFresh (table_ids (D.document tables.now)) table.now × AreFresh [] columns.now) }
     ensures made { IfOk result (λ o. MatchOption o (4294967295 < max (last_row (D.document tables.now) tables_id + 1) (last_row (D.document tables.now) columns_id + length columns.now)) (λ l. l ≡ direct (table_said (D.document tables.now) table.now columns.now) ∷ [])) }
 {
     let Some(action) = table_said(alloc, tables, table, columns)? else {
@@ -236,7 +240,7 @@ pub(crate) fn add_column_steps<D: DocTables>(
 ) -> Result<Option<StepList>, AllocError>
     requires whole { IsWhole (D.document tables.now) }
     requires name { has_good_id column.now ≡ true }
-    ensures fresh { IfOk result (λ o. IfSome o (λ _. IsFresh (column_ids (D.document tables.now) table.now) column.now.id)) }
+    ensures fresh { IfOk result (λ _. IsFresh (column_ids (D.document tables.now) table.now) column.now.id) }
     ensures made { IfOk result (λ o. MatchOption o (4294967295 < last_row (D.document tables.now) columns_id + 1) (λ l. l ≡ direct (AddColumn table.now (column_said (D.document tables.now) table.now column.now)) ∷ [])) }
 {
     let Some(action) = column_said(alloc, tables, table, column)? else {

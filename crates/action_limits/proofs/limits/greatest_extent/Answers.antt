@@ -1,4 +1,4 @@
-use Rattle.std.proofs.Common.{◌≡◌, ◌<◌, ◌∙◌, ap, refl, map, length, take, arith}
+use Rattle.std.proofs.Common.{ℕ, ◌≡◌, ◌<◌, ◌≤◌, ◌∙◌, max, ap, refl, map, length, take, arith}
 use Rattle.doc_model.specs.declared.column.ColDef.{ColDef}
 use Rattle.doc_model.specs.Counts.{greatest}
 use Rattle.doc_model.specs.Document.{Table}
@@ -19,7 +19,11 @@ loop-place-preserved g c =
           within refl c.loop-place.invariant.rows (c.table_extent.ensures.rows ∙ ap (λ (t : Grid ColDef). length t.rows) c.table_id.ensures.grid) c.wider-most.ensures.rows;
       row_id = greatest_step (λ (t : Table). greatest t.grid.rows) s c.loop-place.place no_table (table_in s c.loop-place.place) c.loop-place.most.row_id c.wider-most.result.row_id c.table_extent.result.row_id
           within refl c.loop-place.invariant.row_id (c.table_extent.ensures.row_id ∙ ap (λ (t : Grid ColDef). greatest t.rows) c.table_id.ensures.grid) c.wider-most.ensures.row_id;
+      small = both_under c.loop-place.most.row_id c.table_extent.result.row_id c.wider-most.result.row_id c.loop-place.invariant.small c.table_extent.ensures.small c.wider-most.ensures.row_id;
     }
+  where
+    both_under : (m n k : ℕ) → m ≤ 4294967295 → n ≤ 4294967295 → k ≡ max m n → k ≤ 4294967295
+    both_under m n k a b e = grind arith
 
 pub returns-clause-columns : goal.returns-clause-columns
 returns-clause-columns g c =

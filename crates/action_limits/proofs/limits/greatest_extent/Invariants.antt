@@ -1,4 +1,4 @@
-use Rattle.std.proofs.Common.{◌≡◌, take, map, length}
+use Rattle.std.proofs.Common.{◌≡◌, ◌≤◌, take, map, length}
 use Rattle.doc_model.specs.Counts.{greatest}
 use Rattle.doc_model.specs.Document.{Table}
 use Rattle.action_limits.proofs.limits.greatest_extent.Given as goal
@@ -10,4 +10,5 @@ invariant-loop-place g l =
       columns : l.most.columns ≡ greatest (map (λ (t : Table). length t.grid.columns) seen);
       rows : l.most.rows ≡ greatest (map (λ (t : Table). length t.grid.rows) seen);
       row_id : l.most.row_id ≡ greatest (map (λ (t : Table). greatest t.grid.rows) seen);
+      small : l.most.row_id ≤ 4294967295;
     }

@@ -1,8 +1,5 @@
-use Rattle.std.proofs.Common.{◌≡◌, ◌∙◌, ap, map}
+use Rattle.std.proofs.Common.{◌∙◌, ap}
 use Rattle.cell_types.specs.NameRule.{is_name}
-use Rattle.doc_model.specs.Apply.{all_valid}
-use Rattle.user_actions.specs.StepLaws.{HasFresh, action_of}
-use Rattle.user_actions.specs.Steps.{steps_of}
 use Rattle.user_actions.proofs.AllowedLemmas.{action_named}
 use Rattle.user_actions.proofs.StepsValid.{all_valid-steps_of}
 use Rattle.user_actions.proofs.expanding.steps.Goals as goal
@@ -15,13 +12,9 @@ name_of-requires g c =
 pub returns-then-makes_rows-clause-valid : goal.returns-then-makes_rows-clause-valid
 returns-then-makes_rows-clause-valid g c =
     let s = g.D.DocTables.document c.args.tables.now in
-    let made : c.in-Some.steps ≡ steps_of s c.args.action.now = rw c.in-Some.is at c.in_ok-steps.ensures.made in
-    let fresh : HasFresh s c.args.action.now = rw c.in-Some.is at c.in_ok-steps.ensures.fresh in
-    ap (λ l. all_valid s (map action_of l)) made
-    ∙ all_valid-steps_of s c.requires.whole c.args.action.now c.requires.allowed c.requires.well_formed fresh
+    all_valid-steps_of s c.requires.whole c.args.action.now c.requires.allowed c.requires.well_formed c.in_ok-steps.ensures.fresh
 
 pub returns-clause-valid : goal.returns-clause-valid
 returns-clause-valid g c =
     let s = g.D.DocTables.document c.args.tables.now in
-    ap (λ l. all_valid s (map action_of l)) c.in_ok-steps-2.ensures.made
-    ∙ all_valid-steps_of s c.requires.whole c.args.action.now c.requires.allowed c.requires.well_formed c.in_ok-steps-2.ensures.fresh
+    all_valid-steps_of s c.requires.whole c.args.action.now c.requires.allowed c.requires.well_formed c.in_ok-steps-2.ensures.fresh

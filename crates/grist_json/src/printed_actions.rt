@@ -1,11 +1,14 @@
 //! Changes of views as JSON.
 ghost use Rattle.std.specs.Prelude.{◌≡◌, IfOk, string_bytes};
+ghost use Rattle.doc_model.specs.declared.view.ViewAction.TheVariants.{AddTable, BulkRemove};
+ghost use Rattle.serde_json.specs.Data.{item, no_items, string};
 ghost use Rattle.serde_json.specs.View.{view};
-ghost use Rattle.grist_json.specs.Actions.{type_text, formula_data, column_data, info_data, infos_data, columns_data, action_data, actions_data};
+ghost use Rattle.grist_json.specs.Actions.{action_of, type_text, formula_data, column_data, info_data, infos_data, columns_data, action_data, actions_data};
+ghost use Rattle.grist_json.specs.Values.{rows_data};
 
 use crate::printed_values::{rows_value, values_value};
-use cell_types::{CellText, ColType};
-use doc_model::{CellColumn, ViewAction, ViewCol};
+use cell_types::{CellText, ColType, Name, RowList};
+use doc_model::{CellColumn, ColumnList, ViewAction, ViewCol, ViewColList};
 use serde_json::{Map, Value, json};
 use std::alloc::{AllocError, Global};
 
@@ -76,48 +79,67 @@ fn columns_value(alloc: Global, columns: &[CellColumn]) -> Result<Value, AllocEr
     Ok(Value::Object(map))
 }
 
+// What is said of a column: [word,table,column,info].
+fn of_column(alloc: Global, word: &str, table: &Name, column: &ViewCol) -> Result<Value, AllocError>
+    ensures { IfOk result (λ v. view v ≡ action_of word.now table.now (item (string column.now.id) (item (info_data column.now) no_items))) }
+{
+    let info = info_value(alloc, column)?;
+    json!(in alloc; [word, (table.as_str()), (column.id.as_str()), (info)])
+}
+
+// Rows with the values of columns: [word,table,rows,columns].
+fn of_cells(
+    alloc: Global,
+    word: &str,
+    table: &Name,
+    rows: &RowList,
+    columns: &ColumnList,
+) -> Result<Value, AllocError>
+    ensures { IfOk result (λ v. view v ≡ action_of word.now table.now (item (rows_data rows.now) (item (columns_data columns.now) no_items))) }
+{
+    let rows = rows_value(alloc, rows.as_slice())?;
+    let columns = columns_value(alloc, columns.as_slice())?;
+    json!(in alloc; [word, (table.as_str()), (rows), (columns)])
+}
+
+fn of_new_table(alloc: Global, table: &Name, columns: &ViewColList) -> Result<Value, AllocError>
+    ensures { IfOk result (λ v. view v ≡ action_data (AddTable table.now columns.now)) }
+{
+    let columns = infos_value(alloc, columns.as_slice())?;
+    json!(in alloc; ["AddTable", (table.as_str()), (columns)])
+}
+
+fn of_removed_rows(alloc: Global, table: &Name, rows: &RowList) -> Result<Value, AllocError>
+    ensures { IfOk result (λ v. view v ≡ action_data (BulkRemove table.now rows.now)) }
+{
+    let rows = rows_value(alloc, rows.as_slice())?;
+    json!(in alloc; ["BulkRemoveRecord", (table.as_str()), (rows)])
+}
+
 fn action_value(alloc: Global, action: &ViewAction) -> Result<Value, AllocError>
     ensures { IfOk result (λ v. view v ≡ action_data action.now) }
 {
     match action {
-        ViewAction::AddTable { table, columns } => {
-            let columns = infos_value(alloc, columns.as_slice())?;
-            json!(in alloc; ["AddTable", (table.as_str()), (columns)])
-        }
+        ViewAction::AddTable { table, columns } => of_new_table(alloc, table, columns),
         ViewAction::RemoveTable { table } => json!(in alloc; ["RemoveTable", (table.as_str())]),
-        ViewAction::AddColumn { table, column } => {
-            let info = info_value(alloc, column)?;
-            json!(in alloc; ["AddColumn", (table.as_str()), (column.id.as_str()), (info)])
-        }
+        ViewAction::AddColumn { table, column } => of_column(alloc, "AddColumn", table, column),
         ViewAction::RemoveColumn { table, column } => {
             json!(in alloc; ["RemoveColumn", (table.as_str()), (column.as_str())])
         }
         ViewAction::ModifyColumn { table, column } => {
-            let info = info_value(alloc, column)?;
-            json!(in alloc; ["ModifyColumn", (table.as_str()), (column.id.as_str()), (info)])
+            of_column(alloc, "ModifyColumn", table, column)
         }
         ViewAction::BulkAdd {
             table,
             rows,
             columns,
-        } => {
-            let rows = rows_value(alloc, rows.as_slice())?;
-            let columns = columns_value(alloc, columns.as_slice())?;
-            json!(in alloc; ["BulkAddRecord", (table.as_str()), (rows), (columns)])
-        }
+        } => of_cells(alloc, "BulkAddRecord", table, rows, columns),
         ViewAction::BulkUpdate {
             table,
             rows,
             columns,
-        } => {
-            let rows = rows_value(alloc, rows.as_slice())?;
-            let columns = columns_value(alloc, columns.as_slice())?;
-            json!(in alloc; ["BulkUpdateRecord", (table.as_str()), (rows), (columns)])
-        }
-        ViewAction::BulkRemove { table, rows } => {
-            let rows = rows_value(alloc, rows.as_slice())?;
-            json!(in alloc; ["BulkRemoveRecord", (table.as_str()), (rows)])
-        }
+        } => of_cells(alloc, "BulkUpdateRecord", table, rows, columns),
+        ViewAction::BulkRemove { table, rows } => of_removed_rows(alloc, table, rows),
     }
 }
 

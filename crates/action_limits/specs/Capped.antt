@@ -7,7 +7,7 @@ use Rattle.doc_model.specs.declared.user_action.UserAction.{UserAction}
 use Rattle.doc_model.specs.declared.user_action.UserAction.TheVariants.{Add}
 use Rattle.doc_model.specs.ByIds.{find_id}
 use Rattle.doc_model.specs.CountLaws.{Sums, come, gone}
-use Rattle.doc_model.specs.Counts.{grid_cells, grid_weight, Counts, first_passed}
+use Rattle.doc_model.specs.Counts.{grid_cells, grid_weight, Counts, counts, first_passed}
 use Rattle.doc_model.specs.Document.{Table, Document, table_id}
 use Rattle.doc_model.specs.MetadataIds.{is_schema_id}
 use Rattle.doc_model.specs.Schema.{no_grid}
@@ -51,6 +51,15 @@ noted c = record {
   cells = c.cells;
   weight = c.weight;
 }
+
+-- a document's counts as they are noted
+pub record IsCounted (s : Document) (c : Counted) : Type 0 where
+  pub tables : c.tables ≡ (counts s).tables
+  pub columns : c.columns ≡ (counts s).columns
+  pub rows : c.rows ≡ (counts s).rows
+  pub row_id : c.row_id ≡ (counts s).row_id
+  pub cells : c.cells ≡ capped (counts s).cells
+  pub weight : c.weight ≡ capped (counts s).weight
 
 -- sums as they are noted
 pub record IsCapped (m : Moved) (n : Sums) : Type 0 where

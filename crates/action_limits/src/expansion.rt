@@ -237,7 +237,7 @@ fn schema_expansion<D: DocTables>(
 /// Errors: want of memory.
 /// Cost: the rows and values that are given; a new type of a column costs all its cells, and a new id
 /// the ids beside it. Where a table was above its bounds before, a walk over all tables and columns.
-/// Source: docs/DEFINITIONS.md, "user_actions".
+/// Source: docs/DEFINITIONS.md, "action_limits".
 pub fn expand<D: DocTables>(
     alloc: Global,
     tables: &D,

@@ -4,7 +4,8 @@ ghost use Rattle.std.specs.Prelude.{◌≡◌, ◌<◌, ◌≤◌, ◌+◌, leng
 ghost use Rattle.doc_model.specs.Counts.{counts, first_passed, greatest, over, passed};
 ghost use Rattle.doc_model.specs.DocumentLaws.{IsWhole};
 ghost use Rattle.doc_readers.specs.Parts.{grid_at};
-ghost use Rattle.action_limits.specs.Capped.{capped, counted_cells, counted_weight, noted, table_in};
+ghost use Rattle.action_limits.specs.Tallies.{are_within};
+ghost use Rattle.action_limits.specs.Capped.{IsCounted, capped, counted_cells, counted_weight, noted, table_in};
 
 use crate::weighing::{column_count, table_cells, table_weight};
 use cell_types::Name;
@@ -168,21 +169,40 @@ fn all_weight<D: DocTables>(tables: &D) -> u64
     weight
 }
 
-/// The first limit that a document passes.
+/// What is counted of a document, cells and weight as far as 64 bits can tell.
 ///
 /// Memory: none. Cost: a walk over all cells.
-/// Source: docs/DEFINITIONS.md, "user_actions".
-pub fn over<D: DocTables>(tables: &D) -> Option<LimitKind>
-    requires whole { IsWhole (D.document tables.now) }
-    ensures { result ≡ over (D.document tables.now) }
+pub(crate) fn counts_of<D: DocTables>(tables: &D) -> Counted
+    requires { IsWhole (D.document tables.now) }
+    ensures { IsCounted (D.document tables.now) result }
 {
     let most = greatest_extent(tables);
-    first_passed(Counted {
+    Counted {
         tables: table_count(tables) as u64 - 4,
         columns: most.columns,
         rows: most.rows,
         row_id: most.row_id,
         cells: all_cells(tables),
         weight: all_weight(tables),
-    })
+    }
+}
+
+/// Whether no table has too many columns or rows, or too great a row id.
+pub(crate) fn are_within(counts: Counted) -> bool
+    ensures { result ≡ are_within (noted counts) }
+{
+    counts.columns <= LimitKind::Columns.bound()
+        && counts.rows <= LimitKind::Rows.bound()
+        && counts.row_id <= LimitKind::RowId.bound()
+}
+
+/// The first limit that a document passes.
+///
+/// Memory: none. Cost: a walk over all cells.
+/// Source: docs/DEFINITIONS.md, "action_limits".
+pub fn over<D: DocTables>(tables: &D) -> Option<LimitKind>
+    requires whole { IsWhole (D.document tables.now) }
+    ensures { result ≡ over (D.document tables.now) }
+{
+    first_passed(counts_of(tables))
 }

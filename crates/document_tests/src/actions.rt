@@ -4,7 +4,8 @@ use cell_types::{CellText, CellValue, ColType, Name, RowList, ValueList};
 use doc_model::{CellColumn, ColDef, ColDefList, ColInfo, ColumnList, DocAction};
 use std::alloc::{AllocError, Global};
 
-fn name(alloc: Global, id: &str) -> Result<Name, AllocError> {
+/// A name, which the text has to be.
+pub(crate) fn name(alloc: Global, id: &str) -> Result<Name, AllocError> {
     Name::try_new(CellText::copy_of(alloc, id)?).ok_or(AllocError)
 }
 
@@ -30,7 +31,8 @@ fn info(alloc: Global, formula: &str) -> Result<ColInfo, AllocError> {
     })
 }
 
-fn column(alloc: Global, id: &str, row: u32) -> Result<ColDef, AllocError> {
+/// A data column of any values.
+pub(crate) fn column(alloc: Global, id: &str, row: u32) -> Result<ColDef, AllocError> {
     Ok(ColDef {
         id: name(alloc, id)?,
         info: info(alloc, "")?,

@@ -1,7 +1,7 @@
 //! Tests of documents across crates: actions done and taken back over plain tables.
 //!
-//! Stands on `cell_types`, `doc_model`, `name_rules`, `row_tables`, `action_inverse`, `doc_actions`
-//! and `user_actions`. Nothing stands on it; it is a crate of its own, so that no crate of the engine
+//! Stands on `cell_types`, `doc_model`, `name_rules`, `row_tables`, `action_inverse`, `doc_actions`,
+//! `user_actions`, `action_limits` and `view_parts`. Nothing stands on it; it is a crate of its own, so that no crate of the engine
 //! depends on a store that only its tests need.
 //!
 //! Promises: nothing. What is tested is what no clause says: that the definitions mean what is
@@ -14,6 +14,8 @@
 mod actions;
 #[cfg(test)]
 mod bounds;
+#[cfg(test)]
+mod limit_tests;
 #[cfg(test)]
 mod new_documents;
 #[cfg(test)]

@@ -105,3 +105,7 @@ removed s h id v =
     let parts : IsPlain id × (find_id table_id id (plain_tables s) ≡ Some there.0)
     = schema_table_parts (resources s) (rules s) (plain_tables s) id there.0 (sym (ap (λ d. schema_table d id) h.schema) ∙ there.1.0) in
     (there.0, (ap (find_id table_id id) h.schema ∙ find_plain (resources s) (rules s) (plain_tables s) id parts.0 ∙ parts.1, parts.1))
+
+-- the row that is told of it
+pub told_row : (s : Document) (id : List ℕ) (row : ℕ) (t : Table) → Some row ≡ option_map table_row (find_id table_id id (plain_tables s)) → find_id table_id id (plain_tables s) ≡ Some t → row ≡ t.row
+told_row s id row t told found = let both : Some row ≡ Some t.row = told ∙ ap (option_map table_row) found in cc

@@ -2,21 +2,19 @@
 use Rattle.std.proofs.Common.{ℕ, zero, suc, ◌+◌, ◌-◌, ◌<◌, Bool, true, false, cond, List, [], ◌∷◌, ◌++◌, length, length-append, take, slice_get, nat_eq, ◌≡◌, refl, sym, ap, ◌∙◌, Option, Some, None, arith}
 use Rattle.std.proofs.lemmas.Option.{slice_get_within, get_or_from_slice_get}
 use Rattle.std.proofs.lemmas.List.{take_more}
-use Rattle.doc_model.specs.declared.action.DocAction.TheVariants.{BulkAdd, BulkUpdate, BulkRemove, AddTable, RemoveTable, AddColumn, RemoveColumn, ModifyColumn}
+use Rattle.doc_model.specs.declared.action.DocAction.TheVariants.{BulkAdd, BulkUpdate, BulkRemove, AddTable, RemoveTable, ModifyColumn}
 use Rattle.doc_model.specs.declared.column.CellColumn.{CellColumn}
 use Rattle.doc_model.specs.declared.action.DocAction.{DocAction}
 use Rattle.doc_model.specs.declared.column.ColDef.{ColDef}
 use Rattle.doc_model.specs.declared.column.ColInfo.{ColInfo}
-use Rattle.doc_model.specs.Records.{column_of}
 use Rattle.doc_model.specs.ViewEdits.{if_any}
 use Rattle.std.proofs.lemmas.Bool.{both_ways, false≢true, ne_eqb}
 use Rattle.doc_model.proofs.ByIdsLaws.{found_id}
-use Rattle.doc_model.proofs.Choices.{cond_true, cond_false}
 use Rattle.doc_model.specs.ByIds.{find_id}
 use Rattle.doc_model.specs.Column.{column_id}
 use Rattle.doc_model.specs.Grid.{Grid}
 use Rattle.doc_model.specs.Document.{Table, Document, table_id}
-use Rattle.doc_model.specs.Inverse.{inverse, made_of, old_columns, data_columns, table_again, column_again}
+use Rattle.doc_model.specs.Inverse.{inverse, made_of, old_columns, data_columns, table_again}
 use Rattle.doc_model.specs.MetadataIds.{is_schema_id}
 use Rattle.doc_model.specs.Readers.{column_at}
 use Rattle.doc_model.specs.Schema.{no_grid}
@@ -98,26 +96,7 @@ remove_back s id rows v =
     ap (λ g. BulkAdd id rows (data_columns g rows) ∷ []) (grid_of_found s id found.0 found.1)
     ∙ sym (ap (λ o. made_of o (λ (t : Table). BulkAdd id rows (data_columns t.grid rows) ∷ [])) found.1)
 
--- a removed column comes back by what is read of its table
-pub column_back : (s : Document) (id c : List ℕ) (d : ColDef) → find_id column_id c (grid_at s id).columns ≡ Some d
-    → column_again id (grid_at s id) d ≡ inverse s (RemoveColumn id c)
-column_back s id c d h =
-    elim (find_id table_id id s) as (λ (o : Option Table). find_id column_id c (elim o as (λ _. Grid ColDef) [ None ↦ no_grid | Some t ↦ t.grid ]).columns ≡ Some d
-    → column_again id (elim o as (λ _. Grid ColDef) [ None ↦ no_grid | Some t ↦ t.grid ]) d
-    ≡ made_of o (λ (t : Table). made_of (find_id column_id c t.grid.columns) (column_again id t.grid))) [
-      | None ↦ λ e. absurd (cc)
-      | Some t ↦ λ e. sym (ap (λ o. made_of o (column_again id t.grid)) e)
-    ] h
-
-pub column_absent : (s : Document) (id c : List ℕ) → find_id column_id c (grid_at s id).columns ≡ None → [] ≡ inverse s (RemoveColumn id c)
-column_absent s id c h =
-    elim (find_id table_id id s) as (λ (o : Option Table). find_id column_id c (elim o as (λ _. Grid ColDef) [ None ↦ no_grid | Some t ↦ t.grid ]).columns ≡ None
-    → [] ≡ made_of o (λ (t : Table). made_of (find_id column_id c t.grid.columns) (column_again id t.grid))) [
-      | None ↦ λ e. refl
-      | Some t ↦ λ e. sym (ap (λ o. made_of o (column_again id t.grid)) e)
-    ] h
-
--- the same of a changed column
+-- what gives a column its old info, as it is read of its table
 pub info_is_back : (s : Document) (id c : List ℕ) (info : ColInfo) → info_back s id c ≡ inverse s (ModifyColumn id c info)
 info_is_back s id c info =
     elim (find_id table_id id s) as (λ (o : Option Table). made_of (find_id column_id c (elim o as (λ _. Grid ColDef) [ None ↦ no_grid | Some t ↦ t.grid ]).columns) (λ (d : ColDef). ModifyColumn id c d.info ∷ [])
@@ -125,28 +104,6 @@ info_is_back s id c info =
       | None ↦ refl
       | Some t ↦ refl
     ]
-
-module _ (id : List ℕ) (g : Grid ColDef) (d : ColDef) where
-  pub formula_alone : d.info.is_formula ≡ true → AddColumn id d ∷ [] ≡ column_again id g d
-  formula_alone e = ap (λ l. AddColumn id d ∷ l) (sym (cond_true d.info.is_formula [] _ e))
-
-  pub column_alone : g.rows ≡ [] → AddColumn id d ∷ [] ≡ column_again id g d
-  column_alone e =
-      ap (λ l. AddColumn id d ∷ l) (
-      sym (same d.info.is_formula)
-      ∙ ap (λ rows. cond d.info.is_formula [] (if_any rows (BulkUpdate id g.rows (column_of column_id g g.rows d.id ∷ [])))) (sym e))
-    where
-      same : (b : Bool) → cond {A = List DocAction} b [] [] ≡ []
-      same true = refl
-      same false = refl
-
-  pub column_with_cells : (rows : List ℕ) → d.info.is_formula ≡ false → rows ≡ g.rows → (rows ≡ [] → ⊥)
-      → AddColumn id d ∷ BulkUpdate id rows (column_of column_id g rows d.id ∷ []) ∷ [] ≡ column_again id g d
-  column_with_cells rows e same some =
-      ap (λ l. AddColumn id d ∷ l) (
-      sym (any rows some (BulkUpdate id rows (column_of column_id g rows d.id ∷ [])))
-      ∙ ap (λ (rs : List ℕ). if_any rs (BulkUpdate id rs (column_of column_id g rs d.id ∷ []))) same
-      ∙ sym (cond_false d.info.is_formula [] _ e))
 
 module _ (t : Table) (rows : List ℕ) (same : rows ≡ t.grid.rows) where
   pub table_alone : rows ≡ [] → AddTable t.id t.row t.grid.columns ∷ [] ≡ table_again t
@@ -170,32 +127,13 @@ empty_from (r ∷ rows) b e is = absurd (false≢true (sym (not_zero (length row
 pub some_from : (rows : List ℕ) (b : Bool) → b ≡ nat_eq (length rows) 0 → b ≡ false → rows ≡ [] → ⊥
 some_from rows b e is none = both_ways b is (e ∙ ap (λ (l : List ℕ). nat_eq (length l) 0) none)
 
--- the parts of what brings a column back, as a store tells them
-module _ (s : Document) (id c name : List ℕ) (d copy : ColDef) (rows : List ℕ) (found : find_id column_id c (grid_at s id).columns ≡ Some d) (named : name ≡ id) (copied : copy ≡ d) (same : rows ≡ (grid_at s id).rows) where
-  pub formula_made : d.info.is_formula ≡ true → AddColumn name copy ∷ [] ≡ inverse s (RemoveColumn id c)
-  formula_made is =
-      ap (λ n. AddColumn n copy ∷ []) named ∙ ap (λ e. AddColumn id e ∷ []) copied
-      ∙ formula_alone id (grid_at s id) d is ∙ column_back s id c d found
-
-  pub column_made : rows ≡ [] → AddColumn name copy ∷ [] ≡ inverse s (RemoveColumn id c)
-  column_made none =
-      ap (λ n. AddColumn n copy ∷ []) named ∙ ap (λ e. AddColumn id e ∷ []) copied
-      ∙ column_alone id (grid_at s id) d (sym same ∙ none) ∙ column_back s id c d found
-
-  pub column_filled : (a : DocAction) → d.info.is_formula ≡ false → (rows ≡ [] → ⊥) → a ≡ BulkUpdate id rows (column_of column_id (grid_at s id) rows d.id ∷ [])
-      → AddColumn name copy ∷ a ∷ [] ≡ inverse s (RemoveColumn id c)
-  column_filled a is some filled =
-      ap (λ n. AddColumn n copy ∷ a ∷ []) named ∙ ap (λ e. AddColumn id e ∷ a ∷ []) copied
-      ∙ ap (λ b. AddColumn id d ∷ b ∷ []) filled
-      ∙ column_with_cells id (grid_at s id) d rows is same some ∙ column_back s id c d found
-
--- the parts of what brings a table back
-module _ (s : Document) (id name : List ℕ) (row : ℕ) (cols : List ColDef) (rows : List ℕ) (t : Table) (found : find_id table_id id s ≡ Some t) (named : name ≡ id) (told : row ≡ t.row) (have : cols ≡ (grid_at s id).columns) (same : rows ≡ (grid_at s id).rows) where
-  added : AddTable name row cols ≡ AddTable t.id t.row t.grid.columns
+-- the parts of what brings a table back, as a store tells them
+module _ (s : Document) (id : List ℕ) (row : ℕ) (rows : List ℕ) (t : Table) (found : find_id table_id id s ≡ Some t) (told : row ≡ t.row) (same : rows ≡ (grid_at s id).rows) where
+  added : AddTable id row (grid_at s id).columns ≡ AddTable t.id t.row t.grid.columns
   added =
-      ap (λ n. AddTable n row cols) (named ∙ sym (found_id table_id id s t found))
-      ∙ ap (λ r. AddTable t.id r cols) told
-      ∙ ap (AddTable t.id t.row) (have ∙ ap (λ (g : Grid ColDef). g.columns) (grid_of_found s id t found))
+      ap (λ n. AddTable n row (grid_at s id).columns) (sym (found_id table_id id s t found))
+      ∙ ap (λ r. AddTable t.id r (grid_at s id).columns) told
+      ∙ ap (λ (g : Grid ColDef). AddTable t.id t.row g.columns) (grid_of_found s id t found)
 
   rows_same : rows ≡ t.grid.rows
   rows_same = same ∙ ap (λ (g : Grid ColDef). g.rows) (grid_of_found s id t found)
@@ -203,14 +141,14 @@ module _ (s : Document) (id name : List ℕ) (row : ℕ) (cols : List ColDef) (r
   back : table_again t ≡ inverse s (RemoveTable id)
   back = sym (ap (λ o. made_of o table_again) found)
 
-  pub table_made : rows ≡ [] → AddTable name row cols ∷ [] ≡ inverse s (RemoveTable id)
-  table_made none = ap (λ a. a ∷ []) added ∙ table_alone t rows rows_same none ∙ back
+  pub table_made : (l : List DocAction) (a : DocAction) → l ≡ a ∷ [] → a ≡ AddTable id row (grid_at s id).columns → rows ≡ [] → l ≡ inverse s (RemoveTable id)
+  table_made l a one is none = one ∙ ap (λ a. a ∷ []) (is ∙ added) ∙ table_alone t rows rows_same none ∙ back
 
-  pub table_filled : (again : List ℕ) (list : List ℕ) (cells : List CellColumn) → (rows ≡ [] → ⊥) → again ≡ id → list ≡ rows → cells ≡ data_columns (grid_at s id) rows
-      → AddTable name row cols ∷ BulkAdd again list cells ∷ [] ≡ inverse s (RemoveTable id)
-  table_filled again list cells some also listed told_cells =
-      ap (λ a. a ∷ BulkAdd again list cells ∷ []) added
-      ∙ ap (λ n. AddTable t.id t.row t.grid.columns ∷ BulkAdd n list cells ∷ []) (also ∙ sym (found_id table_id id s t found))
-      ∙ ap (λ l. AddTable t.id t.row t.grid.columns ∷ BulkAdd t.id l cells ∷ []) listed
-      ∙ ap (λ ks. AddTable t.id t.row t.grid.columns ∷ BulkAdd t.id rows ks ∷ []) (told_cells ∙ ap (λ g. data_columns g rows) (grid_of_found s id t found))
+  pub table_filled : (l : List DocAction) (a b : DocAction) → l ≡ a ∷ [] → a ≡ AddTable id row (grid_at s id).columns → b ≡ BulkAdd id rows (data_columns (grid_at s id) rows) → (rows ≡ [] → ⊥)
+      → l ++ b ∷ [] ≡ inverse s (RemoveTable id)
+  table_filled l a b one is filled some =
+      ap (λ l. l ++ b ∷ []) one ∙ ap (λ a. a ∷ b ∷ []) (is ∙ added)
+      ∙ ap (λ b. AddTable t.id t.row t.grid.columns ∷ b ∷ []) filled
+      ∙ ap (λ n. AddTable t.id t.row t.grid.columns ∷ BulkAdd n rows (data_columns (grid_at s id) rows) ∷ []) (sym (found_id table_id id s t found))
+      ∙ ap (λ g. AddTable t.id t.row t.grid.columns ∷ BulkAdd t.id rows (data_columns g rows) ∷ []) (grid_of_found s id t found)
       ∙ table_with_rows t rows rows_same some ∙ back

@@ -1,6 +1,7 @@
 -- One step of a walk over keys and the values beside them.
-use Rattle.std.proofs.Common.{ℕ, zero, suc, Bool, true, false, List, [], ◌∷◌, ◌+◌, map, take, drop, ◌++◌, get_or, length, ◌≡◌, ◌<◌, refl, sym, ap, ◌∙◌, Option, Some, None, slice_get}
-use Rattle.std.proofs.lemmas.List.{drop_more, map_more, drop-drop}
+use Rattle.std.proofs.Common.{ℕ, zero, suc, Bool, true, false, List, [], ◌∷◌, ◌+◌, map, filter, take, drop, ◌++◌, get_or, length, ◌≡◌, ◌<◌, refl, sym, ap, ◌∙◌, Option, Some, None, slice_get}
+use Rattle.std.proofs.lemmas.List.{drop_more, map_more, take_more, drop-drop}
+use Rattle.std.proofs.lemmas.List.Elements.{filter-append}
 use Rattle.doc_model.specs.Grid.{beside}
 use Rattle.row_tables.specs.Kept.{found_beside}
 use Rattle.doc_model.proofs.Choices.{cond_true, cond_false}
@@ -52,3 +53,13 @@ module _ {K V : Type 0} (p : K → Bool) where
 -- one more value beside one more element
 pub map_step : {X Y : Type 0} (f : X → Y) (xs : List X) (i : ℕ) (x : X) (ys zs : List Y) (y : Y) → i < length xs → x ≡ get_or xs i x → ys ≡ map f (take i xs) → zs ≡ ys ++ y ∷ [] → y ≡ f x → zs ≡ map f (take (i + 1) xs)
 map_step f xs i x ys zs y l e h p q = p ∙ ap (λ l. l ++ y ∷ []) h ∙ ap (λ v. map f (take i xs) ++ v ∷ []) (q ∙ ap f e) ∙ sym (map_more f xs i x l)
+
+-- the same of copies
+pub take_step : {X : Type 0} (xs : List X) (i : ℕ) (x : X) (ys zs : List X) (y : X) → i < length xs → x ≡ get_or xs i x → ys ≡ take i xs → zs ≡ ys ++ y ∷ [] → y ≡ x → zs ≡ take (i + 1) xs
+take_step xs i x ys zs y l e h p q = p ∙ ap (λ l. l ++ y ∷ []) h ∙ ap (λ v. take i xs ++ v ∷ []) (q ∙ e) ∙ sym (take_more xs i x l)
+
+-- the same of elements that pass a test
+pub filter_step : {X : Type 0} (p : X → Bool) (xs : List X) (i : ℕ) (x : X) (ys zs : List X) → i < length xs → x ≡ get_or xs i x → ys ≡ filter p (take i xs) → zs ≡ ys ++ filter p (x ∷ []) → zs ≡ filter p (take (i + 1) xs)
+filter_step p xs i x ys zs l e h q =
+    q ∙ ap (λ l. l ++ filter p (x ∷ [])) h ∙ sym (filter-append p (take i xs) (x ∷ []))
+    ∙ ap (λ y. filter p (take i xs ++ y ∷ [])) e ∙ ap (filter p) (sym (take_more xs i x l))

@@ -1,6 +1,7 @@
 //! What schema actions make of one table.
 
-ghost use Rattle.std.specs.Prelude.{◌≡◌, IfOk};
+ghost use Rattle.std.specs.Prelude.{◌≡◌, [], ◌∷◌, ◌++◌, IfOk, cond};
+ghost use Rattle.std.specs.Str.{bytes_eq};
 ghost use Rattle.cell_types.specs.declared.value.CellValue.TheVariants.{Null};
 ghost use Rattle.doc_model.specs.Apply.{add_column, new_table, remove_column, with_column, with_info, with_name};
 ghost use Rattle.doc_model.specs.ByIds.{with_id, without_id};
@@ -38,17 +39,47 @@ fn columns_by_row(alloc: Global, columns: &[ColDef]) -> Result<Vec<ColDef>, Allo
     Ok(sorted)
 }
 
+// Adds a copy of a column, but not where it has this id.
+fn add_other(left: &mut Vec<ColDef>, column: &ColDef, id: &Name) -> Result<(), AllocError>
+    ensures { IfOk result (λ _. left.new.items ≡ left.old.items ++ without_id column_id id.now (column.now ∷ [])) }
+{
+    if column.id.as_str() == id.as_str() {
+        return Ok(());
+    }
+    left.push(copy_of_column(column)?)?;
+    Ok(())
+}
+
 // The columns but those of this id.
 fn columns_without(alloc: Global, columns: &[ColDef], id: &Name) -> Result<Vec<ColDef>, AllocError>
     ensures { IfOk result (λ v. v.items ≡ without_id column_id id.now columns.now) }
 {
     let mut left = Vec::with_capacity(alloc, columns.len())?;
     for column in columns {
-        if column.id.as_str() != id.as_str() {
-            left.push(column.clone()?)?;
-        }
+        add_other(&mut left, column, id)?;
     }
     Ok(left)
+}
+
+// The column under the new name.
+fn with_name(column: &ColDef, new: &Name) -> Result<ColDef, AllocError>
+    ensures { IfOk result (λ d. d ≡ with_name new.now column.now) }
+{
+    let info = column.info.clone()?;
+    let id = copy_of_name(new)?;
+    let row = column.row;
+    Ok(ColDef { id, info, row })
+}
+
+// The column, under the new name where it has this id.
+fn renamed_column(column: &ColDef, id: &Name, new: &Name) -> Result<ColDef, AllocError>
+    ensures { IfOk result (λ d. d ≡ cond (bytes_eq column.now.id id.now) (with_name new.now column.now) column.now) }
+{
+    if column.id.as_str() == id.as_str() {
+        with_name(column, new)
+    } else {
+        copy_of_column(column)
+    }
 }
 
 // The columns, and those of this id under the new one.
@@ -62,13 +93,30 @@ fn columns_renamed(
 {
     let mut changed = Vec::with_capacity(alloc, columns.len())?;
     for column in columns {
-        let mut copy = column.clone()?;
-        if column.id.as_str() == id.as_str() {
-            copy.id = new.clone()?;
-        }
-        changed.push(copy)?;
+        changed.push(renamed_column(column, id, new)?)?;
     }
     Ok(changed)
+}
+
+// The column with the new info.
+fn with_info(column: &ColDef, info: &ColInfo) -> Result<ColDef, AllocError>
+    ensures { IfOk result (λ d. d ≡ with_info info.now column.now) }
+{
+    let info = info.clone()?;
+    let id = copy_of_name(&column.id)?;
+    let row = column.row;
+    Ok(ColDef { id, info, row })
+}
+
+// The column, with the new info where it has this id.
+fn modified_column(column: &ColDef, id: &Name, info: &ColInfo) -> Result<ColDef, AllocError>
+    ensures { IfOk result (λ d. d ≡ cond (bytes_eq column.now.id id.now) (with_info info.now column.now) column.now) }
+{
+    if column.id.as_str() == id.as_str() {
+        with_info(column, info)
+    } else {
+        copy_of_column(column)
+    }
 }
 
 // The columns, and those of this id with the new info.
@@ -82,11 +130,7 @@ fn columns_modified(
 {
     let mut changed = Vec::with_capacity(alloc, columns.len())?;
     for column in columns {
-        let mut copy = column.clone()?;
-        if column.id.as_str() == id.as_str() {
-            copy.info = info.clone()?;
-        }
-        changed.push(copy)?;
+        changed.push(modified_column(column, id, info)?)?;
     }
     Ok(changed)
 }
@@ -170,17 +214,15 @@ impl RowTable {
     pub fn with_column_named(&self, id: &Name, new: &Name) -> Result<RowTable, AllocError>
         ensures { IfOk result (λ t. t ≡ on_grid (with_column id.now (with_name new.now)) self.now) }
     {
-        let mut table = self.copy()?;
-        table.columns = columns_renamed(self.alloc(), self.columns(), id, new)?;
-        Ok(table)
+        let columns = columns_renamed(self.alloc(), self.columns(), id, new)?;
+        self.with_columns(columns)
     }
 
     /// The table with the column of this id of another type or formula.
     pub fn with_column_modified(&self, id: &Name, info: &ColInfo) -> Result<RowTable, AllocError>
         ensures { IfOk result (λ t. t ≡ on_grid (with_column id.now (with_info info.now)) self.now) }
     {
-        let mut table = self.copy()?;
-        table.columns = columns_modified(self.alloc(), self.columns(), id, info)?;
-        Ok(table)
+        let columns = columns_modified(self.alloc(), self.columns(), id, info)?;
+        self.with_columns(columns)
     }
 }

@@ -24,11 +24,7 @@ pub(crate) fn copy_of_column(column: &ColDef) -> Result<ColDef, AllocError>
 pub(crate) fn copy_of_columns(alloc: Global, columns: &[ColDef]) -> Result<Vec<ColDef>, AllocError>
     ensures { IfOk result (λ v. v.items ≡ columns.now) }
 {
-    let mut copies = Vec::with_capacity(alloc, columns.len())?;
-    for column in columns {
-        copies.push(column.clone()?)?;
-    }
-    Ok(copies)
+    Vec::from_clones(alloc, columns)
 }
 
 /// Copies of the cells of rows.

@@ -1,6 +1,7 @@
 //! The columns of the metadata tables.
 
-ghost use Rattle.std.specs.Prelude.{◌≡◌, IfOk, [], false};
+ghost use Rattle.std.specs.Prelude.{◌≡◌, IfOk, [], ◌∷◌, ◌++◌, false};
+ghost use Rattle.cell_types.specs.declared.column_type.ColType.TheVariants.{Any, Ref};
 ghost use Rattle.doc_model.specs.NewDocument.{first_columns};
 ghost use Rattle.doc_model.specs.Schema.{columns_columns, metadata_column, metadata_table, resources_columns, rules_columns, tables_columns};
 ghost use Rattle.row_tables.specs.Known.{known_text};
@@ -11,13 +12,7 @@ use cell_types::{CellText, ColType, ValueList};
 use doc_model::{ColDef, ColInfo};
 use std::alloc::{AllocError, Global};
 
-/// A data column without a row of its own.
-fn metadata_column(alloc: Global, known: Known, ty: ColType) -> Result<ColDef, AllocError>
-    ensures { IfOk result (λ d. d ≡ metadata_column (known_text known) ty) }
-{
-    data_column(alloc, known, ty, 0)
-}
-
+// A data column.
 fn data_column(alloc: Global, known: Known, ty: ColType, row: u32) -> Result<ColDef, AllocError>
     ensures { IfOk result (λ d. d ≡ record { id = known_text known; info = record { ty = ty; is_formula = false; formula = [] }; row = row }) }
 {
@@ -32,12 +27,38 @@ fn data_column(alloc: Global, known: Known, ty: ColType, row: u32) -> Result<Col
     })
 }
 
+// Adds a column of a metadata table.
+fn add(columns: &mut Vec<ColDef>, known: Known, ty: ColType) -> Result<(), AllocError>
+    ensures { IfOk result (λ _. columns.new.items ≡ columns.old.items ++ metadata_column (known_text known) ty ∷ []) }
+{
+    let column = data_column(*columns.allocator(), known, ty, 0)?;
+    columns.push(column)?;
+    Ok(())
+}
+
+// Adds a column of the first table.
+fn add_any(columns: &mut Vec<ColDef>, known: Known, row: u32) -> Result<(), AllocError>
+    ensures { IfOk result (λ _. columns.new.items ≡ columns.old.items ++ record { id = known_text known; info = record { ty = Any; is_formula = false; formula = [] }; row = row } ∷ []) }
+{
+    let column = data_column(*columns.allocator(), known, ColType::Any, row)?;
+    columns.push(column)?;
+    Ok(())
+}
+
+// Adds a column that refers to a table.
+fn add_ref(columns: &mut Vec<ColDef>, known: Known, table: Known) -> Result<(), AllocError>
+    ensures { IfOk result (λ _. columns.new.items ≡ columns.old.items ++ metadata_column (known_text known) (Ref (known_text table)) ∷ []) }
+{
+    let table = name_of(*columns.allocator(), table)?;
+    add(columns, known, ColType::Ref(table))
+}
+
 /// The column of the table of tables.
 pub(crate) fn tables_columns(alloc: Global) -> Result<Vec<ColDef>, AllocError>
     ensures { IfOk result (λ v. v.items ≡ tables_columns) }
 {
     let mut columns = Vec::with_capacity(alloc, 1)?;
-    columns.push(metadata_column(alloc, Known::TableId, ColType::Text)?)?;
+    add(&mut columns, Known::TableId, ColType::Text)?;
     Ok(columns)
 }
 
@@ -46,12 +67,11 @@ pub(crate) fn columns_columns(alloc: Global) -> Result<Vec<ColDef>, AllocError>
     ensures { IfOk result (λ v. v.items ≡ columns_columns) }
 {
     let mut columns = Vec::with_capacity(alloc, 5)?;
-    let tables = ColType::Ref(name_of(alloc, Known::Tables)?);
-    columns.push(metadata_column(alloc, Known::ParentId, tables)?)?;
-    columns.push(metadata_column(alloc, Known::ColId, ColType::Text)?)?;
-    columns.push(metadata_column(alloc, Known::Type, ColType::Text)?)?;
-    columns.push(metadata_column(alloc, Known::IsFormula, ColType::Bool)?)?;
-    columns.push(metadata_column(alloc, Known::Formula, ColType::Text)?)?;
+    add_ref(&mut columns, Known::ParentId, Known::Tables)?;
+    add(&mut columns, Known::ColId, ColType::Text)?;
+    add(&mut columns, Known::Type, ColType::Text)?;
+    add(&mut columns, Known::IsFormula, ColType::Bool)?;
+    add(&mut columns, Known::Formula, ColType::Text)?;
     Ok(columns)
 }
 
@@ -60,8 +80,8 @@ pub(crate) fn resources_columns(alloc: Global) -> Result<Vec<ColDef>, AllocError
     ensures { IfOk result (λ v. v.items ≡ resources_columns) }
 {
     let mut columns = Vec::with_capacity(alloc, 2)?;
-    columns.push(metadata_column(alloc, Known::TableId, ColType::Text)?)?;
-    columns.push(metadata_column(alloc, Known::ColIds, ColType::Text)?)?;
+    add(&mut columns, Known::TableId, ColType::Text)?;
+    add(&mut columns, Known::ColIds, ColType::Text)?;
     Ok(columns)
 }
 
@@ -70,13 +90,12 @@ pub(crate) fn rules_columns(alloc: Global) -> Result<Vec<ColDef>, AllocError>
     ensures { IfOk result (λ v. v.items ≡ rules_columns) }
 {
     let mut columns = Vec::with_capacity(alloc, 6)?;
-    let resources = ColType::Ref(name_of(alloc, Known::Resources)?);
-    columns.push(metadata_column(alloc, Known::Resource, resources)?)?;
-    columns.push(metadata_column(alloc, Known::AclFormula, ColType::Text)?)?;
-    columns.push(metadata_column(alloc, Known::PermissionsText, ColType::Text)?)?;
-    columns.push(metadata_column(alloc, Known::RulePos, ColType::Int)?)?;
-    columns.push(metadata_column(alloc, Known::UserAttributes, ColType::Text)?)?;
-    columns.push(metadata_column(alloc, Known::Memo, ColType::Text)?)?;
+    add_ref(&mut columns, Known::Resource, Known::Resources)?;
+    add(&mut columns, Known::AclFormula, ColType::Text)?;
+    add(&mut columns, Known::PermissionsText, ColType::Text)?;
+    add(&mut columns, Known::RulePos, ColType::Int)?;
+    add(&mut columns, Known::UserAttributes, ColType::Text)?;
+    add(&mut columns, Known::Memo, ColType::Text)?;
     Ok(columns)
 }
 
@@ -85,9 +104,9 @@ pub(crate) fn first_columns(alloc: Global) -> Result<Vec<ColDef>, AllocError>
     ensures { IfOk result (λ v. v.items ≡ first_columns) }
 {
     let mut columns = Vec::with_capacity(alloc, 3)?;
-    columns.push(data_column(alloc, Known::A, ColType::Any, 1)?)?;
-    columns.push(data_column(alloc, Known::B, ColType::Any, 2)?)?;
-    columns.push(data_column(alloc, Known::C, ColType::Any, 3)?)?;
+    add_any(&mut columns, Known::A, 1)?;
+    add_any(&mut columns, Known::B, 2)?;
+    add_any(&mut columns, Known::C, 3)?;
     Ok(columns)
 }
 

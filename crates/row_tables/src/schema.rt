@@ -25,12 +25,25 @@ fn table_rows(alloc: Global, plain: &[RowTable]) -> Result<Vec<u32>, AllocError>
     Ok(rows)
 }
 
+fn add_cell(cells: &mut Vec<CellValue>, value: CellValue) -> Result<(), AllocError>
+    ensures { IfOk result (λ _. cells.new.items ≡ cells.old.items ++ value ∷ []) }
+{
+    cells.push(value)?;
+    Ok(())
+}
+
+fn name_cell(alloc: Global, name: &Name) -> Result<CellValue, AllocError>
+    ensures { IfOk result (λ v. v ≡ Text name.now) }
+{
+    Ok(CellValue::Text(CellText::copy_of(alloc, name.as_str())?))
+}
+
 fn name_cells(alloc: Global, name: &Name) -> Result<ValueList, AllocError>
     ensures { IfOk result (λ l. l ≡ Text name.now ∷ []) }
 {
-    let mut cells = ValueList::new(alloc);
-    cells.push(CellValue::Text(CellText::copy_of(alloc, name.as_str())?))?;
-    Ok(cells)
+    let mut cells = Vec::with_capacity(alloc, 1)?;
+    add_cell(&mut cells, name_cell(alloc, name)?)?;
+    Ok(ValueList::from(cells))
 }
 
 fn table_cells(alloc: Global, plain: &[RowTable]) -> Result<Vec<ValueList>, AllocError>
@@ -82,11 +95,11 @@ fn description(alloc: Global, told: &Described) -> Result<ValueList, AllocError>
 {
     let info = &told.column.info;
     let mut cells = Vec::with_capacity(alloc, 5)?;
-    cells.push(CellValue::Int(i64::from(told.parent)))?;
-    cells.push(CellValue::Text(CellText::copy_of(alloc, told.column.id.as_str())?))?;
-    cells.push(CellValue::Text(type_text(alloc, &info.ty)?))?;
-    cells.push(CellValue::Bool(info.is_formula))?;
-    cells.push(CellValue::Text(info.formula.clone()?))?;
+    add_cell(&mut cells, CellValue::Int(i64::from(told.parent)))?;
+    add_cell(&mut cells, name_cell(alloc, &told.column.id)?)?;
+    add_cell(&mut cells, CellValue::Text(type_text(alloc, &info.ty)?))?;
+    add_cell(&mut cells, CellValue::Bool(info.is_formula))?;
+    add_cell(&mut cells, CellValue::Text(info.formula.clone()?))?;
     Ok(ValueList::from(cells))
 }
 
@@ -154,6 +167,27 @@ pub(crate) fn swap_schema(tables: &mut Vec<RowTable>, schema: SchemaTables) -> S
     swapped
 }
 
+// The tables with one before them.
+fn put_first(first: RowTable, tables: Vec<RowTable>) -> Result<Vec<RowTable>, AllocError>
+    ensures { IfOk result (λ v. v.items ≡ first ∷ tables.items) }
+{
+    let mut tables = tables;
+    tables.insert(0, first)?;
+    Ok(tables)
+}
+
+// The tables with two before them.
+fn put_before(
+    first: RowTable,
+    second: RowTable,
+    tables: Vec<RowTable>,
+) -> Result<Vec<RowTable>, AllocError>
+    ensures { IfOk result (λ v. v.items ≡ first ∷ second ∷ tables.items) }
+{
+    let tables = put_first(second, tables)?;
+    put_first(first, tables)
+}
+
 /// All tables of a document: the schema tables, the access tables, and then the plain ones, which
 /// the schema tables describe.
 pub(crate) fn with_schema(
@@ -164,12 +198,7 @@ pub(crate) fn with_schema(
 ) -> Result<Vec<RowTable>, AllocError>
     ensures { IfOk result (λ v. v.items ≡ metadata_table tables_id (tables_grid plain.items) ∷ metadata_table columns_id (columns_grid plain.items) ∷ resources ∷ rules ∷ plain.items) }
 {
-    let first = table_of_tables(alloc, &plain)?;
-    let second = table_of_columns(alloc, &plain)?;
-    let mut tables = plain;
-    tables.insert(0, rules)?;
-    tables.insert(0, resources)?;
-    tables.insert(0, second)?;
-    tables.insert(0, first)?;
-    Ok(tables)
+    let SchemaTables { tables, columns } = schema_tables(alloc, &plain)?;
+    let plain = put_before(resources, rules, plain)?;
+    put_before(tables, columns, plain)
 }

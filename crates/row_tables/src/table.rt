@@ -104,17 +104,28 @@ impl RowTable {
         &self.rows
     }
 
+    /// A copy of the table with these columns in place of its own.
+    pub(crate) fn with_columns(&self, columns: Vec<ColDef>) -> Result<RowTable, AllocError>
+        ensures { IfOk result (λ t. t ≡ record { id = self.now.id; row = self.now.row; grid = record { columns = columns.items; rows = self.now.grid.rows; cells = self.now.grid.cells } }) }
+    {
+        let cells = copy_of_cells(self.alloc(), &self.cells)?;
+        let rows = self.rows_copy()?;
+        let id = self.id.clone()?;
+        let row = self.row;
+        Ok(RowTable {
+            id,
+            row,
+            columns,
+            rows,
+            cells,
+        })
+    }
+
     /// A copy of the table.
     pub fn copy(&self) -> Result<RowTable, AllocError>
         ensures { IfOk result (λ t. t ≡ self.now) }
     {
-        Ok(RowTable {
-            id: self.id.clone()?,
-            row: self.row,
-            columns: copy_of_columns(self.alloc(), &self.columns)?,
-            rows: Vec::from_slice(self.alloc(), &self.rows)?,
-            cells: copy_of_cells(self.alloc(), &self.cells)?,
-        })
+        self.with_columns(self.columns_copy()?)
     }
 
     pub(crate) fn columns_copy(&self) -> Result<Vec<ColDef>, AllocError>

@@ -1,6 +1,6 @@
 //! A whole document as plain tables.
 
-ghost use Rattle.std.specs.Prelude.{◌≡◌, IfOk, MatchOption, None, Some};
+ghost use Rattle.std.specs.Prelude.{◌≡◌, ◌∷◌, [], IfOk, MatchOption, None, Some};
 ghost use Rattle.std.specs.Option.{option_copied};
 ghost use Rattle.doc_model.specs.ByIds.{find_id};
 ghost use Rattle.doc_model.specs.Document.{table_id};
@@ -77,12 +77,20 @@ fn first_table(alloc: Global) -> Result<RowTable, AllocError>
     })
 }
 
+// The plain tables of a new document.
+fn first_tables(alloc: Global) -> Result<Vec<RowTable>, AllocError>
+    ensures { IfOk result (λ v. v.items ≡ first_table ∷ []) }
+{
+    let mut plain = Vec::new(alloc);
+    plain.push(first_table(alloc)?)?;
+    Ok(plain)
+}
+
 // The tables of a new document.
 fn new_tables(alloc: Global) -> Result<Vec<RowTable>, AllocError>
     ensures { IfOk result (λ v. v.items ≡ new_document) }
 {
-    let mut plain = Vec::new(alloc);
-    plain.push(first_table(alloc)?)?;
+    let plain = first_tables(alloc)?;
     with_schema(alloc, empty_resources(alloc)?, empty_rules(alloc)?, plain)
 }
 

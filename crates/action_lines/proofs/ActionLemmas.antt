@@ -6,7 +6,7 @@ use Rattle.doc_model.specs.declared.user_action.UserAction.{UserAction}
 use Rattle.doc_model.specs.declared.user_action.UserAction.TheVariants.{Add, Update, Remove, AddTable, RemoveTable, RenameTable, AddColumn, RemoveColumn, RenameColumn, ModifyColumn}
 use Rattle.action_lines.specs.declared.kinds.ActionKind.{ActionKind}
 use Rattle.action_lines.specs.declared.kinds.ActionKind.TheVariants as kind
-use Rattle.action_lines.specs.Items.{item_text}
+use Rattle.action_lines.specs.Items.{item_text, only_text, text_beside}
 use Rattle.action_lines.specs.Kinds.{kind_from}
 use Rattle.action_lines.specs.Infos.{IsColumn, column_from}
 use Rattle.action_lines.specs.RecordActions.{add_from, update_from, remove_from}
@@ -65,7 +65,7 @@ remove_word true t rest = refl
 remove_word false t rest = refl
 
 pub action_again : (a : UserAction) (d : Data) → IsAction a d → action_from d ≡ Some a
-unfolding action_from add_table_from remove_table_from rename_table_from add_column_from remove_column_from rename_column_from modify_column_from
+unfolding action_from add_table_from remove_table_from rename_table_from add_column_from remove_column_from rename_column_from modify_column_from only_text text_beside
 action_again (Add t single count explicit cs) d h = ap action_from h.2 ∙ add_word single t h.0 ∙ add_again single t count explicit cs h.0 h.1
 action_again (Update t single ids cs) d h = ap action_from h.2 ∙ update_word single t h.0 ∙ update_again single t ids cs h.0 h.1
 action_again (Remove t single ids) d h = ap action_from h.2 ∙ remove_word single t h.0 ∙ remove_again single t ids h.0 h.1

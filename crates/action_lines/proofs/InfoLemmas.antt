@@ -4,14 +4,14 @@ use Rattle.std.specs.Str.{bytes_eq}
 use Rattle.serde_json.specs.Data.{Data, null, boolean, number, string, array, object, Members, no_members, member}
 use Rattle.serde_json.specs.Find.{as_object, as_str, as_bool}
 use Rattle.doc_model.specs.declared.user_action.UserCol.{UserCol}
-use Rattle.action_lines.specs.Fields.{field_text, optional, put_front, is_done}
-use Rattle.action_lines.specs.Infos.{info_members, info_data, column_data, maybe, said_from, info_from, column_from}
+use Rattle.action_lines.specs.Fields.{field_text, found_or, optional, put_front, is_done}
+use Rattle.action_lines.specs.Infos.{info_members, info_data, column_data, maybe, col_from, said_from, info_from, column_from}
 use Rattle.action_lines.proofs.StepLemmas.{bind_some, guard_then, some_same}
 use Rattle.action_lines.proofs.FieldLemmas.{object_takes, text_takes, same_text, field_text_takes, done_takes}
 
 -- a value that is taken or not, and the members behind it
 abbrev parted : Bool → List ℕ → Data → Members → Option Data × Members
-parted b l d ms = if b then (Some d, ms) else (None, member l d ms)
+parted b l d ms = found_or (if b then Some (d, ms) else None) (member l d ms)
 
 parted_by : (b : Bool) (k l : List ℕ) (d : Data) (ms : Members) → (b ≡ true → l ≡ k) → member l d ms ≡ put_front k (parted b l d ms).0 (parted b l d ms).1
 parted_by true k l d ms same = ap (λ x. member x d ms) (same refl)
@@ -47,14 +47,14 @@ Says : Option Data → List ℕ → Members → UserCol → Type 0
 Says formula id ms c = (id ≡ c.id) × (formula ≡ option_map string c.formula) × (ms ≡ info_members c)
 
 said_takes : (formula : Option Data) (id : List ℕ) (ms : Members) (c : UserCol) → said_from formula id ms ≡ Some c → Says formula id ms c
-unfolding said_from Says
+unfolding said_from col_from Says
 said_takes formula id ms c e =
     let is = optional (codes "isFormula") ms in
     let ty = optional (codes "type") is.1 in
     let done = guard_then (is_done ty.1) _ c e in
-    let f = bind_some (maybe as_str formula) _ c done.1 in
-    let b = bind_some (maybe as_bool is.0) _ c f.2 in
-    let t = bind_some (maybe as_str ty.0) _ c b.2 in
+    let b = bind_some (maybe as_bool is.0) _ c done.1 in
+    let f = bind_some (maybe as_str formula) _ c b.2 in
+    let t = bind_some (maybe as_str ty.0) _ c f.2 in
     let made : UserCol = record { id = id; ty = t.0; is_formula = b.0; formula = f.0 } in
     let last : is.1 ≡ put_front (codes "type") (option_map string t.0) no_members =
     optional_takes (codes "type") is.1 ∙ (λ i. put_front (codes "type") (maybe_text_takes ty.0 t.0 t.1 i) (done_takes ty.1 done.0 i)) in
@@ -86,7 +86,7 @@ column_takes d c e =
 
 said_again : (formula : Option Data) (id : List ℕ) (f t : Option (List ℕ)) (b : Option Bool) → maybe as_str formula ≡ Some f
     → said_from formula id (info_members (record { id = id; ty = t; is_formula = b; formula = f })) ≡ Some (record { id = id; ty = t; is_formula = b; formula = f })
-unfolding said_from
+unfolding said_from col_from
 said_again formula id f None None e = rw e refl
 said_again formula id f None (Some b) e = rw e refl
 said_again formula id f (Some t) None e = rw e refl

@@ -1,11 +1,11 @@
 -- What it says that items were found, and that all of them were read.
-use Rattle.std.proofs.Common.{◌≡◌, List, [], ◌∷◌, ◌++◌, Bool, true, false, Option, Some, sym, ap, ◌∙◌, subst, append_assoc, append-nil}
-use Rattle.serde_json.specs.Data.{Data, Items, no_items, item}
-use Rattle.serde_json.specs.Find.{as_array}
+use Rattle.std.proofs.Common.{◌≡◌, ℕ, List, [], ◌∷◌, ◌++◌, Bool, true, false, Option, Some, sym, ap, ◌∙◌, subst, append_assoc, append-nil}
+use Rattle.serde_json.specs.Data.{Data, string, Items, no_items, item}
+use Rattle.serde_json.specs.Find.{as_array, as_str}
 use Rattle.action_lines.specs.Steps.{◌>>=◌}
-use Rattle.action_lines.specs.Items.{all_onto, all_from, AreAll, only_item, two_items, given_from, AreGiven}
+use Rattle.action_lines.specs.Items.{all_onto, all_from, AreAll, only_item, two_items, only_text, text_beside, given_from, AreGiven}
 use Rattle.action_lines.proofs.StepLemmas.{bind_some, some_same}
-use Rattle.action_lines.proofs.FieldLemmas.{array_takes}
+use Rattle.action_lines.proofs.FieldLemmas.{array_takes, text_takes}
 
 pub only_takes : (ds : Items) (d : Data) → only_item ds ≡ Some d → ds ≡ item d no_items
 only_takes no_items d e = absurd (cc)
@@ -22,6 +22,20 @@ two_take (item c (item g no_items)) d f e =
     let p = pair_same (c, g) (d, f) e in
     λ i. item ((p i).0) (item ((p i).1) no_items)
 two_take (item c (item g (item h ds))) d f e = absurd (cc)
+
+pub only_text_takes : (ds : Items) (t : List ℕ) → only_text ds ≡ Some t → ds ≡ item (string t) no_items
+unfolding only_text
+only_text_takes ds t e =
+    let d = bind_some (only_item ds) _ t e in
+    only_takes ds d.0 d.1 ∙ ap (λ x. item x no_items) (text_takes d.0 t d.2)
+
+pub text_beside_takes : (ds : Items) (t : List ℕ) (d : Data) → text_beside ds ≡ Some (t, d) → ds ≡ item (string t) (item d no_items)
+unfolding text_beside
+text_beside_takes ds t d e =
+    let two = bind_some (two_items ds) _ (t, d) e in
+    let s = bind_some (as_str two.0.0) _ (t, d) two.2 in
+    let p = some_same (s.0, two.0.1) (t, d) s.2 in
+    two_take ds two.0.0 two.0.1 two.1 ∙ (λ i. item (text_takes two.0.0 s.0 s.1 i) (item two.0.1 no_items)) ∙ (λ i. item (string ((p i).0)) (item ((p i).1) no_items))
 
 module _ {X : Type 0} (from : Data → Option X) (stands : X → Data → Type 0) where
   onto_takes : ((d : Data) (x : X) → from d ≡ Some x → stands x d) → (ds : Items) (done xs : List X) → all_onto from done ds ≡ Some xs → (found : List X) × (done ++ found ≡ xs) × AreAll stands found ds

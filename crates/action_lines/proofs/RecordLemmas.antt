@@ -1,62 +1,66 @@
 -- Actions on records are read exactly from what stands behind their tables.
 use Rattle.std.proofs.Common.{◌≡◌, ℕ, ℤ, List, Bool, true, length, Some, refl, ap, ◌∙◌, subst}
 use Rattle.serde_json.specs.Data.{Items, no_items, item}
-use Rattle.serde_json.specs.Find.{as_object}
 use Rattle.doc_model.specs.declared.user_action.UserAction.{UserAction}
 use Rattle.doc_model.specs.declared.user_action.UserAction.TheVariants.{Add, Update, Remove}
 use Rattle.doc_model.specs.declared.user_action.UserColumn.{UserColumn}
 use Rattle.action_lines.specs.Items.{only_item, two_items, given_from}
 use Rattle.action_lines.specs.Numbers.{int_from, IsInt, new_row_from, IsNewRow}
-use Rattle.action_lines.specs.Columns.{columns_from}
-use Rattle.action_lines.specs.RecordActions.{is_count, is_explicit, IsAdd, IsUpdate, IsRemove, count_from, add_from, update_from, remove_from}
+use Rattle.action_lines.specs.Columns.{columns_in}
+use Rattle.action_lines.specs.RecordActions.{is_count, is_explicit, IsAdd, IsUpdate, IsRemove, count_from, new_rows_from, add_from, update_from, remove_from}
 use Rattle.action_lines.specs.Actions.{action_data, add_kind, update_kind, remove_kind, IsAction}
 use Rattle.action_lines.proofs.StepLemmas.{bind_some, guard_some, some_same}
-use Rattle.action_lines.proofs.FieldLemmas.{object_takes}
 use Rattle.action_lines.proofs.ItemLemmas.{only_takes, two_take, given_takes, given_again}
 use Rattle.action_lines.proofs.NumberLemmas.{int_takes, int_read, new_row_takes, new_row_read}
-use Rattle.action_lines.proofs.ColumnLemmas.{columns_take, columns_again}
+use Rattle.action_lines.proofs.ColumnLemmas.{columns_in_take, columns_in_again}
 
 pub add_takes : (single : Bool) (t : List ℕ) (rest : Items) (a : UserAction) → add_from single t rest ≡ Some a → IsAction a (action_data (add_kind single) t rest)
-unfolding add_from
+unfolding add_from new_rows_from
 add_takes single t rest a e =
     let two = bind_some (two_items rest) _ a e in
-    let ids = bind_some (given_from new_row_from single two.0.0) _ a two.2 in
-    let count = bind_some (count_from ids.0) _ a ids.2 in
-    let members = bind_some (as_object two.0.1) _ a count.2 in
-    let cs = bind_some (columns_from single count.0 members.0) _ a members.2 in
+    let rows = bind_some (new_rows_from single two.0.0) _ a two.2 in
+    let ids = bind_some (given_from new_row_from single two.0.0) _ rows.0 rows.1 in
+    let count = bind_some (count_from ids.0) _ rows.0 ids.2 in
+    let same = some_same (count.0, is_explicit ids.0) rows.0 count.2 in
     let few = guard_some (is_count (length ids.0)) (length ids.0) count.0 count.1 in
-    let is : IsAdd single count.0 (is_explicit ids.0) cs.0 rest = record {
+    let counted : length ids.0 ≡ rows.0.0 = few.1 ∙ ap (λ (p : ℕ × Bool). p.0) same in
+    let cs = bind_some (columns_in single rows.0.0 two.0.1) _ a rows.2 in
+    let members = columns_in_take single rows.0.0 two.0.1 cs.0 cs.1 in
+    let is : IsAdd single rows.0.0 rows.0.1 cs.0 rest = record {
       ids = ids.0;
       rows = two.0.0;
       members = members.0;
       given = given_takes new_row_from IsNewRow new_row_takes single two.0.0 ids.0 ids.1;
-      counted = few.1;
-      few = subst (λ n. is_count n ≡ true) few.1 few.0;
-      told = refl;
-      filled = columns_take single count.0 members.0 cs.0 cs.1;
-      whole = two_take rest two.0.0 two.0.1 two.1 ∙ ap (λ x. item two.0.0 (item x no_items)) (object_takes two.0.1 members.0 members.1);
+      counted = counted;
+      few = subst (λ n. is_count n ≡ true) counted few.0;
+      told = ap (λ (p : ℕ × Bool). p.1) same;
+      filled = members.1;
+      whole = two_take rest two.0.0 two.0.1 two.1 ∙ ap (λ x. item two.0.0 (item x no_items)) members.2;
     } in
-    subst (λ x. IsAction x (action_data (add_kind single) t rest)) (some_same (Add t single count.0 (is_explicit ids.0) cs.0) a cs.2) (rest, is, refl)
+    subst (λ x. IsAction x (action_data (add_kind single) t rest)) (some_same (Add t single rows.0.0 rows.0.1 cs.0) a cs.2) (rest, is, refl)
+
+new_rows_again : (single : Bool) (count : ℕ) (explicit : Bool) (cs : List UserColumn) (rest : Items) (h : IsAdd single count explicit cs rest) → new_rows_from single h.rows ≡ Some (count, explicit)
+unfolding new_rows_from
+new_rows_again single count explicit cs rest h = rw (given_again new_row_from IsNewRow new_row_read single h.ids h.rows h.given, h.counted, h.few, h.told) refl
 
 pub add_again : (single : Bool) (t : List ℕ) (count : ℕ) (explicit : Bool) (cs : List UserColumn) (rest : Items) → IsAdd single count explicit cs rest → add_from single t rest ≡ Some (Add t single count explicit cs)
 unfolding add_from
 add_again single t count explicit cs rest h =
-    ap (add_from single t) h.whole
-    ∙ rw (given_again new_row_from IsNewRow new_row_read single h.ids h.rows h.given, h.counted, h.few, columns_again single count cs h.members h.filled, h.told) refl
+    ap (add_from single t) h.whole ∙ rw (new_rows_again single count explicit cs rest h, columns_in_again single count cs h.members h.filled) refl
 
 pub update_takes : (single : Bool) (t : List ℕ) (rest : Items) (a : UserAction) → update_from single t rest ≡ Some a → IsAction a (action_data (update_kind single) t rest)
 unfolding update_from
 update_takes single t rest a e =
     let two = bind_some (two_items rest) _ a e in
     let ids = bind_some (given_from int_from single two.0.0) _ a two.2 in
-    let members = bind_some (as_object two.0.1) _ a ids.2 in
-    let cs = bind_some (columns_from single (length ids.0) members.0) _ a members.2 in
+    let cs = bind_some (columns_in single (length ids.0) two.0.1) _ a ids.2 in
+    let members = columns_in_take single (length ids.0) two.0.1 cs.0 cs.1 in
     let is : IsUpdate single ids.0 cs.0 rest = record {
       rows = two.0.0;
       members = members.0;
       given = given_takes int_from IsInt int_takes single two.0.0 ids.0 ids.1;
-      filled = columns_take single (length ids.0) members.0 cs.0 cs.1;
-      whole = two_take rest two.0.0 two.0.1 two.1 ∙ ap (λ x. item two.0.0 (item x no_items)) (object_takes two.0.1 members.0 members.1);
+      filled = members.1;
+      whole = two_take rest two.0.0 two.0.1 two.1 ∙ ap (λ x. item two.0.0 (item x no_items)) members.2;
     } in
     subst (λ x. IsAction x (action_data (update_kind single) t rest)) (some_same (Update t single ids.0 cs.0) a cs.2) (rest, is, refl)
 
@@ -64,7 +68,7 @@ pub update_again : (single : Bool) (t : List ℕ) (ids : List ℤ) (cs : List Us
 unfolding update_from
 update_again single t ids cs rest h =
     ap (update_from single t) h.whole
-    ∙ rw (given_again int_from IsInt int_read single ids h.rows h.given, columns_again single (length ids) cs h.members h.filled) refl
+    ∙ rw (given_again int_from IsInt int_read single ids h.rows h.given, columns_in_again single (length ids) cs h.members h.filled) refl
 
 pub remove_takes : (single : Bool) (t : List ℕ) (rest : Items) (a : UserAction) → remove_from single t rest ≡ Some a → IsAction a (action_data (remove_kind single) t rest)
 unfolding remove_from

@@ -1,7 +1,6 @@
 -- Values are read exactly from the JSON that stands for them.
-use Rattle.std.proofs.Common.{◌≡◌, ℕ, ℤ, List, true, Some, option_map, refl, sym, ap, ◌∙◌, subst}
+use Rattle.std.proofs.Common.{◌≡◌, ℕ, ℤ, List, true, false, Some, option_map, refl, sym, ap, ◌∙◌, subst}
 use Rattle.serde_json.specs.Data.{Data, null, boolean, number, string, array, object, Items, no_items, item}
-use Rattle.serde_json.specs.Find.{as_array, as_str}
 use Rattle.cell_types.specs.declared.value.CellItem.{CellItem}
 use Rattle.cell_types.specs.declared.value.CellItem.TheVariants as one
 use Rattle.cell_types.specs.declared.value.CellValue.{CellValue}
@@ -10,14 +9,14 @@ use Rattle.cell_types.specs.declared.value.RowRef.{RowRef}
 use Rattle.cell_types.specs.declared.value.RowSet.{RowSet}
 use Rattle.action_lines.specs.declared.marks.Mark.{Mark}
 use Rattle.action_lines.specs.declared.marks.Mark.TheVariants as mark
-use Rattle.action_lines.specs.Items.{item_text, is_last, all_from, AreAll, only_item, two_items}
+use Rattle.action_lines.specs.Items.{item_text, is_last, all_from, AreAll, only_item, only_text, text_beside, given_from}
 use Rattle.action_lines.specs.Numbers.{IsInt, int_from, IsRow, row_from}
 use Rattle.action_lines.specs.Marks.{mark_from, error_from}
 use Rattle.action_lines.specs.Values.{has_name_length, marked, IsItem, IsValue}
 use Rattle.action_lines.specs.ReadValues.{name_from, date_from, ref_from, set_from, error_value_from, marked_item_from, item_from, marked_value_from, value_from}
 use Rattle.action_lines.proofs.StepLemmas.{bind_some, map_some, guard_some, some_same}
-use Rattle.action_lines.proofs.FieldLemmas.{array_takes, text_takes, item_text_takes, last_takes}
-use Rattle.action_lines.proofs.ItemLemmas.{only_takes, two_take, all_take, all_again}
+use Rattle.action_lines.proofs.FieldLemmas.{item_text_takes, last_takes}
+use Rattle.action_lines.proofs.ItemLemmas.{only_takes, only_text_takes, text_beside_takes, all_take, all_again, given_takes}
 use Rattle.action_lines.proofs.NumberLemmas.{int_takes, int_again, int_read, row_takes, row_read}
 use Rattle.action_lines.proofs.MarkLemmas.{mark_takes, error_takes, error_again}
 
@@ -38,47 +37,44 @@ date_takes ds z e =
     (a.0, int_takes a.0 z a.2, only_takes ds a.0 a.1)
 
 -- a text that is a name, in front of one more item
-name_takes : (ds : Items) (d next : Data) (text name : List ℕ) → two_items ds ≡ Some (d, next) → as_str d ≡ Some text → name_from text ≡ Some name
+name_takes : (ds : Items) (text : List ℕ) (next : Data) (name : List ℕ) → text_beside ds ≡ Some (text, next) → name_from text ≡ Some name
     → (has_name_length name ≡ true) × (ds ≡ item (string name) (item next no_items))
-name_takes ds d next text name two is named =
+name_takes ds text next name two named =
     let g = guard_some (has_name_length text) text name named in (
       subst (λ t. has_name_length t ≡ true) g.1 g.0,
-      two_take ds d next two ∙ ap (λ x. item x (item next no_items)) (text_takes d text is ∙ ap string g.1),
+      text_beside_takes ds text next two ∙ ap (λ x. item (string x) (item next no_items)) g.1,
     )
 
 ref_takes : (ds : Items) (r : RowRef) → ref_from ds ≡ Some r → IsRefRest r ds
 unfolding ref_from IsRefRest
 ref_takes ds r e =
-    let two = bind_some (two_items ds) _ r e in
-    let text = bind_some (as_str two.0.0) _ r two.2 in
-    let name = bind_some (name_from text.0) _ r text.2 in
-    let row = bind_some (row_from two.0.1) _ r name.2 in
+    let two = bind_some (text_beside ds) _ r e in
+    let row = bind_some (row_from two.0.1) _ r two.2 in
+    let name = bind_some (name_from two.0.0) _ r row.2 in
     let made : RowRef = record { table = name.0; row = row.0 } in
-    let named = name_takes ds two.0.0 two.0.1 text.0 name.0 two.1 text.1 name.1 in
+    let named = name_takes ds two.0.0 two.0.1 name.0 two.1 name.1 in
     let is : IsRefRest made ds = (two.0.1, named.0, row_takes two.0.1 row.0 row.1, named.1) in
-    subst (λ x. IsRefRest x ds) (some_same made r row.2) is
+    subst (λ x. IsRefRest x ds) (some_same made r name.2) is
 
 set_takes : (ds : Items) (s : RowSet) → set_from ds ≡ Some s → IsSetRest s ds
 unfolding set_from IsSetRest
 set_takes ds s e =
-    let two = bind_some (two_items ds) _ s e in
-    let text = bind_some (as_str two.0.0) _ s two.2 in
-    let name = bind_some (name_from text.0) _ s text.2 in
-    let items = bind_some (as_array two.0.1) _ s name.2 in
-    let rows = bind_some (all_from row_from items.0) _ s items.2 in
+    let two = bind_some (text_beside ds) _ s e in
+    let name = bind_some (name_from two.0.0) _ s two.2 in
+    let rows = bind_some (given_from row_from false two.0.1) _ s name.2 in
     let made : RowSet = record { table = name.0; rows = rows.0 } in
-    let named = name_takes ds two.0.0 two.0.1 text.0 name.0 two.1 text.1 name.1 in
-    let whole = named.1 ∙ ap (λ x. item (string name.0) (item x no_items)) (array_takes two.0.1 items.0 items.1) in
-    let is : IsSetRest made ds = (items.0, named.0, all_take row_from IsRow row_takes items.0 rows.0 rows.1, whole) in
+    let named = name_takes ds two.0.0 two.0.1 name.0 two.1 name.1 in
+    let items = given_takes row_from IsRow row_takes false two.0.1 rows.0 rows.1 in
+    let whole = named.1 ∙ ap (λ x. item (string name.0) (item x no_items)) items.2 in
+    let is : IsSetRest made ds = (items.0, named.0, items.1, whole) in
     subst (λ x. IsSetRest x ds) (some_same made s rows.2) is
 
 error_value_takes : (ds : Items) (v : CellValue) → error_value_from ds ≡ Some v → IsValue v (marked mark.Err ds)
 unfolding error_value_from
 error_value_takes ds v e =
-    let a = bind_some (only_item ds) _ v e in
-    let name = bind_some (as_str a.0) _ v a.2 in
+    let name = bind_some (only_text ds) _ v e in
     let kind = bind_some (error_from name.0) _ v name.2 in
-    let whole = only_takes ds a.0 a.1 ∙ ap (λ x. item x no_items) (text_takes a.0 name.0 name.1 ∙ ap string (error_takes name.0 kind.0 kind.1)) in
+    let whole = only_text_takes ds name.0 name.1 ∙ ap (λ x. item (string x) no_items) (error_takes name.0 kind.0 kind.1) in
     subst (λ w. IsValue w (marked mark.Err ds)) (some_same (value.Err kind.0) v kind.2) (ap (marked mark.Err) whole)
 
 -- ---- items of lists
@@ -117,7 +113,7 @@ item_takes (array ds) x e =
 item_takes (object ms) x e = absurd (cc)
 
 pub item_again : (x : CellItem) (d : Data) → IsItem x d → item_from d ≡ Some x
-unfolding item_from date_from ref_from
+unfolding item_from date_from ref_from text_beside
 item_again one.Null d h = ap item_from h
 item_again (one.Int z) d h = ap item_from h.1 ∙ ap (option_map one.Int) (int_again z h.0)
 item_again (one.Bool b) d h = ap item_from h
@@ -164,7 +160,7 @@ value_takes (array ds) v e =
 value_takes (object ms) v e = absurd (cc)
 
 pub value_again : (v : CellValue) (d : Data) → IsValue v d → value_from d ≡ Some v
-unfolding value_from date_from ref_from set_from error_value_from
+unfolding value_from date_from ref_from set_from error_value_from only_text text_beside
 value_again value.Null d h = ap value_from h
 value_again (value.Int z) d h = ap value_from h.1 ∙ ap (option_map value.Int) (int_again z h.0)
 value_again (value.Bool b) d h = ap value_from h

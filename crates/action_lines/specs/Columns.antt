@@ -3,6 +3,7 @@ use Rattle.std.specs.Prelude.{◌≡◌, ℕ, List, [], ◌∷◌, ◌++◌, Boo
 use Rattle.std.specs.Ordering.{nat_cmp, is_lt}
 use Rattle.std.specs.Cmp.Lexicographic.{slice_cmp}
 use Rattle.serde_json.specs.Data.{Data, Members, no_members, member}
+use Rattle.serde_json.specs.Find.{as_object}
 use Rattle.cell_types.specs.declared.value.CellValue.{CellValue}
 use Rattle.doc_model.specs.declared.user_action.UserColumn.{UserColumn}
 use Rattle.action_lines.specs.Steps.{◌>>=◌}
@@ -34,10 +35,18 @@ pub data AreColumns (single : Bool) (count : ℕ) : Option (List ℕ) → List U
 unfoldable pub cells_from : Bool → ℕ → Data → Option (List CellValue)
 cells_from single count d = given_from value_from single d >>= λ vs. if nat_eq (length vs) count then Some vs else None
 
+-- the column of a member, behind the one before
+unfoldable pub filled_from : Bool → ℕ → Option (List ℕ) → List ℕ → Data → Option UserColumn
+filled_from single count before name d = if is_after before name then (cells_from single count d >>= λ vs. Some (filled name vs)) else None
+
 -- the columns read so far, and those of the members behind the one before
 abbrev pub columns_onto : Bool → ℕ → List UserColumn → Option (List ℕ) → Members → Option (List UserColumn)
 columns_onto single count done before no_members = Some done
-columns_onto single count done before (member name d ms) = if is_after before name then (cells_from single count d >>= λ vs. columns_onto single count (done ++ filled name vs ∷ []) (Some name) ms) else None
+columns_onto single count done before (member name d ms) = filled_from single count before name d >>= λ c. columns_onto single count (done ++ c ∷ []) (Some name) ms
 
 abbrev pub columns_from : Bool → ℕ → Members → Option (List UserColumn)
 columns_from single count ms = columns_onto single count [] None ms
+
+-- the columns of an object
+unfoldable pub columns_in : Bool → ℕ → Data → Option (List UserColumn)
+columns_in single count d = as_object d >>= λ ms. columns_from single count ms

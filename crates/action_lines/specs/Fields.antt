@@ -23,10 +23,14 @@ abbrev pub is_done : Members → Bool
 is_done no_members = true
 is_done (member k d ms) = false
 
+-- the value that was found and the members after it; else these members
+abbrev pub found_or : Option (Data × Members) → Members → Option Data × Members
+found_or (Some p) ms = (Some p.0, p.1)
+found_or None ms = (None, ms)
+
 -- the first member's value and the members after it, where it has this key; else all members
 abbrev pub optional : List ℕ → Members → Option Data × Members
-optional k no_members = (None, no_members)
-optional k (member l d ms) = if bytes_eq l k then (Some d, ms) else (None, member l d ms)
+optional k ms = found_or (field k ms) ms
 
 -- a member in front, where there is a value for it
 abbrev pub put_front : List ℕ → Option Data → Members → Members

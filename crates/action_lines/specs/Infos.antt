@@ -29,12 +29,16 @@ abbrev pub maybe : {X : Type 0} → (Data → Option X) → Option Data → Opti
 maybe from None = Some None
 maybe from (Some d) = from d >>= λ x. Some (Some x)
 
+-- what the formula, the flag and the type say of the column of that id
+unfoldable pub col_from : List ℕ → Option Data → Option Data → Option Data → Option UserCol
+col_from id formula is ty = maybe as_bool is >>= λ b. maybe as_str formula >>= λ f. maybe as_str ty >>= λ t. Some (record { id = id; ty = t; is_formula = b; formula = f })
+
 -- what the formula, the id and the members behind it say
 unfoldable pub said_from : Option Data → List ℕ → Members → Option UserCol
 said_from formula id ms =
     let is = optional (codes "isFormula") ms in
     let ty = optional (codes "type") is.1 in
-    if is_done ty.1 then (maybe as_str formula >>= λ f. maybe as_bool is.0 >>= λ b. maybe as_str ty.0 >>= λ t. Some (record { id = id; ty = t; is_formula = b; formula = f })) else None
+    if is_done ty.1 then col_from id formula is.0 ty.0 else None
 
 -- of a column that is named beside it
 unfoldable pub info_from : List ℕ → Data → Option UserCol

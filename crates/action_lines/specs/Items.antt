@@ -47,6 +47,14 @@ two_items (item d no_items) = None
 two_items (item d (item e no_items)) = Some (d, e)
 two_items (item d (item e (item f ds))) = None
 
+-- the one item that there is, where it is a text
+unfoldable pub only_text : Items → Option (List ℕ)
+only_text ds = only_item ds >>= λ d. as_str d
+
+-- the two items that there are, where the first is a text
+unfoldable pub text_beside : Items → Option (List ℕ × Data)
+text_beside ds = two_items ds >>= λ two. as_str two.0 >>= λ t. Some (t, two.1)
+
 -- one thing, or the things of an array
 abbrev pub given_from : {X : Type 0} → (Data → Option X) → Bool → Data → Option (List X)
 given_from from true d = from d >>= λ x. Some (x ∷ [])

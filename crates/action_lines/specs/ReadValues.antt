@@ -1,7 +1,6 @@
 -- How a value is read from JSON.
-use Rattle.std.specs.Prelude.{ℕ, ℤ, List, Option, Some, None, option_map, if◌then◌else◌}
+use Rattle.std.specs.Prelude.{ℕ, ℤ, List, false, Option, Some, None, option_map, if◌then◌else◌}
 use Rattle.serde_json.specs.Data.{Data, null, boolean, number, string, array, object, Items}
-use Rattle.serde_json.specs.Find.{as_array, as_str}
 use Rattle.cell_types.specs.declared.value.CellItem.{CellItem}
 use Rattle.cell_types.specs.declared.value.CellItem.TheVariants as one
 use Rattle.cell_types.specs.declared.value.CellValue.{CellValue}
@@ -11,7 +10,7 @@ use Rattle.cell_types.specs.declared.value.RowSet.{RowSet}
 use Rattle.action_lines.specs.declared.marks.Mark.{Mark}
 use Rattle.action_lines.specs.declared.marks.Mark.TheVariants as mark
 use Rattle.action_lines.specs.Steps.{◌>>=◌}
-use Rattle.action_lines.specs.Items.{item_text, is_last, all_from, only_item, two_items}
+use Rattle.action_lines.specs.Items.{item_text, is_last, all_from, only_item, only_text, text_beside, given_from}
 use Rattle.action_lines.specs.Numbers.{int_from, row_from}
 use Rattle.action_lines.specs.Marks.{mark_from, error_from}
 use Rattle.action_lines.specs.Values.{has_name_length}
@@ -26,27 +25,23 @@ date_from ds = only_item ds >>= λ d. int_from d
 -- behind the mark of a row
 unfoldable pub ref_from : Items → Option RowRef
 ref_from ds = do
-  two ← two_items ds
-  text ← as_str two.0
-  name ← name_from text
+  two ← text_beside ds
   row ← row_from two.1
+  name ← name_from two.0
   Some (record { table = name; row = row })
 
 -- behind the mark of a set of rows
 unfoldable pub set_from : Items → Option RowSet
 set_from ds = do
-  two ← two_items ds
-  text ← as_str two.0
-  name ← name_from text
-  items ← as_array two.1
-  rows ← all_from row_from items
+  two ← text_beside ds
+  name ← name_from two.0
+  rows ← given_from row_from false two.1
   Some (record { table = name; rows = rows })
 
 -- behind the mark of an error
 unfoldable pub error_value_from : Items → Option CellValue
 error_value_from ds = do
-  one ← only_item ds
-  name ← as_str one
+  name ← only_text ds
   kind ← error_from name
   Some (value.Err kind)
 

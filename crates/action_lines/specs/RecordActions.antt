@@ -2,14 +2,13 @@
 use Rattle.std.specs.Prelude.{◌≡◌, ◌^◌, ℕ, ℤ, List, Bool, true, nat_lt, length, Option, Some, None, is_some, if◌then◌else◌}
 use Rattle.std.specs.List.{list_any}
 use Rattle.serde_json.specs.Data.{Data, object, Items, no_items, item, Members}
-use Rattle.serde_json.specs.Find.{as_object}
 use Rattle.doc_model.specs.declared.user_action.UserAction.{UserAction}
 use Rattle.doc_model.specs.declared.user_action.UserAction.TheVariants.{Add, Update, Remove}
 use Rattle.doc_model.specs.declared.user_action.UserColumn.{UserColumn}
 use Rattle.action_lines.specs.Steps.{◌>>=◌}
 use Rattle.action_lines.specs.Items.{only_item, two_items, given_from, AreGiven}
 use Rattle.action_lines.specs.Numbers.{int_from, IsInt, new_row_from, IsNewRow}
-use Rattle.action_lines.specs.Columns.{AreColumns, columns_from}
+use Rattle.action_lines.specs.Columns.{AreColumns, columns_in}
 
 -- the number of rows fits 32 bits
 abbrev pub is_count : ℕ → Bool
@@ -50,21 +49,25 @@ pub record IsRemove (single : Bool) (ids : List ℤ) (rest : Items) : Type 0 whe
 abbrev pub count_from : List (Option ℤ) → Option ℕ
 count_from ids = if is_count (length ids) then Some (length ids) else None
 
+-- how many rows are added, and whether some row is given by its id
+unfoldable pub new_rows_from : Bool → Data → Option (ℕ × Bool)
+new_rows_from single d = do
+  ids ← given_from new_row_from single d
+  count ← count_from ids
+  Some (count, is_explicit ids)
+
 unfoldable pub add_from : Bool → List ℕ → Items → Option UserAction
 add_from single table rest = do
   two ← two_items rest
-  ids ← given_from new_row_from single two.0
-  count ← count_from ids
-  members ← as_object two.1
-  columns ← columns_from single count members
-  Some (Add table single count (is_explicit ids) columns)
+  rows ← new_rows_from single two.0
+  columns ← columns_in single rows.0 two.1
+  Some (Add table single rows.0 rows.1 columns)
 
 unfoldable pub update_from : Bool → List ℕ → Items → Option UserAction
 update_from single table rest = do
   two ← two_items rest
   ids ← given_from int_from single two.0
-  members ← as_object two.1
-  columns ← columns_from single (length ids) members
+  columns ← columns_in single (length ids) two.1
   Some (Update table single ids columns)
 
 unfoldable pub remove_from : Bool → List ℕ → Items → Option UserAction

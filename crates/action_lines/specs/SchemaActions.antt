@@ -1,20 +1,19 @@
 -- Actions on tables and columns: how what stands behind the table in their JSON is read.
-use Rattle.std.specs.Prelude.{ℕ, List, Option, Some, None, if◌then◌else◌}
+use Rattle.std.specs.Prelude.{ℕ, List, false, Option, Some, None, if◌then◌else◌}
 use Rattle.serde_json.specs.Data.{Items}
-use Rattle.serde_json.specs.Find.{as_str, as_array}
+use Rattle.serde_json.specs.Find.{as_str}
 use Rattle.doc_model.specs.declared.user_action.UserAction.{UserAction}
 use Rattle.doc_model.specs.declared.user_action.UserAction.TheVariants.{AddTable, RemoveTable, RenameTable, AddColumn, RemoveColumn, RenameColumn, ModifyColumn}
 use Rattle.doc_model.specs.declared.user_action.UserCol.{UserCol}
 use Rattle.action_lines.specs.Steps.{◌>>=◌}
-use Rattle.action_lines.specs.Items.{is_last, only_item, two_items, all_from}
+use Rattle.action_lines.specs.Items.{is_last, only_item, only_text, text_beside, given_from}
 use Rattle.action_lines.specs.Infos.{info_from, column_from}
 
 -- [info,..]
 unfoldable pub add_table_from : List ℕ → Items → Option UserAction
 add_table_from table rest = do
   infos ← only_item rest
-  items ← as_array infos
-  columns ← all_from column_from items
+  columns ← given_from column_from false infos
   Some (AddTable table columns)
 
 -- nothing more
@@ -24,16 +23,14 @@ remove_table_from table rest = if is_last rest then Some (RemoveTable table) els
 -- new
 unfoldable pub rename_table_from : List ℕ → Items → Option UserAction
 rename_table_from table rest = do
-  one ← only_item rest
-  new ← as_str one
+  new ← only_text rest
   Some (RenameTable table new)
 
 -- column, info
 unfoldable pub beside_from : Items → Option UserCol
 beside_from rest = do
-  two ← two_items rest
-  id ← as_str two.0
-  info_from id two.1
+  two ← text_beside rest
+  info_from two.0 two.1
 
 unfoldable pub add_column_from : List ℕ → Items → Option UserAction
 add_column_from table rest = beside_from rest >>= λ column. Some (AddColumn table column)
@@ -44,14 +41,12 @@ modify_column_from table rest = beside_from rest >>= λ column. Some (ModifyColu
 -- column
 unfoldable pub remove_column_from : List ℕ → Items → Option UserAction
 remove_column_from table rest = do
-  one ← only_item rest
-  column ← as_str one
+  column ← only_text rest
   Some (RemoveColumn table column)
 
 -- column, new
 unfoldable pub rename_column_from : List ℕ → Items → Option UserAction
 rename_column_from table rest = do
-  two ← two_items rest
-  column ← as_str two.0
+  two ← text_beside rest
   new ← as_str two.1
-  Some (RenameColumn table column new)
+  Some (RenameColumn table two.0 new)

@@ -42,33 +42,27 @@ fn kind_action(
     }
 }
 
-#[tactic(auto, unfolding(crate::specs::Actions::action_from))]
-fn action_of(alloc: Global, value: &Value) -> Result<Option<UserAction>, AllocError>
-    ensures { IfOk result (λ o. o ≡ action_from (view value.now)) }
-{
-    let Some(mut items) = Items::of(value) else {
-        return Ok(None);
-    };
-    let Some(word) = items.take_text() else {
-        return Ok(None);
-    };
-    let Some(table) = items.take_text() else {
-        return Ok(None);
-    };
-    let Some(kind) = kind_of(word) else {
-        return Ok(None);
-    };
-    kind_action(alloc, kind, table, items)
-}
-
 impl Spelled for UserAction {
     ghost use Rattle.doc_model.specs.declared.user_action.UserAction.{UserAction};
     ghost use Rattle.action_lines.specs.Actions.{action_from};
 
     ghost from = { action_from };
 
+    #[tactic(auto, unfolding(crate::specs::Actions::action_from))]
     fn read(alloc: Global, value: &Value) -> Result<Option<UserAction>, AllocError> {
-        action_of(alloc, value)
+        let Some(mut items) = Items::of(value) else {
+            return Ok(None);
+        };
+        let Some(word) = items.take_text() else {
+            return Ok(None);
+        };
+        let Some(table) = items.take_text() else {
+            return Ok(None);
+        };
+        let Some(kind) = kind_of(word) else {
+            return Ok(None);
+        };
+        kind_action(alloc, kind, table, items)
     }
 }
 

@@ -1,7 +1,7 @@
 //! The columns of a record action.
-ghost use Rattle.std.specs.Prelude.{◌≡◌, IfOk, option_map};
+ghost use Rattle.std.specs.Prelude.{◌≡◌, Some, IfOk, option_map};
 ghost use Rattle.serde_json.specs.View.{view, members_view};
-ghost use Rattle.action_lines.specs.Columns.{is_after, filled, cells_from, columns_from};
+ghost use Rattle.action_lines.specs.Columns.{is_after, filled, cells_from, filled_from, columns_from, columns_in};
 
 use crate::fields::Fields;
 use crate::spelled::read_given;
@@ -39,15 +39,36 @@ fn cells_of(
     Ok(Some(ValueList::from(values)))
 }
 
-fn column(alloc: Global, name: &str, values: ValueList) -> Result<UserColumn, AllocError>
-    ensures { IfOk result (λ c. c ≡ filled name.now values) }
+// The column of that name, behind the one before.
+#[tactic(auto, unfolding(crate::specs::Columns::filled_from))]
+fn filled_of(
+    alloc: Global,
+    single: bool,
+    count: usize,
+    before: Option<&str>,
+    name: &str,
+    value: &Value,
+) -> Result<Option<UserColumn>, AllocError>
+    ensures { IfOk result (λ o. o ≡ filled_from single count (option_map (λ b. b.now) before.entry) name.now (view value.now)) }
 {
-    let id = CellText::copy_of(alloc, name)?;
-    Ok(UserColumn { id, values })
+    if !is_after(before, name) {
+        return Ok(None);
+    }
+    match cells_of(alloc, single, count, value)? {
+        Some(values) => column(alloc, name, values),
+        None => Ok(None),
+    }
 }
 
-/// The columns that the members name, each with a value for each row.
-pub(crate) fn columns_of(
+fn column(alloc: Global, name: &str, values: ValueList) -> Result<Option<UserColumn>, AllocError>
+    ensures { IfOk result (λ o. o ≡ Some (filled name.now values)) }
+{
+    let id = CellText::copy_of(alloc, name)?;
+    Ok(Some(UserColumn { id, values }))
+}
+
+// The columns that the members name, each with a value for each row.
+fn columns_of(
     alloc: Global,
     single: bool,
     count: usize,
@@ -58,14 +79,27 @@ pub(crate) fn columns_of(
     let mut columns = UserColumnList::new(alloc);
     let mut before = None;
     while let Some((name, value)) = fields.next_field() {
-        if !is_after(before, name) {
-            return Ok(None);
+        match filled_of(alloc, single, count, before, name, value)? {
+            Some(column) => columns.push(column)?,
+            None => return Ok(None),
         }
-        let Some(values) = cells_of(alloc, single, count, value)? else {
-            return Ok(None);
-        };
-        columns.push(column(alloc, name, values)?)?;
         before = Some(name);
     }
     Ok(Some(columns))
+}
+
+/// The columns that an object names, each with a value for each row.
+#[tactic(auto, unfolding(crate::specs::Columns::columns_in))]
+pub(crate) fn columns_in(
+    alloc: Global,
+    single: bool,
+    count: usize,
+    value: &Value,
+) -> Result<Option<UserColumnList>, AllocError>
+    ensures { IfOk result (λ o. o ≡ columns_in single count (view value.now)) }
+{
+    match Fields::of(value) {
+        Some(fields) => columns_of(alloc, single, count, fields),
+        None => Ok(None),
+    }
 }

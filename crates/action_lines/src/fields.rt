@@ -40,9 +40,11 @@ impl<'a> Fields<'a> {
     pub fn take(&mut self, key: &str) -> Option<&'a Value>
         ensures { option_map (λ v. (view v.now, members_view self.new.left)) result ≡ field key.now (members_view self.old.left) }
     {
-        match self.left.next() {
-            Some((name, value)) if name.as_str() == key => Some(value),
-            _ => None,
+        let (name, value) = self.left.next()?;
+        if name.as_str() == key {
+            Some(value)
+        } else {
+            None
         }
     }
 
@@ -60,13 +62,15 @@ impl<'a> Fields<'a> {
     pub fn take_optional(&mut self, key: &str) -> Result<Option<&'a Value>, AllocError>
         ensures { IfOk result (λ o. (option_map (λ v. view v.now) o, members_view self.new.left) ≡ optional key.now (members_view self.old.left)) }
     {
-        let mut ahead = self.left.clone()?;
-        match ahead.next() {
-            Some((name, value)) if name.as_str() == key => {
-                self.left = ahead;
+        let mut ahead = Fields {
+            left: self.left.clone()?,
+        };
+        match ahead.take(key) {
+            Some(value) => {
+                *self = ahead;
                 Ok(Some(value))
             }
-            _ => Ok(None),
+            None => Ok(None),
         }
     }
 

@@ -1,8 +1,8 @@
 //! What is said of columns, as lines spell it.
-ghost use Rattle.std.specs.Prelude.{◌≡◌, IfOk, option_map};
+ghost use Rattle.std.specs.Prelude.{◌≡◌, Some, IfOk, option_map};
 ghost use Rattle.serde_json.specs.Find.{as_str, as_bool};
 ghost use Rattle.serde_json.specs.View.{view, members_view};
-ghost use Rattle.action_lines.specs.Infos.{maybe, said_from, info_from, column_from};
+ghost use Rattle.action_lines.specs.Infos.{maybe, col_from, said_from, info_from, column_from};
 
 use crate::fields::Fields;
 use crate::spelled::Spelled;
@@ -36,6 +36,48 @@ fn maybe_bool(value: Option<&Value>) -> Option<Option<bool>>
     }
 }
 
+// The column of that id.
+fn named(
+    alloc: Global,
+    id: &str,
+    ty: Option<CellText>,
+    is_formula: Option<bool>,
+    formula: Option<CellText>,
+) -> Result<Option<UserCol>, AllocError>
+    ensures { IfOk result (λ o. o ≡ Some (record { id = id.now; ty = ty; is_formula = is_formula; formula = formula })) }
+{
+    let id = CellText::copy_of(alloc, id)?;
+    Ok(Some(UserCol {
+        id,
+        ty,
+        is_formula,
+        formula,
+    }))
+}
+
+// The column of that id which the formula, the flag and the type describe.
+#[tactic(auto, unfolding(crate::specs::Infos::col_from))]
+fn col_of(
+    alloc: Global,
+    id: &str,
+    formula: Option<&Value>,
+    is_formula: Option<&Value>,
+    ty: Option<&Value>,
+) -> Result<Option<UserCol>, AllocError>
+    ensures { IfOk result (λ o. o ≡ col_from id.now (option_map (λ v. view v.now) formula.entry) (option_map (λ v. view v.now) is_formula.entry) (option_map (λ v. view v.now) ty.entry)) }
+{
+    let Some(is_formula) = maybe_bool(is_formula) else {
+        return Ok(None);
+    };
+    let Some(formula) = maybe_text(alloc, formula)? else {
+        return Ok(None);
+    };
+    match maybe_text(alloc, ty)? {
+        Some(ty) => named(alloc, id, ty, is_formula, formula),
+        None => Ok(None),
+    }
+}
+
 // The column that the formula, the id and the members behind it describe.
 #[tactic(auto, unfolding(crate::specs::Infos::said_from))]
 fn said_of(
@@ -48,24 +90,11 @@ fn said_of(
 {
     let is_formula = fields.take_optional("isFormula")?;
     let ty = fields.take_optional("type")?;
-    if !fields.is_done() {
-        return Ok(None);
+    if fields.is_done() {
+        col_of(alloc, id, formula, is_formula, ty)
+    } else {
+        Ok(None)
     }
-    let Some(formula) = maybe_text(alloc, formula)? else {
-        return Ok(None);
-    };
-    let Some(is_formula) = maybe_bool(is_formula) else {
-        return Ok(None);
-    };
-    let Some(ty) = maybe_text(alloc, ty)? else {
-        return Ok(None);
-    };
-    Ok(Some(UserCol {
-        id: CellText::copy_of(alloc, id)?,
-        ty,
-        is_formula,
-        formula,
-    }))
 }
 
 /// What is said of the column of that id, which stands beside it.

@@ -2,7 +2,7 @@
 ghost use Rattle.std.specs.Prelude.{◌≡◌, option_map};
 ghost use Rattle.serde_json.specs.Find.{as_array};
 ghost use Rattle.serde_json.specs.View.{view, items_view};
-ghost use Rattle.action_lines.specs.Items.{first_item, item_text, is_last, only_item, two_items};
+ghost use Rattle.action_lines.specs.Items.{first_item, item_text, is_last, only_item, two_items, only_text, text_beside};
 
 use serde_json::Value;
 
@@ -65,6 +65,31 @@ impl<'a> Items<'a> {
         match (self.take(), self.take()) {
             (Some(first), Some(second)) if self.is_done() => Some((first, second)),
             _ => None,
+        }
+    }
+
+    /// The one item that is left, where there is one alone and it is a text.
+    #[tactic(auto, unfolding(crate::specs::Items::only_text))]
+    pub(crate) fn only_text(self) -> Option<&'a str>
+        ensures { option_map (λ t. t.now) result ≡ only_text (items_view self.entry.left.now) }
+    {
+        match self.only() {
+            Some(value) => value.as_str(),
+            None => None,
+        }
+    }
+
+    /// The two items that are left, where there are two alone and the first is a text.
+    #[tactic(auto, unfolding(crate::specs::Items::text_beside))]
+    pub(crate) fn text_beside(self) -> Option<(&'a str, &'a Value)>
+        ensures { option_map (λ p. (p.0.now, view p.1.now)) result ≡ text_beside (items_view self.entry.left.now) }
+    {
+        match self.two() {
+            Some((first, second)) => match first.as_str() {
+                Some(text) => Some((text, second)),
+                None => None,
+            },
+            None => None,
         }
     }
 

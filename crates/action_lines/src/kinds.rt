@@ -3,7 +3,7 @@ ghost use Rattle.std.specs.Prelude.{◌≡◌};
 ghost use Rattle.action_lines.specs.Kinds.{kind_from};
 
 /// What stands first in the array of a user action.
-#[derive(Clone, Copy, Debug)]
+#[derive(Clone, Copy)]
 pub(crate) enum ActionKind {
     AddRecord,
     BulkAddRecord,

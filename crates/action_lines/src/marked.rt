@@ -6,7 +6,7 @@ ghost use Rattle.action_lines.specs.ReadValues.{name_from, date_from, ref_from, 
 use crate::items::Items;
 use crate::marks::error_of;
 use crate::numbers::{int_of, row_of};
-use crate::spelled::read_all;
+use crate::spelled::read_given;
 use cell_types::{CellText, CellValue, Name, RowList, RowRef, RowSet};
 use std::alloc::{AllocError, Global};
 
@@ -33,19 +33,16 @@ pub(crate) fn date_of(items: Items<'_>) -> Option<i64>
 pub(crate) fn ref_of(alloc: Global, items: Items<'_>) -> Result<Option<RowRef>, AllocError>
     ensures { IfOk result (λ o. o ≡ ref_from (items_view items.entry.left.now)) }
 {
-    let Some((table, row)) = items.two() else {
-        return Ok(None);
-    };
-    let Some(table) = table.as_str() else {
-        return Ok(None);
-    };
-    let Some(table) = name_of(alloc, table)? else {
+    let Some((table, row)) = items.text_beside() else {
         return Ok(None);
     };
     let Some(row) = row_of(row) else {
         return Ok(None);
     };
-    Ok(Some(RowRef { table, row }))
+    match name_of(alloc, table)? {
+        Some(table) => Ok(Some(RowRef { table, row })),
+        None => Ok(None),
+    }
 }
 
 // The set of rows behind its mark.
@@ -53,23 +50,19 @@ pub(crate) fn ref_of(alloc: Global, items: Items<'_>) -> Result<Option<RowRef>, 
 pub(crate) fn set_of(alloc: Global, items: Items<'_>) -> Result<Option<RowSet>, AllocError>
     ensures { IfOk result (λ o. o ≡ set_from (items_view items.entry.left.now)) }
 {
-    let Some((table, rows)) = items.two() else {
-        return Ok(None);
-    };
-    let Some(table) = table.as_str() else {
+    let Some((table, rows)) = items.text_beside() else {
         return Ok(None);
     };
     let Some(table) = name_of(alloc, table)? else {
         return Ok(None);
     };
-    let Some(rows) = Items::of(rows) else {
-        return Ok(None);
-    };
-    let Some(rows) = read_all::<u32>(alloc, rows)? else {
-        return Ok(None);
-    };
-    let rows = RowList::from(rows);
-    Ok(Some(RowSet { table, rows }))
+    match read_given::<u32>(alloc, false, rows)? {
+        Some(rows) => Ok(Some(RowSet {
+            table,
+            rows: RowList::from(rows),
+        })),
+        None => Ok(None),
+    }
 }
 
 // The error behind its mark.
@@ -77,14 +70,11 @@ pub(crate) fn set_of(alloc: Global, items: Items<'_>) -> Result<Option<RowSet>, 
 pub(crate) fn error_value_of(items: Items<'_>) -> Option<CellValue>
     ensures { result ≡ error_value_from (items_view items.entry.left.now) }
 {
-    let Some(name) = items.only() else {
+    let Some(name) = items.only_text() else {
         return None;
     };
-    let Some(name) = name.as_str() else {
-        return None;
-    };
-    let Some(kind) = error_of(name) else {
-        return None;
-    };
-    Some(CellValue::Err(kind))
+    match error_of(name) {
+        Some(kind) => Some(CellValue::Err(kind)),
+        None => None,
+    }
 }

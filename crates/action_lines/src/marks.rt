@@ -5,7 +5,7 @@ ghost use Rattle.action_lines.specs.Marks.{mark_from, error_from};
 use cell_types::ErrKind;
 
 /// What stands first in the array of a value.
-#[derive(Clone, Copy, Debug)]
+#[derive(Clone, Copy)]
 pub(crate) enum Mark {
     List,
     Date,

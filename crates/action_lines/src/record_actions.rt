@@ -1,14 +1,15 @@
 //! Actions on records, as lines spell them.
-ghost use Rattle.std.specs.Prelude.{◌≡◌, IfOk, option_map};
-ghost use Rattle.serde_json.specs.View.{items_view};
-ghost use Rattle.action_lines.specs.RecordActions.{is_explicit, count_from, add_from, update_from, remove_from};
+ghost use Rattle.std.specs.Prelude.{◌≡◌, Some, IfOk};
+ghost use Rattle.serde_json.specs.View.{view, items_view};
+ghost use Rattle.doc_model.specs.declared.user_action.UserAction.TheVariants.{Add, Update, Remove};
+ghost use Rattle.action_lines.specs.RecordActions.{is_explicit, count_from, new_rows_from, add_from, update_from, remove_from};
 
-use crate::columns::columns_of;
-use crate::fields::Fields;
+use crate::columns::columns_in;
 use crate::items::Items;
 use crate::spelled::read_given;
 use cell_types::CellText;
-use doc_model::{IdList, UserAction};
+use doc_model::{IdList, UserAction, UserColumnList};
+use serde_json::Value;
 use std::alloc::{AllocError, Global};
 
 // Whether some row was given by its id.
@@ -25,6 +26,41 @@ fn count_of(ids: &[Option<i64>]) -> Option<u32>
     u32::try_from(ids.len()).ok()
 }
 
+// How many rows are added, and whether some row was given by its id.
+#[tactic(auto, unfolding(crate::specs::RecordActions::new_rows_from))]
+fn new_rows_of(alloc: Global, single: bool, rows: &Value) -> Result<Option<(u32, bool)>, AllocError>
+    ensures { IfOk result (λ o. o ≡ new_rows_from single (view rows.now)) }
+{
+    let Some(ids) = read_given::<Option<i64>>(alloc, single, rows)? else {
+        return Ok(None);
+    };
+    let explicit = is_explicit(ids.as_slice());
+    match count_of(ids.as_slice()) {
+        Some(count) => Ok(Some((count, explicit))),
+        None => Ok(None),
+    }
+}
+
+fn adding(
+    alloc: Global,
+    table: &str,
+    single: bool,
+    count: u32,
+    explicit: bool,
+    columns: UserColumnList,
+) -> Result<Option<UserAction>, AllocError>
+    ensures { IfOk result (λ o. o ≡ Some (Add table.now single count explicit columns)) }
+{
+    let table = CellText::copy_of(alloc, table)?;
+    Ok(Some(UserAction::Add {
+        table,
+        single,
+        count,
+        explicit,
+        columns,
+    }))
+}
+
 /// The action that adds records, from what stands behind its table.
 #[tactic(auto, unfolding(crate::specs::RecordActions::add_from))]
 pub(crate) fn add_of(
@@ -38,23 +74,29 @@ pub(crate) fn add_of(
     let Some((rows, members)) = items.two() else {
         return Ok(None);
     };
-    let Some(ids) = read_given::<Option<i64>>(alloc, single, rows)? else {
+    let Some((count, explicit)) = new_rows_of(alloc, single, rows)? else {
         return Ok(None);
     };
-    let Some(count) = count_of(ids.as_slice()) else {
-        return Ok(None);
-    };
-    let Some(fields) = Fields::of(members) else {
-        return Ok(None);
-    };
-    let Some(columns) = columns_of(alloc, single, count as usize, fields)? else {
-        return Ok(None);
-    };
-    Ok(Some(UserAction::Add {
-        table: CellText::copy_of(alloc, table)?,
+    match columns_in(alloc, single, count as usize, members)? {
+        Some(columns) => adding(alloc, table, single, count, explicit, columns),
+        None => Ok(None),
+    }
+}
+
+fn updating(
+    alloc: Global,
+    table: &str,
+    single: bool,
+    rows: IdList,
+    columns: UserColumnList,
+) -> Result<Option<UserAction>, AllocError>
+    ensures { IfOk result (λ o. o ≡ Some (Update table.now single rows columns)) }
+{
+    let table = CellText::copy_of(alloc, table)?;
+    Ok(Some(UserAction::Update {
+        table,
         single,
-        count,
-        explicit: is_explicit(ids.as_slice()),
+        rows,
         columns,
     }))
 }
@@ -75,17 +117,25 @@ pub(crate) fn update_of(
     let Some(ids) = read_given::<i64>(alloc, single, rows)? else {
         return Ok(None);
     };
-    let Some(fields) = Fields::of(members) else {
-        return Ok(None);
-    };
-    let Some(columns) = columns_of(alloc, single, ids.len(), fields)? else {
-        return Ok(None);
-    };
-    Ok(Some(UserAction::Update {
-        table: CellText::copy_of(alloc, table)?,
+    match columns_in(alloc, single, ids.len(), members)? {
+        Some(columns) => updating(alloc, table, single, IdList::from(ids), columns),
+        None => Ok(None),
+    }
+}
+
+fn removing(
+    alloc: Global,
+    table: &str,
+    single: bool,
+    rows: IdList,
+) -> Result<Option<UserAction>, AllocError>
+    ensures { IfOk result (λ o. o ≡ Some (Remove table.now single rows)) }
+{
+    let table = CellText::copy_of(alloc, table)?;
+    Ok(Some(UserAction::Remove {
+        table,
         single,
-        rows: IdList::from(ids),
-        columns,
+        rows,
     }))
 }
 
@@ -102,12 +152,8 @@ pub(crate) fn remove_of(
     let Some(rows) = items.only() else {
         return Ok(None);
     };
-    let Some(ids) = read_given::<i64>(alloc, single, rows)? else {
-        return Ok(None);
-    };
-    Ok(Some(UserAction::Remove {
-        table: CellText::copy_of(alloc, table)?,
-        single,
-        rows: IdList::from(ids),
-    }))
+    match read_given::<i64>(alloc, single, rows)? {
+        Some(ids) => removing(alloc, table, single, IdList::from(ids)),
+        None => Ok(None),
+    }
 }

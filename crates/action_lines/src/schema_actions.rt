@@ -1,14 +1,34 @@
 //! Actions on tables and columns, as lines spell them.
-ghost use Rattle.std.specs.Prelude.{◌≡◌, IfOk};
+ghost use Rattle.std.specs.Prelude.{◌≡◌, Some, IfOk, option_map};
 ghost use Rattle.serde_json.specs.View.{items_view};
+ghost use Rattle.doc_model.specs.declared.user_action.UserAction.TheVariants.{AddTable, RenameColumn};
 ghost use Rattle.action_lines.specs.SchemaActions.{add_table_from, remove_table_from, rename_table_from, beside_from, add_column_from, remove_column_from, rename_column_from, modify_column_from};
 
 use crate::infos::info_of;
 use crate::items::Items;
-use crate::spelled::read_all;
+use crate::spelled::read_given;
 use cell_types::CellText;
 use doc_model::{UserAction, UserCol, UserColList};
 use std::alloc::{AllocError, Global};
+
+// Copies of two texts.
+fn copies_of(alloc: Global, first: &str, second: &str) -> Result<(CellText, CellText), AllocError>
+    ensures { IfOk result (λ p. p ≡ (first.now, second.now)) }
+{
+    let first = CellText::copy_of(alloc, first)?;
+    Ok((first, CellText::copy_of(alloc, second)?))
+}
+
+fn adding_table(
+    alloc: Global,
+    table: &str,
+    columns: UserColList,
+) -> Result<Option<UserAction>, AllocError>
+    ensures { IfOk result (λ o. o ≡ Some (AddTable table.now columns)) }
+{
+    let table = CellText::copy_of(alloc, table)?;
+    Ok(Some(UserAction::AddTable { table, columns }))
+}
 
 /// The action that adds a table, from what stands behind its name.
 #[tactic(auto, unfolding(crate::specs::SchemaActions::add_table_from))]
@@ -22,16 +42,10 @@ pub(crate) fn add_table_of(
     let Some(infos) = items.only() else {
         return Ok(None);
     };
-    let Some(infos) = Items::of(infos) else {
-        return Ok(None);
-    };
-    let Some(columns) = read_all::<UserCol>(alloc, infos)? else {
-        return Ok(None);
-    };
-    Ok(Some(UserAction::AddTable {
-        table: CellText::copy_of(alloc, table)?,
-        columns: UserColList::from(columns),
-    }))
+    match read_given::<UserCol>(alloc, false, infos)? {
+        Some(columns) => adding_table(alloc, table, UserColList::from(columns)),
+        None => Ok(None),
+    }
 }
 
 /// The action that removes a table, from what stands behind its name.
@@ -60,16 +74,11 @@ pub(crate) fn rename_table_of(
 ) -> Result<Option<UserAction>, AllocError>
     ensures { IfOk result (λ o. o ≡ rename_table_from table.now (items_view items.entry.left.now)) }
 {
-    let Some(new) = items.only() else {
+    let Some(new) = items.only_text() else {
         return Ok(None);
     };
-    let Some(new) = new.as_str() else {
-        return Ok(None);
-    };
-    Ok(Some(UserAction::RenameTable {
-        table: CellText::copy_of(alloc, table)?,
-        new: CellText::copy_of(alloc, new)?,
-    }))
+    let (table, new) = copies_of(alloc, table, new)?;
+    Ok(Some(UserAction::RenameTable { table, new }))
 }
 
 // A column's id, and beside it what is said of it.
@@ -77,13 +86,25 @@ pub(crate) fn rename_table_of(
 fn beside_of(alloc: Global, items: Items<'_>) -> Result<Option<UserCol>, AllocError>
     ensures { IfOk result (λ o. o ≡ beside_from (items_view items.entry.left.now)) }
 {
-    let Some((id, info)) = items.two() else {
-        return Ok(None);
-    };
-    let Some(id) = id.as_str() else {
-        return Ok(None);
-    };
-    info_of(alloc, id, info)
+    match items.text_beside() {
+        Some((id, info)) => info_of(alloc, id, info),
+        None => Ok(None),
+    }
+}
+
+// The name of a table, and the column that is said of it.
+fn table_and_column(
+    alloc: Global,
+    table: &str,
+    items: Items<'_>,
+) -> Result<Option<(CellText, UserCol)>, AllocError>
+    ensures { IfOk result (λ o. o ≡ option_map (λ c. (table.now, c)) (beside_from (items_view items.entry.left.now))) }
+{
+    let table = CellText::copy_of(alloc, table)?;
+    match beside_of(alloc, items)? {
+        Some(column) => Ok(Some((table, column))),
+        None => Ok(None),
+    }
 }
 
 /// The action that adds a column, from what stands behind its table.
@@ -95,11 +116,10 @@ pub(crate) fn add_column_of(
 ) -> Result<Option<UserAction>, AllocError>
     ensures { IfOk result (λ o. o ≡ add_column_from table.now (items_view items.entry.left.now)) }
 {
-    let Some(column) = beside_of(alloc, items)? else {
-        return Ok(None);
-    };
-    let table = CellText::copy_of(alloc, table)?;
-    Ok(Some(UserAction::AddColumn { table, column }))
+    match table_and_column(alloc, table, items)? {
+        Some((table, column)) => Ok(Some(UserAction::AddColumn { table, column })),
+        None => Ok(None),
+    }
 }
 
 /// The action that changes a column, from what stands behind its table.
@@ -111,11 +131,10 @@ pub(crate) fn modify_column_of(
 ) -> Result<Option<UserAction>, AllocError>
     ensures { IfOk result (λ o. o ≡ modify_column_from table.now (items_view items.entry.left.now)) }
 {
-    let Some(column) = beside_of(alloc, items)? else {
-        return Ok(None);
-    };
-    let table = CellText::copy_of(alloc, table)?;
-    Ok(Some(UserAction::ModifyColumn { table, column }))
+    match table_and_column(alloc, table, items)? {
+        Some((table, column)) => Ok(Some(UserAction::ModifyColumn { table, column })),
+        None => Ok(None),
+    }
 }
 
 /// The action that removes a column, from what stands behind its table.
@@ -127,16 +146,24 @@ pub(crate) fn remove_column_of(
 ) -> Result<Option<UserAction>, AllocError>
     ensures { IfOk result (λ o. o ≡ remove_column_from table.now (items_view items.entry.left.now)) }
 {
-    let Some(column) = items.only() else {
+    let Some(column) = items.only_text() else {
         return Ok(None);
     };
-    let Some(column) = column.as_str() else {
-        return Ok(None);
-    };
-    Ok(Some(UserAction::RemoveColumn {
-        table: CellText::copy_of(alloc, table)?,
-        column: CellText::copy_of(alloc, column)?,
-    }))
+    let (table, column) = copies_of(alloc, table, column)?;
+    Ok(Some(UserAction::RemoveColumn { table, column }))
+}
+
+fn renaming_column(
+    alloc: Global,
+    table: &str,
+    column: &str,
+    new: &str,
+) -> Result<Option<UserAction>, AllocError>
+    ensures { IfOk result (λ o. o ≡ Some (RenameColumn table.now column.now new.now)) }
+{
+    let table = CellText::copy_of(alloc, table)?;
+    let (column, new) = copies_of(alloc, column, new)?;
+    Ok(Some(UserAction::RenameColumn { table, column, new }))
 }
 
 /// The action that renames a column, from what stands behind its table.
@@ -148,18 +175,11 @@ pub(crate) fn rename_column_of(
 ) -> Result<Option<UserAction>, AllocError>
     ensures { IfOk result (λ o. o ≡ rename_column_from table.now (items_view items.entry.left.now)) }
 {
-    let Some((column, new)) = items.two() else {
+    let Some((column, new)) = items.text_beside() else {
         return Ok(None);
     };
-    let Some(column) = column.as_str() else {
-        return Ok(None);
-    };
-    let Some(new) = new.as_str() else {
-        return Ok(None);
-    };
-    Ok(Some(UserAction::RenameColumn {
-        table: CellText::copy_of(alloc, table)?,
-        column: CellText::copy_of(alloc, column)?,
-        new: CellText::copy_of(alloc, new)?,
-    }))
+    match new.as_str() {
+        Some(new) => renaming_column(alloc, table, column, new),
+        None => Ok(None),
+    }
 }

@@ -106,6 +106,24 @@ fn table_in<D: DocTables>(
     Ok(Some(SchemaTable { id, row, columns }))
 }
 
+// The schema, by the ids of the schema tables.
+fn schema_by<D: DocTables>(
+    alloc: Global,
+    tables: &D,
+    names: &SchemaNames,
+) -> Result<Schema, AllocError>
+    requires { AreSchemaNames names.now }
+    ensures { IfOk result (λ schema. schema ≡ schema_of (D.document tables.now)) }
+{
+    let mut schema = Schema::new(alloc);
+    for row in rows_in(tables, &names.tables) {
+        if let Some(table) = table_in(alloc, tables, names, *row)? {
+            schema.push(table)?;
+        }
+    }
+    Ok(schema)
+}
+
 /// The schema that the schema tables of a document say.
 ///
 /// Errors: want of memory.
@@ -113,12 +131,5 @@ fn table_in<D: DocTables>(
 pub fn schema_of<D: DocTables>(alloc: Global, tables: &D) -> Result<Schema, AllocError>
     ensures { IfOk result (λ schema. schema ≡ schema_of (D.document tables.now)) }
 {
-    let names = schema_names(alloc)?;
-    let mut schema = Schema::new(alloc);
-    for row in rows_in(tables, &names.tables) {
-        if let Some(table) = table_in(alloc, tables, &names, *row)? {
-            schema.push(table)?;
-        }
-    }
-    Ok(schema)
+    schema_by(alloc, tables, &schema_names(alloc)?)
 }

@@ -1,7 +1,7 @@
 use Rattle.std.proofs.Common.{◌≡◌, take}
 use Rattle.std.specs.Prelude.{filter_map}
 use Rattle.meta_schema.specs.Decoding.{table_in}
-use Rattle.meta_schema.proofs.reading.schema_of.Given as goal
+use Rattle.meta_schema.proofs.reading.schema_by.Given as goal
 
 -- those of the rows so far
 abbrev pub invariant-loop-row : goal.invariant-loop-row

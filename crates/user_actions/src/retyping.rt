@@ -1,6 +1,6 @@
 //! The steps that give a column another type.
 
-ghost use Rattle.std.specs.Prelude.{◌≡◌, [], ◌∷◌, true, not, option_to_list, IfOk};
+ghost use Rattle.std.specs.Prelude.{◌≡◌, ◌++◌, [], ◌∷◌, true, not, option_to_list, IfOk};
 ghost use Rattle.cell_types.specs.Conversion.{fit};
 ghost use Rattle.cell_types.specs.NameRule.{is_name};
 ghost use Rattle.doc_model.specs.Column.{column_id};
@@ -159,15 +159,60 @@ fn update_if_any<D: DocTables>(
     Ok(Some(update))
 }
 
-// A step, and then another one where there is one.
-fn both(alloc: Global, first: DocAction, second: Option<Step>) -> Result<StepList, AllocError>
-    ensures { IfOk result (λ l. l ≡ direct first ∷ option_to_list second) }
+// The step that changes a column alone.
+fn modified_alone(
+    alloc: Global,
+    table: &Name,
+    column: &Name,
+    info: ColInfo,
+) -> Result<StepList, AllocError>
+    ensures { IfOk result (λ l. l ≡ direct (ModifyColumn table.now column.now info) ∷ []) }
 {
-    let mut steps = direct(alloc, first)?;
-    if let Some(step) = second {
-        steps.push(step)?;
+    let action = modify(table, column, info)?;
+    direct(alloc, action)
+}
+
+// The steps, and then another one where there is one.
+fn followed(steps: StepList, last: Option<Step>) -> Result<StepList, AllocError>
+    ensures { IfOk result (λ l. l ≡ steps ++ option_to_list last) }
+{
+    match last {
+        Some(step) => {
+            let mut steps = steps;
+            steps.push(step)?;
+            Ok(steps)
+        }
+        None => Ok(steps),
     }
-    Ok(steps)
+}
+
+// The update of the cells that another type of a column changes, where there are any.
+fn update_of_type<D: DocTables>(
+    alloc: Global,
+    tables: &D,
+    table: &Name,
+    column: &Name,
+    ty: &ColType,
+) -> Result<Option<Step>, AllocError>
+    requires { IsWhole (D.document tables.now) }
+    ensures { IfOk result (λ o. option_to_list o ≡ if_any (rows_changed (grid_at (D.document tables.now) table.now) column.now ty.now) (indirect (BulkUpdate table.now (rows_changed (grid_at (D.document tables.now) table.now) column.now ty.now) (column_refitted (grid_at (D.document tables.now) table.now) column.now ty.now (rows_changed (grid_at (D.document tables.now) table.now) column.now ty.now) ∷ [])))) }
+{
+    let rows = rows_changed(alloc, tables, table, column, ty)?;
+    update_if_any(alloc, tables, table, column, ty, rows)
+}
+
+// The step that changes a column, and then another one where there is one.
+fn modified_with(
+    alloc: Global,
+    table: &Name,
+    column: &Name,
+    info: ColInfo,
+    update: Option<Step>,
+) -> Result<StepList, AllocError>
+    ensures { IfOk result (λ l. l ≡ direct (ModifyColumn table.now column.now info) ∷ option_to_list update) }
+{
+    let steps = modified_alone(alloc, table, column, info)?;
+    followed(steps, update)
 }
 
 // A column of another type, and then the cells that this changes.
@@ -184,10 +229,8 @@ fn retyped<D: DocTables>(
     if is_same_type(&known.info.ty, &info.ty) {
         return Ok(StepList::new(alloc));
     }
-    let rows = rows_changed(alloc, tables, table, &known.id, &info.ty)?;
-    let update = update_if_any(alloc, tables, table, &known.id, &info.ty, rows)?;
-    let modify = modify(table, &known.id, info)?;
-    let steps = both(alloc, modify, update)?;
+    let update = update_of_type(alloc, tables, table, &known.id, &info.ty)?;
+    let steps = modified_with(alloc, table, &known.id, info, update)?;
     Ok(steps)
 }
 

@@ -1,6 +1,6 @@
 //! The steps of schema actions.
 
-ghost use Rattle.std.specs.Prelude.{◌≡◌, ◌<◌, ◌+◌, [], ◌∷◌, true, false, cond, length, max, bytes_eq, IfOk, MatchOption};
+ghost use Rattle.std.specs.Prelude.{◌≡◌, ◌<◌, ◌+◌, ◌++◌, [], ◌∷◌, true, false, cond, length, max, bytes_eq, IfOk, MatchOption};
 ghost use Rattle.std.specs.List.{list_all};
 ghost use Rattle.cell_types.specs.NameRule.{is_name};
 ghost use Rattle.cell_types.specs.declared.column_type.ColType.TheVariants.{Any};
@@ -31,6 +31,35 @@ fn free_id(alloc: Global, taken: &[Name], wanted: &str) -> Result<Name, AllocErr
 {
     let wanted = name_of(alloc, wanted)?;
     let id = free_name(alloc, &wanted, taken)?;
+    Ok(id)
+}
+
+// A new id beside those of all tables.
+fn new_table_id<D: DocTables>(alloc: Global, tables: &D, wanted: &str) -> Result<Name, AllocError>
+    requires whole { IsWhole (D.document tables.now) }
+    requires name { is_name wanted.now ≡ true }
+    ensures made { IfOk result (λ n. n ≡ free_name (table_ids (D.document tables.now)) wanted.now) }
+    ensures fresh { IfOk result (λ _. IsFresh (table_ids (D.document tables.now)) wanted.now) }
+{
+    let known = table_ids(alloc, tables)?;
+    let id = free_id(alloc, &known, wanted)?;
+    Ok(id)
+}
+
+// A new id beside those of a table's columns.
+fn new_column_id<D: DocTables>(
+    alloc: Global,
+    tables: &D,
+    table: &Name,
+    wanted: &str,
+) -> Result<Name, AllocError>
+    requires whole { IsWhole (D.document tables.now) }
+    requires name { is_name wanted.now ≡ true }
+    ensures made { IfOk result (λ n. n ≡ free_name (column_ids (D.document tables.now) table.now) wanted.now) }
+    ensures fresh { IfOk result (λ _. IsFresh (column_ids (D.document tables.now) table.now) wanted.now) }
+{
+    let known = column_ids(alloc, tables, table)?;
+    let id = free_id(alloc, &known, wanted)?;
     Ok(id)
 }
 
@@ -79,6 +108,25 @@ fn new_column(
     })
 }
 
+// Adds a new column, and its id to the taken ones.
+fn add_column(
+    alloc: Global,
+    taken: &mut Vec<Name>,
+    made: &mut Vec<ColDef>,
+    row: u32,
+    column: &UserCol,
+) -> Result<(), AllocError>
+    requires { has_good_id column.now ≡ true }
+    ensures made { IfOk result (λ _. made.new.items ≡ made.old.items ++ new_column taken.old.items row column.now ∷ []) }
+    ensures taken { IfOk result (λ _. taken.new.items ≡ taken.old.items ++ free_name taken.old.items column.now.id ∷ []) }
+    ensures fresh { IfOk result (λ _. IsFresh taken.old.items column.now.id) }
+{
+    let column = new_column(alloc, taken, row, column)?;
+    taken.push(column.id.clone()?)?;
+    made.push(column)?;
+    Ok(())
+}
+
 // The columns of a new table; nothing where their rows would pass the last row id. Their ids are
 // found in any case, so that the action is known for a valid one.
 fn new_columns(
@@ -96,9 +144,7 @@ fn new_columns(
         let row = (last as u64 + 1)
             .saturating_add(place as u64)
             .min(LAST_ROW_ID) as u32;
-        let column = new_column(alloc, &taken, row, &columns[place])?;
-        taken.push(column.id.clone()?)?;
-        made.push(column)?;
+        add_column(alloc, &mut taken, &mut made, row, &columns[place])?;
     }
     if LAST_ROW_ID - (last as u64) < columns.len() as u64 {
         return Ok(None);
@@ -121,8 +167,7 @@ fn table_said<D: DocTables>(
 {
     let row = last_row(tables, tables_table(tables));
     let last = last_row(tables, columns_table(tables));
-    let taken = table_ids(alloc, tables)?;
-    let table = free_id(alloc, &taken, table)?;
+    let table = new_table_id(alloc, tables, table)?;
     let Some(columns) = new_columns(alloc, last, columns)? else {
         return Ok(None);
     };
@@ -134,6 +179,24 @@ fn table_said<D: DocTables>(
         row: row + 1,
         columns,
     }))
+}
+
+// A new column beside those of a table, which that row describes.
+fn column_beside<D: DocTables>(
+    alloc: Global,
+    tables: &D,
+    table: &Name,
+    row: u32,
+    column: &UserCol,
+) -> Result<ColDef, AllocError>
+    requires whole { IsWhole (D.document tables.now) }
+    requires name { has_good_id column.now ≡ true }
+    ensures made { IfOk result (λ d. d ≡ new_column (column_ids (D.document tables.now) table.now) row column.now) }
+    ensures fresh { IfOk result (λ _. IsFresh (column_ids (D.document tables.now) table.now) column.now.id) }
+{
+    let known = column_ids(alloc, tables, table)?;
+    let made = new_column(alloc, &known, row, column)?;
+    Ok(made)
 }
 
 // The action that adds a column; nothing where its row would pass the last row id.
@@ -149,15 +212,12 @@ fn column_said<D: DocTables>(
     ensures fresh { IfOk result (λ _. IsFresh (column_ids (D.document tables.now) table.now) column.now.id) }
 {
     let last = last_row(tables, columns_table(tables));
-    let taken = column_ids(alloc, tables, table)?;
-    let column = new_column(alloc, &taken, last.saturating_add(1), column)?;
+    let column = column_beside(alloc, tables, table, last.saturating_add(1), column)?;
     if last == u32::MAX {
         return Ok(None);
     }
-    Ok(Some(DocAction::AddColumn {
-        table: table.clone()?,
-        column,
-    }))
+    let table = table.clone()?;
+    Ok(Some(DocAction::AddColumn { table, column }))
 }
 
 /// The steps that rename a table.
@@ -175,13 +235,24 @@ pub(crate) fn rename_table_steps<D: DocTables>(
     if table.as_str() == new {
         return Ok(StepList::new(alloc));
     }
-    let known = table_ids(alloc, tables)?;
-    let action = DocAction::RenameTable {
-        table: table.clone()?,
-        new: free_id(alloc, &known, new)?,
-    };
-    let steps = direct(alloc, action)?;
+    let new = new_table_id(alloc, tables, new)?;
+    let table = table.clone()?;
+    let steps = direct(alloc, DocAction::RenameTable { table, new })?;
     Ok(steps)
+}
+
+fn renamed_column(
+    alloc: Global,
+    table: &Name,
+    column: &str,
+    new: Name,
+) -> Result<StepList, AllocError>
+    requires { is_name column.now ≡ true }
+    ensures { IfOk result (λ l. l ≡ direct (RenameColumn table.now column.now new) ∷ []) }
+{
+    let column = name_of(alloc, column)?;
+    let table = table.clone()?;
+    direct(alloc, DocAction::RenameColumn { table, column, new })
 }
 
 /// The steps that rename a column.
@@ -201,13 +272,8 @@ pub(crate) fn rename_column_steps<D: DocTables>(
     if column == new {
         return Ok(StepList::new(alloc));
     }
-    let taken = column_ids(alloc, tables, table)?;
-    let action = DocAction::RenameColumn {
-        table: table.clone()?,
-        column: name_of(alloc, column)?,
-        new: free_id(alloc, &taken, new)?,
-    };
-    let steps = direct(alloc, action)?;
+    let new = new_column_id(alloc, tables, table, new)?;
+    let steps = renamed_column(alloc, table, column, new)?;
     Ok(steps)
 }
 

@@ -133,20 +133,18 @@ fn removes_column(alloc: Global, table: &str, id: &str) -> Result<UserAction, Al
 
 // Kept, growing and taking actions.
 fn of_each_kind(alloc: Global) -> Result<Vec<UserAction>, AllocError> {
-    Vec::from_array(
-        alloc,
-        [
-            renames_table(alloc)?,
-            adds_record(alloc)?,
-            adds_table(alloc)?,
-            adds_full_table(alloc)?,
-            adds_column(alloc)?,
-            removes_column(alloc, "Table1", "A")?,
-            removes_column(alloc, "Wide", "C1")?,
-            removes_table(alloc, "Table1")?,
-            removes_table(alloc, "Wide")?,
-        ],
-    )
+    let actions = [
+        renames_table(alloc)?,
+        adds_record(alloc)?,
+        adds_table(alloc)?,
+        adds_full_table(alloc)?,
+        adds_column(alloc)?,
+        removes_column(alloc, "Table1", "A")?,
+        removes_column(alloc, "Wide", "C1")?,
+        removes_table(alloc, "Table1")?,
+        removes_table(alloc, "Wide")?,
+    ];
+    Ok(Vec::from_array(alloc, actions)?)
 }
 
 // A table of one column more than a table may have.

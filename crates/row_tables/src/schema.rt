@@ -1,7 +1,7 @@
 //! The schema tables, made of the tables that they describe.
 
 ghost use Rattle.std.specs.Prelude.{◌≡◌, ◌∷◌, ◌++◌, [], IfOk, map};
-ghost use Rattle.cell_types.specs.declared.value.CellValue.TheVariants.{Text};
+ghost use Rattle.cell_types.specs.declared.value.CellValue.TheVariants.{Bool, Text};
 ghost use Rattle.doc_model.specs.Document.{table_row};
 ghost use Rattle.doc_model.specs.MetadataIds.{columns_id, tables_id};
 ghost use Rattle.doc_model.specs.Schema.{columns_grid, describe, described_row, metadata_table, tables_grid, type_text};
@@ -13,6 +13,7 @@ use crate::in_place::swap_at;
 use crate::known::Known;
 use crate::metadata::{columns_columns, metadata_table, tables_columns};
 use cell_types::{CellText, CellValue, ColType, Name, ValueList};
+use doc_model::ColInfo;
 use std::alloc::{AllocError, Global};
 
 fn table_rows(alloc: Global, plain: &[RowTable]) -> Result<Vec<u32>, AllocError>
@@ -89,17 +90,23 @@ fn joined(alloc: Global, word: &str, table: &Name) -> Result<CellText, AllocErro
     Ok(CellText::from(text))
 }
 
+// Adds the cells that describe what a column is.
+fn add_info(alloc: Global, cells: &mut Vec<CellValue>, info: &ColInfo) -> Result<(), AllocError>
+    ensures { IfOk result (λ _. cells.new.items ≡ cells.old.items ++ Text (type_text info.now.ty) ∷ Bool info.now.is_formula ∷ Text info.now.formula ∷ []) }
+{
+    add_cell(cells, CellValue::Text(type_text(alloc, &info.ty)?))?;
+    add_cell(cells, CellValue::Bool(info.is_formula))?;
+    add_cell(cells, CellValue::Text(info.formula.clone()?))
+}
+
 // The cells that describe a column.
 fn description(alloc: Global, told: &Described) -> Result<ValueList, AllocError>
     ensures { IfOk result (λ l. l ≡ describe told.now) }
 {
-    let info = &told.column.info;
     let mut cells = Vec::with_capacity(alloc, 5)?;
     add_cell(&mut cells, CellValue::Int(i64::from(told.parent)))?;
     add_cell(&mut cells, name_cell(alloc, &told.column.id)?)?;
-    add_cell(&mut cells, CellValue::Text(type_text(alloc, &info.ty)?))?;
-    add_cell(&mut cells, CellValue::Bool(info.is_formula))?;
-    add_cell(&mut cells, CellValue::Text(info.formula.clone()?))?;
+    add_info(alloc, &mut cells, &told.column.info)?;
     Ok(ValueList::from(cells))
 }
 
@@ -188,6 +195,13 @@ fn put_before(
     put_first(first, tables)
 }
 
+// The tables with the schema tables before them.
+fn put_schema(schema: SchemaTables, tables: Vec<RowTable>) -> Result<Vec<RowTable>, AllocError>
+    ensures { IfOk result (λ v. v.items ≡ schema.tables ∷ schema.columns ∷ tables.items) }
+{
+    put_before(schema.tables, schema.columns, tables)
+}
+
 /// All tables of a document: the schema tables, the access tables, and then the plain ones, which
 /// the schema tables describe.
 pub(crate) fn with_schema(
@@ -198,7 +212,7 @@ pub(crate) fn with_schema(
 ) -> Result<Vec<RowTable>, AllocError>
     ensures { IfOk result (λ v. v.items ≡ metadata_table tables_id (tables_grid plain.items) ∷ metadata_table columns_id (columns_grid plain.items) ∷ resources ∷ rules ∷ plain.items) }
 {
-    let SchemaTables { tables, columns } = schema_tables(alloc, &plain)?;
-    let plain = put_before(resources, rules, plain)?;
-    put_before(tables, columns, plain)
+    let schema = schema_tables(alloc, &plain)?;
+    let others = put_before(resources, rules, plain)?;
+    put_schema(schema, others)
 }

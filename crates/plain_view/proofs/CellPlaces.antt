@@ -1,5 +1,5 @@
 -- The value at the place of a column is the value beside its id.
-use Rattle.std.proofs.Common.{ℕ, suc, ◌+◌, Bool, true, false, cond, not, ◌&&◌, List, [], ◌∷◌, ◌≡◌, ◌<◌, ◌≤◌, length, get_or, refl, ap, ◌∙◌, Option, Some, None, arith, ltb}
+use Rattle.std.proofs.Common.{ℕ, suc, ◌+◌, Bool, true, false, cond, not, ◌&&◌, List, [], ◌∷◌, ◌≡◌, ◌<◌, ◌≤◌, length, get_or, refl, ap, ◌∙◌, Option, Some, None, arith, ltb, filter, Result, Ok, Err, IfOk}
 use Rattle.std.proofs.lemmas.Bool.{ltb-true, ltb-false, lt-ltb, le-ltb}
 use Rattle.std.proofs.lemmas.List.{get_or_past}
 use Rattle.std.specs.List.{position, position_or_len}
@@ -12,7 +12,9 @@ use Rattle.doc_model.specs.Rows.{has}
 use Rattle.doc_model.specs.Same.{same_value}
 use Rattle.doc_model.specs.ViewEdits.{shown_id, shown_start}
 use Rattle.plain_view.specs.Cells.{column_place, row_cells, value_in}
+use Rattle.plain_view.specs.declared.records.Places.{Places}
 use Rattle.plain_view.specs.Steps.{is_told}
+use Rattle.plain_view.specs.Told.{is_told_at}
 
 none_in : (place : Option ℕ) (other : CellValue) → value_in [] place other ≡ other
 none_in None other = refl
@@ -49,3 +51,11 @@ told_at g w d before after start r eb ea es =
     ap (λ v. has g.rows r && not (same_value v (value_in (row_cells w r) after Null)))
     (ap (λ p. value_in (row_cells g r) p start) eb ∙ ap (λ v. value_in (row_cells g r) (column_place g.columns d.id) v) es ∙ beside_place (λ (e : ViewCol). bytes_eq e.id d.id) g.columns (row_cells g r) (shown_start d))
     ∙ ap (λ v. has g.rows r && not (same_value (beside (λ (e : ViewCol). bytes_eq e.id d.id) g.columns (row_cells g r) (shown_start d)) v)) (cell_place w d.id after r ea)
+
+-- the rows in which cells are told, by the places of their column
+pub rows_told_at : {E : Type 0} (r : Result (List ℕ) E) (g w : Grid ViewCol) (d : ViewCol) (places : Places) (rows : List ℕ)
+    → places.before ≡ column_place g.columns d.id → places.after ≡ column_place w.columns d.id → places.start ≡ shown_start d
+    → IfOk r (λ l. l ≡ filter (is_told_at g w places) rows) → IfOk r (λ l. l ≡ filter (is_told g w d) rows)
+rows_told_at (Ok l) g w d places rows eb ea es e =
+    e ∙ (λ i. filter (λ r. told_at g w d places.before places.after places.start r eb ea es i) rows)
+rows_told_at (Err x) g w d places rows eb ea es e = tt

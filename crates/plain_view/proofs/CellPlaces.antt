@@ -1,13 +1,15 @@
 -- The value at the place of a column is the value beside its id.
-use Rattle.std.proofs.Common.{ℕ, suc, ◌+◌, Bool, true, false, cond, not, ◌&&◌, List, [], ◌∷◌, ◌≡◌, ◌<◌, ◌≤◌, length, get_or, refl, ap, ◌∙◌, Option, Some, None, arith, ltb, filter, Result, Ok, Err, IfOk}
+use Rattle.std.proofs.Common.{ℕ, suc, ◌+◌, Bool, true, false, cond, not, ◌&&◌, List, [], ◌∷◌, ◌≡◌, ◌<◌, ◌≤◌, length, get_or, refl, ap, ◌∙◌, Option, Some, None, arith, ltb, map, filter, Result, Ok, Err, IfOk}
 use Rattle.std.proofs.lemmas.Bool.{ltb-true, ltb-false, lt-ltb, le-ltb}
 use Rattle.std.proofs.lemmas.List.{get_or_past}
 use Rattle.std.specs.List.{position, position_or_len}
 use Rattle.std.specs.Str.{bytes_eq}
 use Rattle.cell_types.specs.declared.value.CellValue.{CellValue}
 use Rattle.cell_types.specs.declared.value.CellValue.TheVariants.{Null}
+use Rattle.doc_model.specs.declared.column.CellColumn.{CellColumn}
 use Rattle.doc_model.specs.declared.view.ViewCol.{ViewCol}
 use Rattle.doc_model.specs.Grid.{Grid, beside, cell}
+use Rattle.doc_model.specs.Records.{column_of}
 use Rattle.doc_model.specs.Rows.{has}
 use Rattle.doc_model.specs.Same.{same_value}
 use Rattle.doc_model.specs.ViewEdits.{shown_id, shown_start}
@@ -59,3 +61,8 @@ pub rows_told_at : {E : Type 0} (r : Result (List ℕ) E) (g w : Grid ViewCol) (
 rows_told_at (Ok l) g w d places rows eb ea es e =
     e ∙ (λ i. filter (λ r. told_at g w d places.before places.after places.start r eb ea es i) rows)
 rows_told_at (Err x) g w d places rows eb ea es e = tt
+
+-- a column, by its place
+pub column_at_place : (g : Grid ViewCol) (rows id name : List ℕ) (place : Option ℕ) (values : List CellValue) → place ≡ column_place g.columns id → name ≡ id
+    → values ≡ map (λ r. value_in (row_cells g r) place Null) rows → ◌≡◌ {A = CellColumn} (record { id = name; values = values }) (column_of shown_id g rows id)
+column_at_place g rows id name place values at named e = λ i. record { id = named i; values = (e ∙ (λ j. map (λ r. cell_place g id place r at j) rows)) i }

@@ -54,8 +54,8 @@ fn cells_copy(alloc: Global, cells: &[ValueList]) -> Result<CellRowList, AllocEr
     Ok(CellRowList::from(copies))
 }
 
-// Copies of a table's id and columns.
-fn head_copy(table: &ViewTable) -> Result<(Name, ViewColList), AllocError>
+/// Copies of a table's id and columns.
+pub(crate) fn head_copy(table: &ViewTable) -> Result<(Name, ViewColList), AllocError>
     ensures { IfOk result (λ h. h ≡ (table.now.id, table.now.columns)) }
 {
     let id = name_copy(&table.id)?;

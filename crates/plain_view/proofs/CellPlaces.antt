@@ -1,18 +1,22 @@
 -- The value at the place of a column is the value beside its id.
-use Rattle.std.proofs.Common.{ℕ, suc, ◌+◌, Bool, true, false, cond, not, ◌&&◌, List, [], ◌∷◌, ◌≡◌, ◌<◌, ◌≤◌, length, get_or, refl, ap, ◌∙◌, Option, Some, None, arith, ltb}
+use Rattle.std.proofs.Common.{ℕ, suc, ◌+◌, Bool, true, false, cond, not, ◌&&◌, List, [], ◌∷◌, ◌≡◌, ◌<◌, ◌≤◌, length, get_or, refl, ap, ◌∙◌, Option, Some, None, arith, ltb, map, filter, Result, Ok, Err, IfOk}
 use Rattle.std.proofs.lemmas.Bool.{ltb-true, ltb-false, lt-ltb, le-ltb}
 use Rattle.std.proofs.lemmas.List.{get_or_past}
 use Rattle.std.specs.List.{position, position_or_len}
 use Rattle.std.specs.Str.{bytes_eq}
 use Rattle.cell_types.specs.declared.value.CellValue.{CellValue}
 use Rattle.cell_types.specs.declared.value.CellValue.TheVariants.{Null}
+use Rattle.doc_model.specs.declared.column.CellColumn.{CellColumn}
 use Rattle.doc_model.specs.declared.view.ViewCol.{ViewCol}
 use Rattle.doc_model.specs.Grid.{Grid, beside, cell}
+use Rattle.doc_model.specs.Records.{column_of}
 use Rattle.doc_model.specs.Rows.{has}
 use Rattle.doc_model.specs.Same.{same_value}
 use Rattle.doc_model.specs.ViewEdits.{shown_id, shown_start}
 use Rattle.plain_view.specs.Cells.{column_place, row_cells, value_in}
+use Rattle.plain_view.specs.declared.records.Places.{Places}
 use Rattle.plain_view.specs.Steps.{is_told}
+use Rattle.plain_view.specs.Told.{is_told_at}
 
 none_in : (place : Option ℕ) (other : CellValue) → value_in [] place other ≡ other
 none_in None other = refl
@@ -49,3 +53,16 @@ told_at g w d before after start r eb ea es =
     ap (λ v. has g.rows r && not (same_value v (value_in (row_cells w r) after Null)))
     (ap (λ p. value_in (row_cells g r) p start) eb ∙ ap (λ v. value_in (row_cells g r) (column_place g.columns d.id) v) es ∙ beside_place (λ (e : ViewCol). bytes_eq e.id d.id) g.columns (row_cells g r) (shown_start d))
     ∙ ap (λ v. has g.rows r && not (same_value (beside (λ (e : ViewCol). bytes_eq e.id d.id) g.columns (row_cells g r) (shown_start d)) v)) (cell_place w d.id after r ea)
+
+-- the rows in which cells are told, by the places of their column
+pub rows_told_at : {E : Type 0} (r : Result (List ℕ) E) (g w : Grid ViewCol) (d : ViewCol) (places : Places) (rows : List ℕ)
+    → places.before ≡ column_place g.columns d.id → places.after ≡ column_place w.columns d.id → places.start ≡ shown_start d
+    → IfOk r (λ l. l ≡ filter (is_told_at g w places) rows) → IfOk r (λ l. l ≡ filter (is_told g w d) rows)
+rows_told_at (Ok l) g w d places rows eb ea es e =
+    e ∙ (λ i. filter (λ r. told_at g w d places.before places.after places.start r eb ea es i) rows)
+rows_told_at (Err x) g w d places rows eb ea es e = tt
+
+-- a column, by its place
+pub column_at_place : (g : Grid ViewCol) (rows id name : List ℕ) (place : Option ℕ) (values : List CellValue) → place ≡ column_place g.columns id → name ≡ id
+    → values ≡ map (λ r. value_in (row_cells g r) place Null) rows → ◌≡◌ {A = CellColumn} (record { id = name; values = values }) (column_of shown_id g rows id)
+column_at_place g rows id name place values at named e = λ i. record { id = named i; values = (e ∙ (λ j. map (λ r. cell_place g id place r at j) rows)) i }

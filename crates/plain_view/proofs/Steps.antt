@@ -10,6 +10,10 @@ pub map_next : {X Y : Type 0} (f : X → Y) (xs : List X) (i : ℕ) (x : X) (y :
 map_next f xs i x y ys zs lt is before here next =
     next ∙ ap (λ l. l ++ y ∷ []) before ∙ ap (λ z. map f (take i xs) ++ z ∷ []) (here ∙ ap f is) ∙ sym (map_more f xs i x lt)
 
+pub take_next : {X : Type 0} (xs : List X) (i : ℕ) (x y : X) (ys zs : List X) → i < length xs → x ≡ get_or xs i x → ys ≡ take i xs → y ≡ x → zs ≡ ys ++ y ∷ [] → zs ≡ take (i + 1) xs
+take_next xs i x y ys zs lt is before same next =
+    next ∙ ap (λ l. l ++ y ∷ []) before ∙ ap (λ z. take i xs ++ z ∷ []) (same ∙ is) ∙ sym (take_more xs i x lt)
+
 pub for_each-append : {X Y : Type 0} (f : X → List Y) (xs ys : List X) → for_each f (xs ++ ys) ≡ for_each f xs ++ for_each f ys
 for_each-append f [] ys = refl
 for_each-append f (x ∷ xs) ys = ap (λ l. f x ++ l) (for_each-append f xs ys) ∙ sym (append_assoc (f x) (for_each f xs) (for_each f ys))

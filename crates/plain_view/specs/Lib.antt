@@ -1,5 +1,6 @@
 pub mod Cells
 pub mod Steps
+pub mod Told
 pub mod Given
 pub mod Sources
 pub mod Placed

@@ -68,6 +68,23 @@ pub(crate) fn is_same_value(left: &CellValue, right: &CellValue) -> bool
     left.same_as(right)
 }
 
+// The values at a place of these rows; Null where there is none.
+fn values_at(
+    alloc: Global,
+    table: &ViewTable,
+    rows: &[u32],
+    place: Option<usize>,
+) -> Result<ValueList, AllocError>
+    requires { IsShown (grid table.now) }
+    ensures { IfOk result (λ l. l ≡ map (λ r. value_in (row_cells (grid table.now) r) place Null) rows.now) }
+{
+    let mut values = Vec::with_capacity(alloc, rows.len())?;
+    for row in rows {
+        values.push(copy_of(value_in(row_cells(table, *row), place, &CellValue::Null))?)?;
+    }
+    Ok(ValueList::from(values))
+}
+
 /// The cells of the column of an id in these rows; Null where there is none.
 ///
 /// Cost: the rows, times the logarithm of the table's rows.
@@ -81,12 +98,7 @@ pub(crate) fn column_of(
     ensures { IfOk result (λ k. k ≡ column_of shown_id (grid table.now) rows.now id.now) }
 {
     let place = column_place(table.columns.as_slice(), id);
-    let mut values = Vec::with_capacity(alloc, rows.len())?;
-    for row in rows {
-        values.push(copy_of(value_in(row_cells(table, *row), place, &CellValue::Null))?)?;
-    }
-    Ok(CellColumn {
-        id: name_copy(id)?,
-        values: ValueList::from(values),
-    })
+    let values = values_at(alloc, table, rows, place)?;
+    let id = name_copy(id)?;
+    Ok(CellColumn { id, values })
 }

@@ -54,15 +54,33 @@ fn cells_copy(alloc: Global, cells: &[ValueList]) -> Result<CellRowList, AllocEr
     Ok(CellRowList::from(copies))
 }
 
+/// Copies of a table's id and columns.
+pub(crate) fn head_copy(table: &ViewTable) -> Result<(Name, ViewColList), AllocError>
+    ensures { IfOk result (λ h. h ≡ (table.now.id, table.now.columns)) }
+{
+    let id = name_copy(&table.id)?;
+    Ok((id, columns_copy(&table.columns)?))
+}
+
+// Copies of a table's rows and cells.
+fn body_copy(alloc: Global, table: &ViewTable) -> Result<(RowList, CellRowList), AllocError>
+    ensures { IfOk result (λ b. b ≡ (table.now.rows, table.now.cells)) }
+{
+    let rows = rows_copy(&table.rows)?;
+    Ok((rows, cells_copy(alloc, table.cells.as_slice())?))
+}
+
 /// A copy of a table.
 pub(crate) fn table_copy(alloc: Global, table: &ViewTable) -> Result<ViewTable, AllocError>
     ensures { IfOk result (λ t. t ≡ table.now) }
 {
+    let (id, columns) = head_copy(table)?;
+    let (rows, cells) = body_copy(alloc, table)?;
     Ok(ViewTable {
-        id: name_copy(&table.id)?,
-        columns: columns_copy(&table.columns)?,
-        rows: rows_copy(&table.rows)?,
-        cells: cells_copy(alloc, table.cells.as_slice())?,
+        id,
+        columns,
+        rows,
+        cells,
     })
 }
 

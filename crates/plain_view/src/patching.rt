@@ -9,7 +9,7 @@ ghost use Rattle.doc_model.specs.Changes.{IsView, grid, shown_table_id};
 ghost use Rattle.doc_model.specs.Patch.{fits, patch, patched, unfit_at};
 ghost use Rattle.doc_model.specs.ViewEdits.{IsShown};
 ghost use Rattle.plain_view.specs.Acts.{act, act_fits, fits_there};
-ghost use Rattle.plain_view.specs.Faults.{tells};
+ghost use Rattle.plain_view.specs.Faults.{tells, tells_here};
 ghost use Rattle.plain_view.specs.Given.{IsFull};
 
 use crate::copies::{name_copy, table_copy, tables_copy};
@@ -56,16 +56,33 @@ pub fn patch(alloc: Global, view: &View, actions: &ViewActionList) -> Result<Vie
 {
     let mut tables = tables_copy(alloc, view.tables.as_slice())?;
     for (index, action) in actions.as_slice().iter().enumerate() {
-        if !fits(&tables, action) {
-            return Err(PatchFault::Unfit {
-                index: index as u32,
-            });
-        }
-        apply(alloc, &mut tables, action)?;
+        step(alloc, &mut tables, index, action)?;
     }
     Ok(View {
         tables: ViewTableList::from(tables),
     })
+}
+
+// The action at a place, where it fits.
+fn step(
+    alloc: Global,
+    tables: &mut Vec<ViewTable>,
+    index: usize,
+    action: &ViewAction,
+) -> Result<(), PatchFault>
+    requires view { IsView tables.old.items }
+    requires full { IsFull action.now }
+    requires few { index < 2 ^ 32 }
+    ensures ok { OnOk result (tables.new.items ≡ patched action.now tables.old.items) }
+    ensures fits { OnOk result (fits action.now tables.old.items ≡ true) }
+    ensures err { IfErr result (λ fault. tells_here fault (fits action.now tables.old.items) index) }
+{
+    if !fits(tables, action) {
+        return Err(PatchFault::Unfit {
+            index: index as u32,
+        });
+    }
+    Ok(apply(alloc, tables, action)?)
 }
 
 fn apply(alloc: Global, tables: &mut Vec<ViewTable>, action: &ViewAction) -> Result<(), AllocError>

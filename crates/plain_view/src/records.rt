@@ -1,20 +1,20 @@
 //! The changes of a table's rows and cells.
 
-ghost use Rattle.std.specs.Prelude.{◌≡◌, ◌∷◌, ◌++◌, [], ◌&&◌, filter, not, IfOk, OnOk};
-ghost use Rattle.cell_types.specs.declared.value.CellValue.TheVariants.{Null};
-ghost use Rattle.doc_model.specs.declared.view.ViewAction.TheVariants.{BulkAdd, BulkRemove};
+ghost use Rattle.std.specs.Prelude.{◌≡◌, ◌∷◌, ◌++◌, [], filter, IfOk, OnOk};
+ghost use Rattle.doc_model.specs.declared.view.ViewAction.TheVariants.{BulkAdd, BulkRemove, BulkUpdate};
 ghost use Rattle.doc_model.specs.Changes.{for_each, grid};
-ghost use Rattle.doc_model.specs.Rows.{IsAscending, has, without};
-ghost use Rattle.doc_model.specs.Same.{same_value};
-ghost use Rattle.doc_model.specs.ViewEdits.{IsShown, if_any, shown_start, whole};
-ghost use Rattle.plain_view.specs.Cells.{column_place, row_cells, value_in};
+ghost use Rattle.doc_model.specs.Records.{column_of};
+ghost use Rattle.doc_model.specs.Rows.{IsAscending, without};
+ghost use Rattle.doc_model.specs.ViewEdits.{IsShown, if_any, shown_id, shown_start, whole};
+ghost use Rattle.plain_view.specs.Cells.{column_place};
+ghost use Rattle.plain_view.specs.Told.{is_told_at};
 ghost use Rattle.plain_view.specs.Steps.{is_told, updated_column};
 
 use crate::cells::{column_of, column_place, is_same_value, row_cells, value_in};
 use crate::copies::name_copy;
-use crate::rows::{has_row, rows_without};
+use crate::rows::{has_row, push_if, rows_without};
 use cell_types::{CellValue, Name, RowList, default_of};
-use doc_model::{CellColumn, ColumnList, ViewAction, ViewCol, ViewTable};
+use doc_model::{ColumnList, ViewAction, ViewCol, ViewTable};
 use std::alloc::{AllocError, Global};
 
 /// A column's place before and after, and what its cells start with.
@@ -41,7 +41,7 @@ fn places_of(alloc: Global, before: &ViewTable, after: &ViewTable, column: &View
 fn is_told(before: &ViewTable, after: &ViewTable, places: &Places, row: u32) -> bool
     requires before { IsShown (grid before.now) }
     requires after { IsShown (grid after.now) }
-    ensures { result ≡ (has before.now.rows row && not (same_value (value_in (row_cells (grid before.now) row) places.now.before places.now.start) (value_in (row_cells (grid after.now) row) places.now.after Null))) }
+    ensures { result ≡ is_told_at (grid before.now) (grid after.now) places.now row }
 {
     if !has_row(before.rows.as_slice(), row) {
         return false;
@@ -63,21 +63,59 @@ fn told_rows(
     ensures { IfOk result (λ l. l ≡ filter (is_told (grid before.now) (grid after.now) column.now) after.now.rows) }
 {
     let places = places_of(alloc, before, after, column);
+    rows_told(alloc, before, after, &places)
+}
+
+// The same, by the column's places.
+fn rows_told(
+    alloc: Global,
+    before: &ViewTable,
+    after: &ViewTable,
+    places: &Places,
+) -> Result<RowList, AllocError>
+    requires before { IsShown (grid before.now) }
+    requires after { IsShown (grid after.now) }
+    ensures { IfOk result (λ l. l ≡ filter (is_told_at (grid before.now) (grid after.now) places.now) after.now.rows) }
+{
     let mut rows = Vec::new(alloc);
     for row in after.rows.as_slice() {
-        if is_told(before, after, &places, *row) {
-            rows.push(*row)?;
-        }
+        push_if(&mut rows, is_told(before, after, places, *row), *row)?;
     }
     Ok(RowList::from(rows))
 }
 
-fn one_column(alloc: Global, column: CellColumn) -> Result<ColumnList, AllocError>
-    ensures { IfOk result (λ l. l ≡ column ∷ []) }
+// The cells of one column in these rows.
+fn told_cells(
+    alloc: Global,
+    table: &ViewTable,
+    rows: &[u32],
+    id: &Name,
+) -> Result<ColumnList, AllocError>
+    requires { IsShown (grid table.now) }
+    ensures { IfOk result (λ l. l ≡ column_of shown_id (grid table.now) rows.now id.now ∷ []) }
 {
-    let mut columns = Vec::with_capacity(alloc, 1)?;
-    columns.push(column)?;
+    let mut columns = Vec::new(alloc);
+    columns.push(column_of(alloc, table, rows, id)?)?;
     Ok(ColumnList::from(columns))
+}
+
+fn update(
+    alloc: Global,
+    table: &Name,
+    after: &ViewTable,
+    rows: RowList,
+    id: &Name,
+) -> Result<ViewAction, AllocError>
+    requires { IsShown (grid after.now) }
+    ensures { IfOk result (λ a. a ≡ BulkUpdate table.now rows (column_of shown_id (grid after.now) rows id.now ∷ [])) }
+{
+    let columns = told_cells(alloc, after, rows.as_slice(), id)?;
+    let table = name_copy(table)?;
+    Ok(ViewAction::BulkUpdate {
+        table,
+        rows,
+        columns,
+    })
 }
 
 fn tell_updated(
@@ -93,15 +131,10 @@ fn tell_updated(
     ensures { OnOk result (actions.new.items ≡ actions.old.items ++ updated_column table.now (grid before.now) (grid after.now) column.now) }
 {
     let rows = told_rows(alloc, before, after, column)?;
-    if !rows.is_empty() {
-        let cells = column_of(alloc, after, rows.as_slice(), &column.id)?;
-        actions.push(ViewAction::BulkUpdate {
-            table: name_copy(table)?,
-            rows,
-            columns: one_column(alloc, cells)?,
-        })?;
+    if rows.is_empty() {
+        return Ok(());
     }
-    Ok(())
+    Ok(actions.push(update(alloc, table, after, rows, &column.id)?)?)
 }
 
 /// Adds, for each column, the cells that are other ones than before to the actions.
@@ -139,13 +172,11 @@ pub(crate) fn tell_removed_rows(
     ensures { OnOk result (actions.new.items ≡ actions.old.items ++ if_any (without after.now before.now) (BulkRemove table.now (without after.now before.now))) }
 {
     let rows = rows_without(alloc, after, before)?;
-    if !rows.is_empty() {
-        actions.push(ViewAction::BulkRemove {
-            table: name_copy(table)?,
-            rows,
-        })?;
+    if rows.is_empty() {
+        return Ok(());
     }
-    Ok(())
+    let table = name_copy(table)?;
+    Ok(actions.push(ViewAction::BulkRemove { table, rows })?)
 }
 
 /// Adds rows of a table with all their cells to the actions, where there are any.
@@ -161,15 +192,23 @@ pub(crate) fn tell_added_rows(
     requires { IsShown (grid table.now) }
     ensures { OnOk result (actions.new.items ≡ actions.old.items ++ if_any rows (BulkAdd table.now.id rows (whole (grid table.now) rows))) }
 {
-    if !rows.is_empty() {
-        let columns = whole(alloc, table, rows.as_slice())?;
-        actions.push(ViewAction::BulkAdd {
-            table: name_copy(&table.id)?,
-            rows,
-            columns,
-        })?;
+    if rows.is_empty() {
+        return Ok(());
     }
-    Ok(())
+    Ok(actions.push(addition(alloc, table, rows)?)?)
+}
+
+fn addition(alloc: Global, table: &ViewTable, rows: RowList) -> Result<ViewAction, AllocError>
+    requires { IsShown (grid table.now) }
+    ensures { IfOk result (λ a. a ≡ BulkAdd table.now.id rows (whole (grid table.now) rows)) }
+{
+    let columns = whole(alloc, table, rows.as_slice())?;
+    let table = name_copy(&table.id)?;
+    Ok(ViewAction::BulkAdd {
+        table,
+        rows,
+        columns,
+    })
 }
 
 fn whole(alloc: Global, table: &ViewTable, rows: &[u32]) -> Result<ColumnList, AllocError>

@@ -1,6 +1,6 @@
 //! Rows in ascending order: where one stands, and those that another list does not have.
 
-ghost use Rattle.std.specs.Prelude.{◌≡◌, ◌<◌, ◌↔◌, false, length, slice_index, IfOk, IsTrue, MatchOption, OnOk};
+ghost use Rattle.std.specs.Prelude.{◌≡◌, ◌<◌, ◌↔◌, ◌∷◌, ◌++◌, [], cond, false, length, slice_index, IfOk, IsTrue, MatchOption, OnOk};
 ghost use Rattle.doc_model.specs.Rows.{IsAscending, all_in, has, insert_row, insert_rows, is_once, none_in, without};
 
 use cell_types::RowList;
@@ -33,6 +33,16 @@ pub(crate) fn has_row(rows: &[u32], row: u32) -> bool
     }
 }
 
+/// Adds the row behind the others, where it is wanted.
+pub(crate) fn push_if(rows: &mut Vec<u32>, wanted: bool, row: u32) -> Result<(), AllocError>
+    ensures { OnOk result (rows.new.items ≡ rows.old.items ++ cond wanted (row ∷ []) []) }
+{
+    if wanted {
+        rows.push(row)?;
+    }
+    Ok(())
+}
+
 /// The rows that are not among those that are gone.
 ///
 /// Cost: the length, times the logarithm of the other.
@@ -42,9 +52,7 @@ pub(crate) fn rows_without(alloc: Global, gone: &[u32], rows: &[u32]) -> Result<
 {
     let mut kept = Vec::new(alloc);
     for row in rows {
-        if !has_row(gone, *row) {
-            kept.push(*row)?;
-        }
+        push_if(&mut kept, !has_row(gone, *row), *row)?;
     }
     Ok(RowList::from(kept))
 }
@@ -74,9 +82,7 @@ pub(crate) fn rows_left(alloc: Global, gone: &[u32], rows: &[u32]) -> Result<Row
     }
     let mut kept = Vec::new(alloc);
     for row in rows {
-        if !gone.contains(row) {
-            kept.push(*row)?;
-        }
+        push_if(&mut kept, !gone.contains(row), *row)?;
     }
     Ok(RowList::from(kept))
 }

@@ -8,7 +8,7 @@ ghost use Rattle.doc_model.specs.Changes.{IsView, changes, for_each, grid, intro
 ghost use Rattle.doc_model.specs.ViewEdits.{IsShown};
 ghost use Rattle.plain_view.specs.Steps.{new_table, removed_table};
 
-use crate::copies::{columns_copy, name_copy, rows_copy};
+use crate::copies::{head_copy, name_copy, rows_copy};
 use crate::records::tell_added_rows;
 use crate::revision::tell_revision;
 use cell_types::Name;
@@ -69,10 +69,8 @@ fn introduce(
     requires { IsShown (grid table.now) }
     ensures { OnOk result (actions.new.items ≡ actions.old.items ++ introduced table.now) }
 {
-    actions.push(ViewAction::AddTable {
-        table: name_copy(&table.id)?,
-        columns: columns_copy(&table.columns)?,
-    })?;
+    let (id, columns) = head_copy(table)?;
+    actions.push(ViewAction::AddTable { table: id, columns })?;
     tell_added_rows(alloc, table, rows_copy(&table.rows)?, actions)
 }
 

@@ -8,75 +8,79 @@
 //! byte more; `values_are_the_same_as_their_copies_alone` has each of those values beside each
 //! other one; `new_cells_hold_defaults` has the default of each type.
 
-mod samples;
-
+use crate::samples::{Kind, Part, Sample, shown, text, type_of, value_of};
 use Part::{Bool, Date, Int, Letters, Null, Rec, Text};
 use Sample::{List, One, RecSet};
 use cell_types::{CellValue, ColType, Same, convert, copy_of, default_of, text_of};
-use samples::{Part, Sample, quoted, shown, text, types, value_of};
-use std::alloc::{AllocError, Global};
-use std::test::Fail;
+use std::alloc::Global;
+
+// The types of the columns, in the order of the table.
+static KINDS: [Kind; 7] = [
+    Kind::Any,
+    Kind::Text,
+    Kind::Int,
+    Kind::Bool,
+    Kind::Date,
+    Kind::RefT,
+    Kind::RefListT,
+];
 
 // Values, and what each becomes in columns of Any, Text, Int, Bool, Date, Ref:T and RefList:T: `=`
 // is the value itself, `text` its text; any other text stands between quotes, and other values
 // show their texts.
-const CONVERSIONS: [(&[Sample], &str); 31] = [
-    (&[One(Null)], "=|=|=|False|=|0|="),
-    (&[One(Int(0))], "=|text|=|False|d0|=|None"),
-    (&[One(Int(1))], "=|text|=|True|d1|=|[1]"),
-    (&[One(Int(-1))], "=|text|=|True|d-1|text|text"),
+static CONVERSIONS: [(Sample, &str); 31] = [
+    (One(Null), "=|=|=|False|=|0|="),
+    (One(Int(0)), "=|text|=|False|d0|=|None"),
+    (One(Int(1)), "=|text|=|True|d1|=|[1]"),
+    (One(Int(-1)), "=|text|=|True|d-1|text|text"),
     (
-        &[One(Int(4294967295))],
+        One(Int(4294967295)),
         "=|text|=|True|d4294967295|=|[4294967295]",
     ),
+    (One(Int(4294967296)), "=|text|=|True|d4294967296|text|text"),
+    (One(Bool(false)), "=|text|0|=|text|text|text"),
+    (One(Bool(true)), "=|text|1|=|text|text|text"),
+    (One(Date(86400)), "=|text|86400|text|=|text|text"),
+    (One(Text("")), "=|=|None|False|None|0|None"),
+    (One(Text("007")), "=|=|7|=|=|7|="),
+    (One(Text("-0")), "=|=|0|=|=|0|="),
+    (One(Text("1")), "=|=|1|True|=|1|="),
+    (One(Text("0")), "=|=|0|False|=|0|="),
+    (One(Text("-1")), "=|=|-1|=|=|=|="),
+    (One(Text("4294967295")), "=|=|4294967295|=|=|4294967295|="),
+    (One(Text("4294967296")), "=|=|4294967296|=|=|=|="),
     (
-        &[One(Int(4294967296))],
-        "=|text|=|True|d4294967296|text|text",
-    ),
-    (&[One(Bool(false))], "=|text|0|=|text|text|text"),
-    (&[One(Bool(true))], "=|text|1|=|text|text|text"),
-    (&[One(Date(86400))], "=|text|86400|text|=|text|text"),
-    (&[One(Text(""))], "=|=|None|False|None|0|None"),
-    (&[One(Text("007"))], "=|=|7|=|=|7|="),
-    (&[One(Text("-0"))], "=|=|0|=|=|0|="),
-    (&[One(Text("1"))], "=|=|1|True|=|1|="),
-    (&[One(Text("0"))], "=|=|0|False|=|0|="),
-    (&[One(Text("-1"))], "=|=|-1|=|=|=|="),
-    (
-        &[One(Text("4294967295"))],
-        "=|=|4294967295|=|=|4294967295|=",
-    ),
-    (&[One(Text("4294967296"))], "=|=|4294967296|=|=|=|="),
-    (
-        &[One(Text("9223372036854775807"))],
+        One(Text("9223372036854775807")),
         "=|=|9223372036854775807|=|=|=|=",
     ),
     (
-        &[One(Text("-9223372036854775808"))],
+        One(Text("-9223372036854775808")),
         "=|=|-9223372036854775808|=|=|=|=",
     ),
-    (&[One(Text("tRUE")), One(Text("yes"))], "=|=|=|True|=|=|="),
-    (&[One(Text("FALSE")), One(Text("No"))], "=|=|=|False|=|=|="),
-    (OTHERS, "=|=|=|=|=|=|="),
-    (&[List(&[])], "=|text|text|text|text|text|None"),
+    (One(Text("tRUE")), "=|=|=|True|=|=|="),
+    (One(Text("yes")), "=|=|=|True|=|=|="),
+    (One(Text("FALSE")), "=|=|=|False|=|=|="),
+    (One(Text("No")), "=|=|=|False|=|=|="),
+    (List(&[]), "=|text|text|text|text|text|None"),
     (
-        &[List(&[Int(2), Int(4294967295)])],
+        List(&[Int(2), Int(4294967295)]),
         "=|text|text|text|text|text|=",
     ),
     (
-        &[List(&[Rec("T", 2), Int(1)])],
+        List(&[Rec("T", 2), Int(1)]),
         "=|text|text|text|text|text|[2, 1]",
     ),
-    (&[One(Rec("T", 0))], "=|text|text|text|text|0|None"),
-    (&[One(Rec("T", 3))], "=|text|text|text|text|3|[3]"),
-    (&[RecSet("T", &[])], "=|text|text|text|text|text|None"),
-    (&[RecSet("T", &[2, 1])], "=|text|text|text|text|text|[2, 1]"),
-    (NO_ROWS, "=|text|text|text|text|text|text"),
-    (&[List(&[Letters(65533)])], "=|''|0|False|None|0|None"),
+    (One(Rec("T", 0)), "=|text|text|text|text|0|None"),
+    (One(Rec("T", 3)), "=|text|text|text|text|3|[3]"),
+    (RecSet("T", &[]), "=|text|text|text|text|text|None"),
+    (RecSet("T", &[2, 1]), "=|text|text|text|text|text|[2, 1]"),
+    (List(&[Letters(65533)]), "=|''|0|False|None|0|None"),
 ];
 
+const STAYS: &str = "=|=|=|=|=|=|=";
+
 // Texts that are nearly numbers or words, and values that stay everywhere.
-const OTHERS: &[Sample] = &[
+static OTHERS: [Sample; 10] = [
     One(Text("9223372036854775808")),
     One(Text("-9223372036854775809")),
     One(Text("00000000000000000001")),
@@ -89,8 +93,10 @@ const OTHERS: &[Sample] = &[
     Sample::Censored,
 ];
 
+const SHOWS_ITS_TEXT: &str = "=|text|text|text|text|text|text";
+
 // Lists and records that name no rows of T, or no such rows alone.
-const NO_ROWS: &[Sample] = &[
+static NO_ROWS: [Sample; 8] = [
     List(&[Int(4294967296)]),
     List(&[Int(1), Int(0)]),
     List(&[Int(-1)]),
@@ -102,7 +108,7 @@ const NO_ROWS: &[Sample] = &[
 ];
 
 // Values and their texts.
-const TEXTS: [(Sample, &str); 16] = [
+static TEXTS: [(Sample, &str); 16] = [
     (One(Null), "None"),
     (One(Bool(true)), "True"),
     (One(Bool(false)), "False"),
@@ -124,111 +130,201 @@ const TEXTS: [(Sample, &str); 16] = [
     (Sample::Err, "TypeError"),
 ];
 
-// Adds the word of the table for what a value became.
-fn add_word(row: &mut String, made: &str, value: &str, text: &str) -> Result<(), AllocError> {
-    if made == value {
-        row.push('=')?;
-    } else if made == text {
-        row.push_str("text")?;
+// Whether a value shows this, between quotes where it is a text.
+fn is_shown(alloc: Global, value: &CellValue, want: &str) -> bool {
+    let Ok(text) = shown(alloc, value) else {
+        return false;
+    };
+    text.as_str() == want
+}
+
+fn is_text(alloc: Global, value: &CellValue, want: &str) -> bool {
+    let Ok(text) = text(alloc, value) else {
+        return false;
+    };
+    text.as_str() == want
+}
+
+fn is_text_of(alloc: Global, made: &CellValue, value: &CellValue) -> bool {
+    match made {
+        CellValue::Text(text) => is_text(alloc, value, text.as_str()),
+        _ => false,
+    }
+}
+
+// Whether what a value became is what the word of the table says.
+fn is_word(alloc: Global, made: &CellValue, value: &CellValue, word: &str) -> bool {
+    if word == "=" {
+        made.same_as(value)
+    } else if word == "text" {
+        is_text_of(alloc, made, value)
     } else {
-        row.push_str(made)?;
+        is_shown(alloc, made, word)
     }
-    Ok(())
 }
 
-// The row of the table for a value.
-fn row(alloc: Global, types: &[ColType], value: &CellValue) -> Result<String, AllocError> {
-    let before = shown(alloc, value)?;
-    let text = quoted(alloc, before.as_str())?;
-    let mut row = String::new(alloc);
-    for ty in types {
-        if !row.as_str().is_empty() {
-            row.push('|')?;
+fn becomes(alloc: Global, ty: &ColType, value: &CellValue, word: &str) -> bool {
+    let Ok(made) = convert(alloc, ty, value) else {
+        return false;
+    };
+    is_word(alloc, &made, value, word)
+}
+
+fn becomes_in(alloc: Global, kind: Kind, value: &CellValue, word: &str) -> bool {
+    let Ok(ty) = type_of(alloc, kind) else {
+        return false;
+    };
+    becomes(alloc, &ty, value, word)
+}
+
+// Whether a value becomes what the row of the table says, a word for each type.
+fn is_row(alloc: Global, value: &CellValue, row: &str) -> bool {
+    let mut words = row.split('|');
+    for kind in &KINDS {
+        let Some(word) = words.next() else {
+            return false;
+        };
+        if !becomes_in(alloc, *kind, value, word) {
+            return false;
         }
-        let made = shown(alloc, &convert(alloc, ty, value)?)?;
-        add_word(&mut row, made.as_str(), before.as_str(), text.as_str())?;
     }
-    Ok(row)
+    words.next().is_none()
 }
 
-// The first row that is not the wanted one.
-fn other_row(
-    alloc: Global,
-    types: &[ColType],
-    samples: &[Sample],
-    want: &str,
-) -> Result<Option<String>, AllocError> {
+fn has_row(alloc: Global, sample: Sample, row: &str) -> bool {
+    let Ok(value) = value_of(alloc, sample) else {
+        return false;
+    };
+    is_row(alloc, &value, row)
+}
+
+fn have_row(alloc: Global, samples: &[Sample], row: &str) -> bool {
     for sample in samples {
-        let row = row(alloc, types, &value_of(alloc, *sample)?)?;
-        if row.as_str() != want {
-            return Ok(Some(row));
+        if !has_row(alloc, *sample, row) {
+            return false;
         }
     }
-    Ok(None)
+    true
 }
 
 #[test]
-fn values_become_what_the_table_says(rt: HostRuntime) -> Result<(), Fail> {
-    let alloc = rt.alloc();
-    let types = types(alloc)?;
-    for (samples, want) in CONVERSIONS {
-        let other = other_row(alloc, &types, samples, want)?;
-        assert_eq!(rt; other.as_ref().map(|row| row.as_str()), None, "not {want}");
+fn values_become_what_the_table_says(rt: HostRuntime) {
+    for row in &CONVERSIONS {
+        assert!(rt; has_row(rt.alloc(), row.0, row.1), "not {}", row.1);
     }
-    Ok(())
+    assert!(rt; have_row(rt.alloc(), &OTHERS, STAYS));
+    assert!(rt; have_row(rt.alloc(), &NO_ROWS, SHOWS_ITS_TEXT));
+}
+
+fn has_text(alloc: Global, sample: Sample, want: &str) -> bool {
+    let Ok(value) = value_of(alloc, sample) else {
+        return false;
+    };
+    is_text(alloc, &value, want)
 }
 
 #[test]
-fn values_show_their_texts(rt: HostRuntime) -> Result<(), Fail> {
-    let alloc = rt.alloc();
-    for (sample, want) in TEXTS {
-        let text = text(alloc, &value_of(alloc, sample)?)?;
-        assert_eq!(rt; text.as_str(), want);
+fn values_show_their_texts(rt: HostRuntime) {
+    for row in &TEXTS {
+        assert!(rt; has_text(rt.alloc(), row.0, row.1), "not {}", row.1);
     }
-    Ok(())
+}
+
+// Whether a value's text has this size; 0 says that it has none.
+fn is_size(alloc: Global, value: &CellValue, size: usize) -> bool {
+    match &text_of(alloc, value) {
+        Ok(Some(text)) => text.len() == size,
+        Ok(None) => size == 0,
+        Err(_) => false,
+    }
+}
+
+fn has_size(alloc: Global, sample: Sample, size: usize) -> bool {
+    let Ok(value) = value_of(alloc, sample) else {
+        return false;
+    };
+    is_size(alloc, &value, size)
+}
+
+// Values, and the sizes of their texts; 0 for none.
+static SIZES: [(Sample, usize); 4] = [
+    (One(Letters(65536)), 65536),
+    (One(Letters(65537)), 0),
+    (List(&[Letters(65532)]), 65536),
+    (List(&[Letters(65533)]), 0),
+];
+
+#[test]
+fn texts_end_at_the_bound(rt: HostRuntime) {
+    for row in &SIZES {
+        assert!(rt; has_size(rt.alloc(), row.0, row.1), "not {}", row.1);
+    }
+}
+
+// The types of columns, and the default of each.
+static DEFAULTS: [(Kind, &str); 7] = [
+    (Kind::Any, "None"),
+    (Kind::Text, "''"),
+    (Kind::Int, "0"),
+    (Kind::Bool, "False"),
+    (Kind::Date, "None"),
+    (Kind::RefT, "0"),
+    (Kind::RefListT, "None"),
+];
+
+fn is_default(alloc: Global, ty: &ColType, want: &str) -> bool {
+    is_shown(alloc, &default_of(alloc, ty), want)
+}
+
+fn has_default(alloc: Global, kind: Kind, want: &str) -> bool {
+    let Ok(ty) = type_of(alloc, kind) else {
+        return false;
+    };
+    is_default(alloc, &ty, want)
 }
 
 #[test]
-fn texts_end_at_the_bound(rt: HostRuntime) -> Result<(), Fail> {
-    let alloc = rt.alloc();
-    for (sample, want) in [
-        (One(Letters(65536)), Some(65536)),
-        (One(Letters(65537)), None),
-        (List(&[Letters(65532)]), Some(65536)),
-        (List(&[Letters(65533)]), None),
-    ] {
-        let text = text_of(alloc, &value_of(alloc, sample)?)?;
-        assert_eq!(rt; text.map(|text| text.len()), want);
+fn new_cells_hold_defaults(rt: HostRuntime) {
+    for row in &DEFAULTS {
+        assert!(rt; has_default(rt.alloc(), row.0, row.1), "not {}", row.1);
     }
-    Ok(())
+}
+
+// Whether a value is the same as the copy of another, where it has to be, and else is not.
+fn compares(value: &CellValue, other: &CellValue, want: bool) -> bool {
+    let Ok(copy) = copy_of(other) else {
+        return false;
+    };
+    value.same_as(&copy) == want
+}
+
+fn compares_with(alloc: Global, value: &CellValue, other: Sample, want: bool) -> bool {
+    let Ok(other) = value_of(alloc, other) else {
+        return false;
+    };
+    compares(value, &other, want)
+}
+
+// Whether a value is the same as the copy of the value at its own place, and as no other copy.
+fn is_copy_alone(alloc: Global, value: &CellValue, place: usize) -> bool {
+    for (at, other) in TEXTS.iter().enumerate() {
+        if !compares_with(alloc, value, other.0, at == place) {
+            return false;
+        }
+    }
+    true
+}
+
+fn is_alone(alloc: Global, sample: Sample, place: usize) -> bool {
+    let Ok(value) = value_of(alloc, sample) else {
+        return false;
+    };
+    is_copy_alone(alloc, &value, place)
 }
 
 #[test]
-fn new_cells_hold_defaults(rt: HostRuntime) -> Result<(), Fail> {
-    let alloc = rt.alloc();
-    let wants = ["None", "''", "0", "False", "None", "0", "None"];
-    for (ty, want) in types(alloc)?.iter().zip(wants) {
-        assert_eq!(rt; shown(alloc, &default_of(alloc, ty))?.as_str(), want);
+fn values_are_the_same_as_their_copies_alone(rt: HostRuntime) {
+    for (place, row) in TEXTS.iter().enumerate() {
+        assert!(rt; is_alone(rt.alloc(), row.0, place), "at {}", row.1);
     }
-    Ok(())
-}
-
-// The value of each text.
-fn values(alloc: Global) -> Result<Vec<CellValue>, AllocError> {
-    let mut values = Vec::new(alloc);
-    for (sample, _) in TEXTS {
-        values.push(value_of(alloc, sample)?)?;
-    }
-    Ok(values)
-}
-
-#[test]
-fn values_are_the_same_as_their_copies_alone(rt: HostRuntime) -> Result<(), Fail> {
-    let values = values(rt.alloc())?;
-    for (place, value) in values.iter().enumerate() {
-        let copy = copy_of(value)?;
-        let found = values.iter().position(|other| other.same_as(&copy));
-        assert_eq!(rt; found, Some(place));
-    }
-    Ok(())
 }

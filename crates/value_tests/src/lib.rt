@@ -14,3 +14,5 @@ mod conversions;
 mod names;
 #[cfg(test)]
 mod operators;
+#[cfg(test)]
+mod samples;

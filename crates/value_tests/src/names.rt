@@ -2,83 +2,112 @@
 //! of one and of 64 characters, also of two bytes each; `passes_numbers_that_give_one_text` has an id
 //! whose numbers 2 to 9 give the texts that 22 to 29 give.
 
-use cell_types::{CellText, Name};
+use crate::samples::name;
+use cell_types::Name;
 use name_rules::{free_name, is_name};
-use std::alloc::Global;
-use std::test::Fail;
+use std::alloc::{AllocError, Global};
+
+// Texts, and whether they are good names.
+static NAMES: [(&str, bool); 8] = [
+    ("A", true),
+    ("é2_", true),
+    ("2A", false),
+    ("_A", false),
+    ("A b", false),
+    ("", false),
+    ("id", false),
+    ("Id", true),
+];
 
 #[test]
 fn tells_names(rt: HostRuntime) {
-    for (text, want) in [
-        ("A", true),
-        ("é2_", true),
-        ("2A", false),
-        ("_A", false),
-        ("A b", false),
-        ("", false),
-        ("id", false),
-        ("Id", true),
-    ] {
-        assert_eq!(rt; is_name(text), want, "at {text:?}");
+    for row in &NAMES {
+        assert!(rt; is_name(row.0) == row.1, "at {}", row.0);
     }
 }
 
-fn name(alloc: Global, text: &str) -> Result<Name, Fail> {
-    let text = CellText::copy_of(alloc, text)?;
-    Ok(Name::try_new(text).ok_or("a text that has no length of a name")?)
-}
+// Wanted ids, the ids that are taken, and the free id.
+static FREE: [(&str, &str, &str); 9] = [
+    ("A", "", "A"),
+    ("A", "B", "A"),
+    ("A", "A", "A2"),
+    ("A2", "A2", "A22"),
+    ("A", "A A2 A3", "A4"),
+    ("A", "A A3", "A2"),
+    (
+        "xxxxxxxxxxxxxxxxxxxxxxxxxxxxxxxxxxxxxxxxxxxxxxxxxxxxxxxxxxxxxxyz",
+        "xxxxxxxxxxxxxxxxxxxxxxxxxxxxxxxxxxxxxxxxxxxxxxxxxxxxxxxxxxxxxxyz",
+        "xxxxxxxxxxxxxxxxxxxxxxxxxxxxxxxxxxxxxxxxxxxxxxxxxxxxxxxxxxxxxxy2",
+    ),
+    (
+        "éééééééééééééééééééééééééééééééééééééééééééééééééééééééééééééééè",
+        "éééééééééééééééééééééééééééééééééééééééééééééééééééééééééééééééè",
+        "ééééééééééééééééééééééééééééééééééééééééééééééééééééééééééééééé2",
+    ),
+    ("for", "for", "for2"),
+];
 
-#[test]
-fn finds_free_ids(rt: HostRuntime) -> Result<(), Fail> {
-    let long = "xxxxxxxxxxxxxxxxxxxxxxxxxxxxxxxxxxxxxxxxxxxxxxxxxxxxxxxxxxxxxxyz";
-    let wide = "éééééééééééééééééééééééééééééééééééééééééééééééééééééééééééééééè";
-    for (wanted, taken, free) in [
-        ("A", "", "A"),
-        ("A", "B", "A"),
-        ("A", "A", "A2"),
-        ("A2", "A2", "A22"),
-        ("A", "A A2 A3", "A4"),
-        ("A", "A A3", "A2"),
-        (
-            long,
-            long,
-            "xxxxxxxxxxxxxxxxxxxxxxxxxxxxxxxxxxxxxxxxxxxxxxxxxxxxxxxxxxxxxxy2",
-        ),
-        (
-            wide,
-            wide,
-            "ééééééééééééééééééééééééééééééééééééééééééééééééééééééééééééééé2",
-        ),
-        ("for", "for", "for2"),
-    ] {
-        let alloc = rt.alloc();
-        let mut names = Vec::new(alloc);
-        for text in taken.split_whitespace() {
-            names.push(name(alloc, text)?)?;
-        }
-        let made = free_name(alloc, &name(alloc, wanted)?, &names)?;
-        assert_eq!(rt; made.as_str(), free);
+// The names of a text, with spaces between them.
+fn names(alloc: Global, text: &str) -> Result<Vec<Name>, AllocError> {
+    let mut names = Vec::new(alloc);
+    for part in text.split_whitespace() {
+        names.push(name(alloc, part)?)?;
     }
-    Ok(())
+    Ok(names)
+}
+
+fn is_free(alloc: Global, wanted: &Name, taken: &[Name], free: &str) -> bool {
+    let Ok(made) = free_name(alloc, wanted, taken) else {
+        return false;
+    };
+    made.as_str() == free
+}
+
+fn is_free_beside(alloc: Global, wanted: &Name, taken: &str, free: &str) -> bool {
+    let Ok(taken) = names(alloc, taken) else {
+        return false;
+    };
+    is_free(alloc, wanted, &taken, free)
+}
+
+fn finds(alloc: Global, wanted: &str, taken: &str, free: &str) -> bool {
+    let Ok(wanted) = name(alloc, wanted) else {
+        return false;
+    };
+    is_free_beside(alloc, &wanted, taken, free)
 }
 
 #[test]
-fn passes_numbers_that_give_one_text(rt: HostRuntime) -> Result<(), Fail> {
-    let alloc = rt.alloc();
-    let front = "xxxxxxxxxxxxxxxxxxxxxxxxxxxxxxxxxxxxxxxxxxxxxxxxxxxxxxxxxxxxxx";
-    let wanted = name(
-        alloc,
-        "xxxxxxxxxxxxxxxxxxxxxxxxxxxxxxxxxxxxxxxxxxxxxxxxxxxxxxxxxxxxxx2y",
-    )?;
-    let mut taken = vec![in alloc; wanted.clone()?]?;
+fn finds_free_ids(rt: HostRuntime) {
+    for row in &FREE {
+        assert!(rt; finds(rt.alloc(), row.0, row.1, row.2), "not {}", row.2);
+    }
+}
+
+// The text, and the front with each number of 10 to 29 behind it.
+fn numbered(alloc: Global, text: &str, front: &str) -> Result<String, AllocError> {
+    let mut all = String::from_str(alloc, text)?;
     for number in 10..30 {
-        let text = format!(in alloc; "{front}{number}")?;
-        taken.push(name(alloc, text.as_str())?)?;
+        write!(all, " {front}{number}")?;
     }
-    let made = free_name(alloc, &wanted, &taken)?;
-    assert_eq!(rt;
-        made.as_str(),
-        "xxxxxxxxxxxxxxxxxxxxxxxxxxxxxxxxxxxxxxxxxxxxxxxxxxxxxxxxxxxxxx30"
-    );
-    Ok(())
+    Ok(all)
+}
+
+// The wanted id, the front of ids that are taken, and the free id.
+const WANTED: &str = "xxxxxxxxxxxxxxxxxxxxxxxxxxxxxxxxxxxxxxxxxxxxxxxxxxxxxxxxxxxxxx2y";
+
+const FRONT: &str = "xxxxxxxxxxxxxxxxxxxxxxxxxxxxxxxxxxxxxxxxxxxxxxxxxxxxxxxxxxxxxx";
+
+const PASSED: &str = "xxxxxxxxxxxxxxxxxxxxxxxxxxxxxxxxxxxxxxxxxxxxxxxxxxxxxxxxxxxxxx30";
+
+fn is_passed(alloc: Global) -> bool {
+    let Ok(taken) = numbered(alloc, WANTED, FRONT) else {
+        return false;
+    };
+    finds(alloc, WANTED, taken.as_str(), PASSED)
+}
+
+#[test]
+fn passes_numbers_that_give_one_text(rt: HostRuntime) {
+    assert!(rt; is_passed(rt.alloc()), "not {PASSED}");
 }

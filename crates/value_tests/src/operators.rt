@@ -6,9 +6,12 @@
 //! `kinds_meet_as_the_page_says` has each operator at each pair of kinds; the others have the rest of
 //! the page, and what is told of a fault.
 
-use cell_types::{CellItem, CellList, CellText, CellValue, ErrKind, Name, RowList, RowRef, RowSet};
-use std::alloc::{AllocError, Global};
-use std::test::Fail;
+use crate::samples::{Part, Sample, value_of};
+use Answer::{Letter, Number};
+use Part::{Bool, Date, Int, Letters, Null, Rec, Text};
+use Sample::{List, Nulls, One, RecSet};
+use cell_types::{CellValue, ErrKind, decimal_value};
+use std::alloc::Global;
 use value_ops::{
     OpFault, add, contains, equal, floor_div, less, modulo, mul, negate, same, sub, truth,
 };
@@ -48,7 +51,7 @@ fn apply(
 }
 
 // A letter for a result: true, false, another value; a wrong type, overflow, division by zero, no memory.
-fn letter(outcome: Result<CellValue, OpFault>) -> char {
+fn letter(outcome: &Result<CellValue, OpFault>) -> char {
     match outcome {
         Ok(CellValue::Bool(true)) => 't',
         Ok(CellValue::Bool(false)) => 'f',
@@ -60,273 +63,371 @@ fn letter(outcome: Result<CellValue, OpFault>) -> char {
     }
 }
 
-// Adds the number, or the letter of another result.
-fn push_number(out: &mut String, outcome: Result<CellValue, OpFault>) -> Result<(), AllocError> {
+// What an operator has to give: a number, or anything that has this letter.
+#[derive(Clone, Copy)]
+enum Answer {
+    Number(i64),
+    Letter(char),
+}
+
+fn is_number(outcome: &Result<CellValue, OpFault>, want: i64) -> bool {
     match outcome {
-        Ok(CellValue::Int(number)) => write!(out, "{number} "),
-        other => write!(out, "{} ", letter(other)),
+        Ok(CellValue::Int(number)) => *number == want,
+        _ => false,
     }
 }
 
-#[test]
-fn numbers_are_those_of_python(rt: HostRuntime) -> Result<(), Fail> {
-    for (left, right, want) in [
-        (7, 2, "9 5 14 3 1 -7 "),
-        (-7, 2, "-5 -9 -14 -4 1 7 "),
-        (7, -2, "5 9 -14 -4 -1 -7 "),
-        (-7, -2, "-9 -5 14 3 -1 7 "),
-        (-6, 3, "-3 -9 -18 -2 0 6 "),
-        (0, -5, "-5 5 0 0 0 0 "),
-        (5, 0, "5 5 0 z z -5 "),
-        (
-            -1,
-            i64::MAX,
-            "9223372036854775806 -9223372036854775808 -9223372036854775807 -1 9223372036854775806 1 ",
-        ),
-        (i64::MIN, -1, "o -9223372036854775807 o o 0 o "),
-        (
-            i64::MIN,
-            2,
-            "-9223372036854775806 o o -4611686018427387904 0 o ",
-        ),
-        (i64::MAX, i64::MIN, "-1 o o -1 -1 -9223372036854775807 "),
-        (i64::MIN, i64::MIN, "o 0 o 1 0 o "),
-        (
-            i64::MAX,
-            1,
-            "o 9223372036854775806 9223372036854775807 9223372036854775807 0 -9223372036854775807 ",
-        ),
-        (
-            i64::MIN,
-            1,
-            "-9223372036854775807 o -9223372036854775808 -9223372036854775808 0 o ",
-        ),
-        (3037000500, 3037000500, "6074001000 0 o 1 0 -3037000500 "),
-    ] {
-        let mut got = String::new(rt.alloc());
-        for operator in [
-            Operator::Add,
-            Operator::Sub,
-            Operator::Mul,
-            Operator::FloorDiv,
-            Operator::Modulo,
-            Operator::NegateLeft,
-        ] {
-            let (left, right) = (CellValue::Int(left), CellValue::Int(right));
-            push_number(&mut got, apply(rt.alloc(), operator, &left, &right))?;
-        }
-        assert_eq!(rt; got.as_str(), want, "at {left} and {right}");
+fn is_answer(outcome: &Result<CellValue, OpFault>, want: Answer) -> bool {
+    match want {
+        Number(want) => is_number(outcome, want),
+        Letter(want) => letter(outcome) == want,
     }
-    Ok(())
 }
+
+fn gives_with(
+    alloc: Global,
+    operator: Operator,
+    left: &CellValue,
+    right: Sample,
+    want: Answer,
+) -> bool {
+    let Ok(right) = value_of(alloc, right) else {
+        return false;
+    };
+    is_answer(&apply(alloc, operator, left, &right), want)
+}
+
+fn gives(alloc: Global, operator: Operator, left: Sample, right: Sample, want: Answer) -> bool {
+    let Ok(left) = value_of(alloc, left) else {
+        return false;
+    };
+    gives_with(alloc, operator, &left, right, want)
+}
+
+// The operators on numbers, in the order of the table.
+static ARITHMETIC: [Operator; 6] = [
+    Operator::Add,
+    Operator::Sub,
+    Operator::Mul,
+    Operator::FloorDiv,
+    Operator::Modulo,
+    Operator::NegateLeft,
+];
+
+// Two numbers, and what each operator gives.
+static NUMBERS: [(i64, i64, &str); 15] = [
+    (7, 2, "9 5 14 3 1 -7"),
+    (-7, 2, "-5 -9 -14 -4 1 7"),
+    (7, -2, "5 9 -14 -4 -1 -7"),
+    (-7, -2, "-9 -5 14 3 -1 7"),
+    (-6, 3, "-3 -9 -18 -2 0 6"),
+    (0, -5, "-5 5 0 0 0 0"),
+    (5, 0, "5 5 0 z z -5"),
+    (
+        -1,
+        i64::MAX,
+        "9223372036854775806 -9223372036854775808 -9223372036854775807 -1 9223372036854775806 1",
+    ),
+    (i64::MIN, -1, "o -9223372036854775807 o o 0 o"),
+    (
+        i64::MIN,
+        2,
+        "-9223372036854775806 o o -4611686018427387904 0 o",
+    ),
+    (i64::MAX, i64::MIN, "-1 o o -1 -1 -9223372036854775807"),
+    (i64::MIN, i64::MIN, "o 0 o 1 0 o"),
+    (
+        i64::MAX,
+        1,
+        "o 9223372036854775806 9223372036854775807 9223372036854775807 0 -9223372036854775807",
+    ),
+    (
+        i64::MIN,
+        1,
+        "-9223372036854775807 o -9223372036854775808 -9223372036854775808 0 o",
+    ),
+    (3037000500, 3037000500, "6074001000 0 o 1 0 -3037000500"),
+];
+
+// What a word stands for: a number, or a letter.
+fn answer_of(word: &str) -> Answer {
+    match decimal_value(word) {
+        Some(number) => Number(number),
+        None => Letter(word.chars().next().unwrap_or('?')),
+    }
+}
+
+// Whether the operators give these words for two numbers.
+fn are_numbers(alloc: Global, left: i64, right: i64, row: &str) -> bool {
+    let mut words = row.split(' ');
+    for operator in &ARITHMETIC {
+        let Some(word) = words.next() else {
+            return false;
+        };
+        if !gives(
+            alloc,
+            *operator,
+            One(Int(left)),
+            One(Int(right)),
+            answer_of(word),
+        ) {
+            return false;
+        }
+    }
+    words.next().is_none()
+}
+
+#[test]
+fn numbers_are_those_of_python(rt: HostRuntime) {
+    for row in &NUMBERS {
+        assert!(rt;
+            are_numbers(rt.alloc(), row.0, row.1, row.2),
+            "not {}",
+            row.2
+        );
+    }
+}
+
+// Two values, an operator, and the letter of what it gives.
+type Row = (Sample, Operator, Sample, char);
+
+fn is_so(alloc: Global, row: &Row) -> bool {
+    gives(alloc, row.1, row.0, row.2, Letter(row.3))
+}
+
+static DIVIDED: [Row; 2] = [
+    (One(Int(5)), Operator::FloorDiv, One(Bool(false)), 'z'),
+    (One(Bool(true)), Operator::Modulo, One(Bool(false)), 'z'),
+];
 
 #[test]
 fn false_divides_as_zero(rt: HostRuntime) {
-    let zero = CellValue::Bool(false);
-    assert_eq!(rt; letter(floor_div(&CellValue::Int(5), &zero)), 'z');
-    assert_eq!(rt; letter(modulo(&CellValue::Bool(true), &zero)), 'z');
+    for row in &DIVIDED {
+        assert!(rt; is_so(rt.alloc(), row));
+    }
 }
 
-fn row(alloc: Global, table: &str, row: u32) -> Result<RowRef, Fail> {
-    let table = Name::try_new(CellText::copy_of(alloc, table)?).ok_or("no name")?;
-    Ok(RowRef { table, row })
-}
+// One value of each kind; 1 is a number, a truth and a second.
+static KINDS: [Sample; 8] = [
+    One(Null),
+    One(Int(1)),
+    One(Bool(true)),
+    One(Text("b")),
+    One(Date(1)),
+    One(Rec("T", 1)),
+    RecSet("T", &[1, 3]),
+    List(&[Bool(true), Text("b")]),
+];
 
-// A set of rows of T.
-fn row_set(alloc: Global, rows: &[u32]) -> Result<CellValue, Fail> {
-    let table = row(alloc, "T", 0)?.table;
-    let rows = RowList::from(Vec::from_slice(alloc, rows)?);
-    Ok(CellValue::RecSet(RowSet { table, rows }))
-}
+const ON_NUMBERS: &str = "........ .vv..... .vv..... ........ ........ ........ ........ ........";
 
-fn text(alloc: Global, text: &str) -> Result<CellValue, AllocError> {
-    Ok(CellValue::Text(CellText::copy_of(alloc, text)?))
-}
+// The letters of each operator: a word for each left operand, a letter for each right one.
+static MEETINGS: [(Operator, &str); 10] = [
+    (
+        Operator::Add,
+        "........ .vv..... .vv..... ...v.... ........ ........ ........ .......v",
+    ),
+    (Operator::Sub, ON_NUMBERS),
+    (Operator::Mul, ON_NUMBERS),
+    (Operator::FloorDiv, ON_NUMBERS),
+    (Operator::Modulo, ON_NUMBERS),
+    (
+        Operator::NegateLeft,
+        "........ vvvvvvvv vvvvvvvv ........ ........ ........ ........ ........",
+    ),
+    (
+        Operator::Equal,
+        "tfffffff fttfffff fttfffff ffftffff fffftfff ffffftff fffffftf ffffffft",
+    ),
+    (
+        Operator::Same,
+        "tfffffff ftffffff fftfffff ffftffff fffftfff ffffftff fffffftf ffffffft",
+    ),
+    (
+        Operator::Less,
+        "........ .ff..... .ff..... ...f.... ....f... ........ ........ ........",
+    ),
+    (
+        Operator::Contains,
+        "......ff ......tt ......tt ...t..ft ......ff ......tf ......ff ......ff",
+    ),
+];
 
-// The list of the item and 'b'.
-fn list_with_b(alloc: Global, first: CellItem) -> Result<CellValue, AllocError> {
-    let second = CellItem::Text(CellText::copy_of(alloc, "b")?);
-    let items = Vec::from_array(alloc, [first, second])?;
-    Ok(CellValue::List(CellList::from(items)))
-}
-
-// One value of each kind: None, 1, True, 'b', the second 1, T[1], T[[1, 3]] and [True, 'b'].
-fn samples(alloc: Global) -> Result<Vec<CellValue>, Fail> {
-    let letter = text(alloc, "b")?;
-    let record = CellValue::Rec(row(alloc, "T", 1)?);
-    let records = row_set(alloc, &[1, 3])?;
-    let list = list_with_b(alloc, CellItem::Bool(true))?;
-    let (one, yes, date) = (CellValue::Int(1), CellValue::Bool(true), CellValue::Date(1));
-    let values = [
-        CellValue::Null,
-        one,
-        yes,
-        letter,
-        date,
-        record,
-        records,
-        list,
-    ];
-    Ok(Vec::from_array(alloc, values)?)
-}
-
-const NUMBERS: &str = "........ .vv..... .vv..... ........ ........ ........ ........ ........ ";
-
-#[test]
-fn kinds_meet_as_the_page_says(rt: HostRuntime) -> Result<(), Fail> {
-    let values = samples(rt.alloc())?;
-    for (operator, want) in [
-        (
-            Operator::Add,
-            "........ .vv..... .vv..... ...v.... ........ ........ ........ .......v ",
-        ),
-        (Operator::Sub, NUMBERS),
-        (Operator::Mul, NUMBERS),
-        (Operator::FloorDiv, NUMBERS),
-        (Operator::Modulo, NUMBERS),
-        (
-            Operator::NegateLeft,
-            "........ vvvvvvvv vvvvvvvv ........ ........ ........ ........ ........ ",
-        ),
-        (
-            Operator::Equal,
-            "tfffffff fttfffff fttfffff ffftffff fffftfff ffffftff fffffftf ffffffft ",
-        ),
-        (
-            Operator::Same,
-            "tfffffff ftffffff fftfffff ffftffff fffftfff ffffftff fffffftf ffffffft ",
-        ),
-        (
-            Operator::Less,
-            "........ .ff..... .ff..... ...f.... ....f... ........ ........ ........ ",
-        ),
-        (
-            Operator::Contains,
-            "......ff ......tt ......tt ...t..ft ......ff ......tf ......ff ......ff ",
-        ),
-    ] {
-        let mut got = String::new(rt.alloc());
-        for left in &values {
-            for right in &values {
-                got.push(letter(apply(rt.alloc(), operator, left, right)))?;
-            }
-            got.push(' ')?;
+// Whether an operator gives these letters for a value, one beside each kind.
+fn gives_row(alloc: Global, operator: Operator, left: Sample, row: &str) -> bool {
+    let mut letters = row.chars();
+    for right in &KINDS {
+        let Some(letter) = letters.next() else {
+            return false;
+        };
+        if !gives(alloc, operator, left, *right, Letter(letter)) {
+            return false;
         }
-        assert_eq!(rt; got.as_str(), want);
     }
-    Ok(())
+    letters.next().is_none()
+}
+
+fn gives_rows(alloc: Global, operator: Operator, rows: &str) -> bool {
+    let mut rows = rows.split(' ');
+    for left in &KINDS {
+        let Some(row) = rows.next() else {
+            return false;
+        };
+        if !gives_row(alloc, operator, *left, row) {
+            return false;
+        }
+    }
+    rows.next().is_none()
 }
 
 #[test]
-fn lists_compare_by_number(rt: HostRuntime) -> Result<(), Fail> {
-    let left = list_with_b(rt.alloc(), CellItem::Int(1))?;
-    for (first, want) in [(CellItem::Bool(true), true), (CellItem::Bool(false), false)] {
-        let right = list_with_b(rt.alloc(), first)?;
-        assert_eq!(rt; equal(&left, &right), want);
-        assert_eq!(rt; same(&right, &left), want);
+fn kinds_meet_as_the_page_says(rt: HostRuntime) {
+    for row in &MEETINGS {
+        assert!(rt; gives_rows(rt.alloc(), row.0, row.1), "not {}", row.1);
     }
-    Ok(())
+}
+
+static LISTS: [Row; 4] = [
+    (ONE_AND_B, Operator::Equal, TRUE_AND_B, 't'),
+    (TRUE_AND_B, Operator::Same, ONE_AND_B, 't'),
+    (ONE_AND_B, Operator::Equal, FALSE_AND_B, 'f'),
+    (FALSE_AND_B, Operator::Same, ONE_AND_B, 'f'),
+];
+
+const ONE_AND_B: Sample = List(&[Int(1), Text("b")]);
+
+const TRUE_AND_B: Sample = List(&[Bool(true), Text("b")]);
+
+const FALSE_AND_B: Sample = List(&[Bool(false), Text("b")]);
+
+#[test]
+fn lists_compare_by_number(rt: HostRuntime) {
+    for row in &LISTS {
+        assert!(rt; is_so(rt.alloc(), row), "not {}", row.3);
+    }
+}
+
+static RECORDS: [Row; 3] = [
+    (
+        One(Rec("T", 1)),
+        Operator::Contains,
+        RecSet("T", &[1, 3]),
+        't',
+    ),
+    (
+        One(Rec("U", 1)),
+        Operator::Contains,
+        RecSet("T", &[1, 3]),
+        'f',
+    ),
+    (One(Rec("T", 1)), Operator::Equal, One(Rec("U", 1)), 'f'),
+];
+
+#[test]
+fn records_of_other_tables_are_others(rt: HostRuntime) {
+    for row in &RECORDS {
+        assert!(rt; is_so(rt.alloc(), row), "not {}", row.3);
+    }
+}
+
+// Two texts, whether the left one is less, and whether it is a part of the right one.
+static ORDERED: [(&str, &str, char, char); 10] = [
+    ("a", "b", 't', 'f'),
+    ("a", "ab", 't', 't'),
+    ("b", "ab", 'f', 't'),
+    ("Z", "a", 't', 'f'),
+    ("z", "aa", 'f', 'f'),
+    ("\u{e9}", "z", 'f', 'f'),
+    ("\u{ffff}", "\u{10000}", 't', 'f'),
+    ("", "", 'f', 't'),
+    ("ac", "abc", 'f', 'f'),
+    ("aab", "aaab", 'f', 't'),
+];
+
+fn are_ordered(alloc: Global, row: &(&'static str, &'static str, char, char)) -> bool {
+    let (left, right) = (One(Text(row.0)), One(Text(row.1)));
+    gives(alloc, Operator::Less, left, right, Letter(row.2))
+        && gives(alloc, Operator::Contains, left, right, Letter(row.3))
 }
 
 #[test]
-fn records_of_other_tables_are_others(rt: HostRuntime) -> Result<(), Fail> {
-    let records = row_set(rt.alloc(), &[1, 3])?;
-    let record = CellValue::Rec(row(rt.alloc(), "T", 1)?);
-    let other = CellValue::Rec(row(rt.alloc(), "U", 1)?);
-    assert_eq!(rt; letter(contains(&record, &records)), 't');
-    assert_eq!(rt; letter(contains(&other, &records)), 'f');
-    assert!(rt; !equal(&record, &other));
-    Ok(())
+fn texts_compare_as_in_python(rt: HostRuntime) {
+    for row in &ORDERED {
+        assert!(rt; are_ordered(rt.alloc(), row), "at {} and {}", row.0, row.1);
+    }
+}
+
+// Values, and whether each counts as true: one of each kind, the empty ones, and a date.
+static TRUTHS: [(Sample, bool); 15] = [
+    (One(Null), false),
+    (One(Int(1)), true),
+    (One(Bool(true)), true),
+    (One(Text("b")), true),
+    (One(Date(1)), true),
+    (One(Rec("T", 1)), true),
+    (RecSet("T", &[1, 3]), true),
+    (List(&[Bool(true), Text("b")]), true),
+    (One(Int(0)), false),
+    (One(Bool(false)), false),
+    (One(Text("")), false),
+    (One(Rec("T", 0)), false),
+    (RecSet("T", &[]), false),
+    (List(&[]), false),
+    (One(Date(0)), true),
+];
+
+fn has_truth(alloc: Global, sample: Sample, want: bool) -> bool {
+    let Ok(value) = value_of(alloc, sample) else {
+        return false;
+    };
+    truth(&value) == want
 }
 
 #[test]
-fn texts_compare_as_in_python(rt: HostRuntime) -> Result<(), Fail> {
-    for (left, right, is_less, is_part) in [
-        ("a", "b", 't', 'f'),
-        ("a", "ab", 't', 't'),
-        ("b", "ab", 'f', 't'),
-        ("Z", "a", 't', 'f'),
-        ("z", "aa", 'f', 'f'),
-        ("\u{e9}", "z", 'f', 'f'),
-        ("\u{ffff}", "\u{10000}", 't', 'f'),
-        ("", "", 'f', 't'),
-        ("ac", "abc", 'f', 'f'),
-        ("aab", "aaab", 'f', 't'),
-    ] {
-        let left = text(rt.alloc(), left)?;
-        let right = text(rt.alloc(), right)?;
-        assert_eq!(rt;
-            letter(apply(rt.alloc(), Operator::Less, &left, &right)),
-            is_less
-        );
-        assert_eq!(rt; letter(contains(&left, &right)), is_part);
+fn empty_values_are_false(rt: HostRuntime) {
+    for (place, row) in TRUTHS.iter().enumerate() {
+        assert!(rt; has_truth(rt.alloc(), row.0, row.1), "at value {place}");
     }
-    Ok(())
+}
+
+// The last values that fit, and the first that do not.
+static JOINED: [Row; 4] = [
+    (One(Letters(65_535)), Operator::Add, One(Letters(1)), 'v'),
+    (Nulls(999_999), Operator::Add, Nulls(1), 'v'),
+    (One(Letters(65_535)), Operator::Add, One(Letters(2)), 'o'),
+    (Nulls(999_999), Operator::Add, Nulls(2), 'o'),
+];
+
+#[test]
+fn joining_ends_at_its_bounds(rt: HostRuntime) {
+    for row in &JOINED {
+        assert!(rt; is_so(rt.alloc(), row), "not {}", row.3);
+    }
+}
+
+// Faults, and what they tell.
+static MESSAGES: [(OpFault, &str); 3] = [
+    (
+        OpFault::Raised(ErrKind::WrongType),
+        "the operator raises TypeError",
+    ),
+    (
+        OpFault::Raised(ErrKind::ZeroDivision),
+        "the operator raises ZeroDivisionError",
+    ),
+    (OpFault::NoMemory, "out of memory"),
+];
+
+fn is_told(alloc: Global, fault: OpFault, want: &str) -> bool {
+    let Ok(message) = format!(in alloc; "{fault}") else {
+        return false;
+    };
+    message.as_str() == want
 }
 
 #[test]
-fn empty_values_are_false(rt: HostRuntime) -> Result<(), Fail> {
-    for value in &samples(rt.alloc())? {
-        assert_eq!(rt; truth(value), !same(value, &CellValue::Null));
+fn faults_tell_what_is_raised(rt: HostRuntime) {
+    for row in &MESSAGES {
+        assert!(rt; is_told(rt.alloc(), row.0, row.1), "not {}", row.1);
     }
-    for value in [
-        CellValue::Int(0),
-        CellValue::Bool(false),
-        text(rt.alloc(), "")?,
-        CellValue::Rec(row(rt.alloc(), "T", 0)?),
-        row_set(rt.alloc(), &[])?,
-        CellValue::List(CellList::new(rt.alloc())),
-    ] {
-        assert!(rt; !truth(&value));
-    }
-    assert!(rt; truth(&CellValue::Date(0)));
-    Ok(())
-}
-
-fn letters(alloc: Global, count: u32) -> Result<CellValue, AllocError> {
-    let mut text = String::new(alloc);
-    for _ in 0..count {
-        text.push('a')?;
-    }
-    Ok(CellValue::Text(CellText::from(text)))
-}
-
-fn nulls(alloc: Global, count: u32) -> Result<CellValue, AllocError> {
-    let mut items = CellList::new(alloc);
-    for _ in 0..count {
-        items.push(CellItem::Null)?;
-    }
-    Ok(CellValue::List(items))
-}
-
-#[test]
-fn joining_ends_at_its_bounds(rt: HostRuntime) -> Result<(), Fail> {
-    for (count, want) in [(1, 'v'), (2, 'o')] {
-        let left = letters(rt.alloc(), 65_535)?;
-        let right = letters(rt.alloc(), count)?;
-        assert_eq!(rt; letter(add(rt.alloc(), &left, &right)), want);
-        let left = nulls(rt.alloc(), 999_999)?;
-        let right = nulls(rt.alloc(), count)?;
-        assert_eq!(rt; letter(add(rt.alloc(), &left, &right)), want);
-    }
-    Ok(())
-}
-
-#[test]
-fn faults_tell_what_is_raised(rt: HostRuntime) -> Result<(), Fail> {
-    for (fault, want) in [
-        (
-            OpFault::Raised(ErrKind::WrongType),
-            "the operator raises TypeError",
-        ),
-        (
-            OpFault::Raised(ErrKind::ZeroDivision),
-            "the operator raises ZeroDivisionError",
-        ),
-        (OpFault::NoMemory, "out of memory"),
-    ] {
-        let message = format!(in rt.alloc(); "{fault}")?;
-        assert_eq!(rt; message.as_str(), want);
-    }
-    Ok(())
 }

@@ -1,4 +1,5 @@
-//! Values and types of the tables, and the texts that show values there.
+//! Values and types of the tables, written as parts that can be copied, and the texts that show
+//! values there.
 
 use cell_types::{
     CellItem, CellList, CellText, CellValue, ColType, ErrKind, Name, RowList, RowRef, RowSet,
@@ -18,17 +19,19 @@ pub enum Part {
     Rec(&'static str, u32),
 }
 
-/// A value of any kind.
+/// A value of any kind; `Nulls` is a list of that many items.
 #[derive(Clone, Copy)]
 pub enum Sample {
     One(Part),
     List(&'static [Part]),
+    Nulls(usize),
     RecSet(&'static str, &'static [u32]),
     Err,
     Censored,
 }
 
-fn name(alloc: Global, text: &str) -> Result<Name, AllocError> {
+/// The name of a text that has the length of one.
+pub fn name(alloc: Global, text: &str) -> Result<Name, AllocError> {
     Name::try_new(CellText::copy_of(alloc, text)?).ok_or(AllocError)
 }
 
@@ -40,6 +43,11 @@ fn letters(alloc: Global, count: usize) -> Result<CellText, AllocError> {
     Ok(CellText::from(text))
 }
 
+fn record(alloc: Global, table: &str, row: u32) -> Result<CellItem, AllocError> {
+    let table = name(alloc, table)?;
+    Ok(CellItem::Rec(RowRef { table, row }))
+}
+
 fn item_of(alloc: Global, part: Part) -> Result<CellItem, AllocError> {
     match part {
         Part::Null => Ok(CellItem::Null),
@@ -48,10 +56,7 @@ fn item_of(alloc: Global, part: Part) -> Result<CellItem, AllocError> {
         Part::Date(seconds) => Ok(CellItem::Date(seconds)),
         Part::Text(text) => Ok(CellItem::Text(CellText::copy_of(alloc, text)?)),
         Part::Letters(count) => Ok(CellItem::Text(letters(alloc, count)?)),
-        Part::Rec(table, row) => {
-            let table = name(alloc, table)?;
-            Ok(CellItem::Rec(RowRef { table, row }))
-        }
+        Part::Rec(table, row) => record(alloc, table, row),
     }
 }
 
@@ -63,38 +68,59 @@ fn list_of(alloc: Global, parts: &[Part]) -> Result<CellValue, AllocError> {
     Ok(CellValue::List(items))
 }
 
+fn nulls(alloc: Global, count: usize) -> Result<CellValue, AllocError> {
+    let mut items = CellList::new(alloc);
+    for _ in 0..count {
+        items.push(CellItem::Null)?;
+    }
+    Ok(CellValue::List(items))
+}
+
+fn records(alloc: Global, table: &str, rows: &[u32]) -> Result<CellValue, AllocError> {
+    let rows = RowList::from(Vec::from_slice(alloc, rows)?);
+    let table = name(alloc, table)?;
+    Ok(CellValue::RecSet(RowSet { table, rows }))
+}
+
 /// The value that a sample stands for.
 pub fn value_of(alloc: Global, sample: Sample) -> Result<CellValue, AllocError> {
     match sample {
         Sample::One(part) => Ok(CellValue::from(item_of(alloc, part)?)),
         Sample::List(parts) => list_of(alloc, parts),
-        Sample::RecSet(table, rows) => {
-            let table = name(alloc, table)?;
-            let rows = RowList::from(Vec::from_slice(alloc, rows)?);
-            Ok(CellValue::RecSet(RowSet { table, rows }))
-        }
+        Sample::Nulls(count) => nulls(alloc, count),
+        Sample::RecSet(table, rows) => records(alloc, table, rows),
         Sample::Err => Ok(CellValue::Err(ErrKind::WrongType)),
         Sample::Censored => Ok(CellValue::Censored),
     }
 }
 
 /// The types of the columns of the table.
-pub fn types(alloc: Global) -> Result<Vec<ColType>, AllocError> {
-    let row = ColType::Ref(name(alloc, "T")?);
-    let rows = ColType::RefList(name(alloc, "T")?);
-    Ok(vec![in alloc;
-        ColType::Any,
-        ColType::Text,
-        ColType::Int,
-        ColType::Bool,
-        ColType::Date,
-        row,
-        rows,
-    ]?)
+#[derive(Clone, Copy)]
+pub enum Kind {
+    Any,
+    Text,
+    Int,
+    Bool,
+    Date,
+    RefT,
+    RefListT,
 }
 
-/// The text between quotes.
-pub fn quoted(alloc: Global, text: &str) -> Result<String, AllocError> {
+/// The type that a kind stands for.
+pub fn type_of(alloc: Global, kind: Kind) -> Result<ColType, AllocError> {
+    match kind {
+        Kind::Any => Ok(ColType::Any),
+        Kind::Text => Ok(ColType::Text),
+        Kind::Int => Ok(ColType::Int),
+        Kind::Bool => Ok(ColType::Bool),
+        Kind::Date => Ok(ColType::Date),
+        Kind::RefT => Ok(ColType::Ref(name(alloc, "T")?)),
+        Kind::RefListT => Ok(ColType::RefList(name(alloc, "T")?)),
+    }
+}
+
+// The text between quotes.
+fn quoted(alloc: Global, text: &str) -> Result<String, AllocError> {
     format!(in alloc; "'{text}'")
 }
 

@@ -1,5 +1,5 @@
 -- What a core keeps stays the state that its history leads to.
-use Rattle.std.proofs.Common.{◌≡◌, ℕ, suc, ◌+◌, ◌<◌, ◌≤◌, Bool, true, false, not, ◌&&◌, ◌||◌, List, [], ◌∷◌, ◌++◌, map, length, sum_by, nat_le, nat_lt, take, drop, get_or, Option, Some, None, is_some, option_map, Result, Ok, Err, is_ok, MatchResult, refl, sym, ap, subst, ◌∙◌, arith, if◌then◌else◌}
+use Rattle.std.proofs.Common.{◌≡◌, ℕ, suc, ◌+◌, ◌<◌, ◌≤◌, Bool, true, false, not, ◌&&◌, ◌||◌, List, [], ◌∷◌, ◌++◌, map, length, sum_by, nat_le, nat_lt, take, drop, get_or, Option, Some, None, is_some, Result, Ok, Err, is_ok, MatchResult, refl, sym, ap, subst, ◌∙◌, arith, if◌then◌else◌}
 use Rattle.std.proofs.lemmas.Bool.{leb-false, false≢true}
 use Rattle.std.proofs.Math.Nat.{le-min, min-le_left, min-le_right}
 use Rattle.std.proofs.lemmas.List.{length-append, take-append-drop}
@@ -18,9 +18,9 @@ use Rattle.action_limits.specs.declared.tally.Tally.{Tally}
 use Rattle.action_limits.specs.Tallies.{IsTally}
 use Rattle.bundle_core.specs.Core.{state_after, entry_bound, size_bound, size_of, is_gone, is_full, bytes_left, counted, IsCore}
 use Rattle.bundle_core.specs.Desk.{AreSame, Answers, Finds, IsCounted, kept_name, Misses, state_of}
-use Rattle.bundle_core.specs.Mailbox.{Mailbox, own, quiet}
+use Rattle.bundle_core.specs.Mailbox.{quiet}
 use Rattle.bundle_core.specs.SessionState.{SessionState, open_of}
-use Rattle.bundle_core.specs.State.{State, Open, Verdicts, session_name, session_of, mailbox_of, turn_of, opening, run, step, after_turn, verdicts, given, from_outside, from_inside, from_behind}
+use Rattle.bundle_core.specs.State.{State, Open, Verdicts, session_name, session_of, opening, run, step, after_turn, verdicts, given, from_outside, from_inside, from_behind}
 use Rattle.bundle_core.proofs.Answering.{opens, opens-append, opens_above, opens_below}
 use Rattle.bundle_core.proofs.Inside.{around, some_session}
 use Rattle.bundle_core.proofs.Spots.{find_absent_at, find_at}

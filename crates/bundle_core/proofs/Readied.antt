@@ -1,5 +1,5 @@
 -- Sessions that are the same but for lines that are ready.
-use Rattle.std.proofs.Common.{◌≡◌, Bool, ℕ, suc, zero, ◌+◌, ◌<◌, ◌^◌, true, false, not, ◌||◌, List, [], ◌∷◌, ◌++◌, map, length, get_or, Some, None, option_to_list, refl, sym, ap, subst, ◌∙◌, arith, if◌then◌else◌}
+use Rattle.std.proofs.Common.{◌≡◌, Bool, ℕ, suc, zero, ◌+◌, ◌<◌, ◌^◌, true, false, not, ◌||◌, List, [], ◌∷◌, map, length, get_or, Some, refl, sym, ap, subst, ◌∙◌, arith}
 use Rattle.std.proofs.lemmas.Bool.{false≢true}
 use Rattle.std.specs.List.{AllByRecursion}
 use Rattle.doc_model.specs.declared.view.ViewAction.{ViewAction}

@@ -30,7 +30,7 @@ use Rattle.bundle_core.specs.Forms.{is_in_form}
 use Rattle.bundle_core.specs.Judgement.{Judgement, accepted, refused, judge, judge_from, limited, made_at, opposed, refusal_at, with_made}
 use Rattle.bundle_core.specs.Made.{made_of}
 use Rattle.bundle_core.specs.declared.judging.Plan.{Plan}
-use Rattle.bundle_core.specs.Plans.{IsPlan, MayBeDone, verdict_of}
+use Rattle.bundle_core.specs.Plans.{IsPlan, verdict_of}
 use Rattle.bundle_core.specs.Rulings.{IsAt, IsNext, with_all}
 use Rattle.bundle_core.proofs.WayLemmas.{nothing_left}
 

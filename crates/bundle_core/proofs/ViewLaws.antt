@@ -1,5 +1,5 @@
 -- Views of a document, and the changes between them.
-use Rattle.std.proofs.Common.{◌≡◌, List, []}
+use Rattle.std.proofs.Common.{◌≡◌, []}
 use Rattle.doc_model.specs.declared.user.User.{User}
 use Rattle.doc_model.specs.Changes.{changes, IsView}
 use Rattle.doc_model.specs.Document.{Document}

@@ -5,7 +5,7 @@ use Rattle.doc_model.specs.declared.entry.Entry.{Entry}
 use Rattle.doc_model.specs.declared.user.User.{User}
 use Rattle.doc_model.specs.declared.view.ViewAction.{ViewAction}
 use Rattle.doc_model.specs.Document.{Document}
-use Rattle.doc_model.specs.ByIds.{precedes, IsByIds}
+use Rattle.doc_model.specs.ByIds.{precedes}
 use Rattle.bundle_core.specs.SessionState.{SessionState, open_of, IsEmptied, IsReady, posted_state}
 use Rattle.grist_json.specs.declared.verdict.RetValue.{RetValue}
 use Rattle.grist_json.specs.declared.verdict.Verdict.TheVariants.{Bundle}

@@ -1,5 +1,5 @@
 -- Bundles that were judged.
-use Rattle.std.specs.Prelude.{ℕ, Bool, true, List, map, ◌≡◌, Option, Some, None}
+use Rattle.std.specs.Prelude.{Bool, true, List, ◌≡◌, Some}
 use Rattle.doc_model.specs.declared.action.DocAction.{DocAction}
 use Rattle.doc_model.specs.declared.limit.Refusal.{Refusal}
 use Rattle.doc_model.specs.declared.limit.Refusal.TheVariants as refusal

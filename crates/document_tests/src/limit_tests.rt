@@ -1,16 +1,18 @@
-//! Plan: what user actions come to in documents that are past a limit, or at the last row id, which a
-//! document never is by accepted bundles: the kept, growing and taking actions above a limit
-//! (`expands_above_the_limits`), new rows and metadata rows past the last one, and which limit is told
-//! first (`expands_past_the_last_row`). Bounds stand for their limits, 0 for steps.
+//! Plan: what user actions come to in documents that accepted bundles do not lead to. A table is wider
+//! than it may be: keeping and growing actions are past the limit (`brings_nothing_above_the_limits`),
+//! and so are those that take something else away, not those that take what is too much
+//! (`takes_away_what_is_above_the_limits`). The last row id is taken, of a record or of a row that
+//! describes a column (`no_record_comes_behind_the_last_row`, `no_column_comes_behind_the_last_row`).
+//! An end is the bound of the limit, 0 for steps, 1 for a refusal.
 
 ghost use Rattle.std.specs.Prelude.{◌≡◌, true};
 ghost use Rattle.doc_model.specs.DocumentLaws.{IsWhole};
 ghost use Rattle.user_actions.specs.StepLaws.{is_well_formed};
 
 use crate::actions::{add, add_column, column, name};
+use crate::tests::is_done;
 use action_limits::{Expansion, Tally, expand};
 use cell_types::CellText;
-use doc_actions::apply;
 use doc_model::laws::new_document_law;
 use doc_model::{ColDefList, DocAction, IdList, UserAction, UserCol, UserColList, UserColumnList};
 use row_tables::RowTables;
@@ -131,20 +133,39 @@ fn removes_column(alloc: Global, table: &str, id: &str) -> Result<UserAction, Al
     })
 }
 
-// Kept, growing and taking actions.
-fn of_each_kind(alloc: Global) -> Result<Vec<UserAction>, AllocError> {
-    let actions = [
-        renames_table(alloc)?,
-        adds_record(alloc)?,
-        adds_table(alloc)?,
-        adds_full_table(alloc)?,
-        adds_column(alloc)?,
-        removes_column(alloc, "Table1", "A")?,
-        removes_column(alloc, "Wide", "C1")?,
-        removes_table(alloc, "Table1")?,
-        removes_table(alloc, "Wide")?,
-    ];
-    Ok(Vec::from_array(alloc, actions)?)
+// Actions that keep the peaks of a document, or bring more.
+fn of_each_bringing_kind(alloc: Global) -> Result<Vec<UserAction>, AllocError> {
+    let mut actions = Vec::new(alloc);
+    actions.push(renames_table(alloc)?)?;
+    actions.push(adds_record(alloc)?)?;
+    actions.push(adds_table(alloc)?)?;
+    actions.push(adds_column(alloc)?)?;
+    Ok(actions)
+}
+
+// Actions that take a column or a table away.
+fn of_each_taking_kind(alloc: Global) -> Result<Vec<UserAction>, AllocError> {
+    let mut actions = Vec::new(alloc);
+    actions.push(removes_column(alloc, "Table1", "A")?)?;
+    actions.push(removes_column(alloc, "Wide", "C1")?)?;
+    actions.push(removes_table(alloc, "Table1")?)?;
+    actions.push(removes_table(alloc, "Wide")?)?;
+    Ok(actions)
+}
+
+fn of_records(alloc: Global) -> Result<Vec<UserAction>, AllocError> {
+    let mut actions = Vec::new(alloc);
+    actions.push(adds_record(alloc)?)?;
+    actions.push(removes_record(alloc, 4_294_967_295)?)?;
+    Ok(actions)
+}
+
+fn of_metadata_rows(alloc: Global) -> Result<Vec<UserAction>, AllocError> {
+    let mut actions = Vec::new(alloc);
+    actions.push(adds_column(alloc)?)?;
+    actions.push(adds_full_table(alloc)?)?;
+    actions.push(adds_table(alloc)?)?;
+    Ok(actions)
 }
 
 // A table of one column more than a table may have.
@@ -161,49 +182,56 @@ fn wide_table(alloc: Global) -> Result<DocAction, AllocError> {
     })
 }
 
-// What the actions come to in a new document after others.
+// What the actions come to in a new document after another action.
 fn ends_after(
     alloc: Global,
-    before: &[DocAction],
+    before: &DocAction,
     actions: &[UserAction],
 ) -> Result<String, AllocError> {
     let mut document = RowTables::new_document(alloc)?;
     new_document_law();
-    for action in before {
-        if apply(alloc, &mut document, action).is_err() {
-            return Err(AllocError);
-        }
+    if !is_done(alloc, &mut document, before) {
+        return Err(AllocError);
     }
     ends(alloc, &document, actions)
 }
 
 #[test]
-fn expands_above_the_limits(rt: HostRuntime) -> Result<(), AllocError> {
+fn brings_nothing_above_the_limits(rt: HostRuntime) -> Result<(), AllocError> {
     let alloc = rt.alloc();
-    let before = [wide_table(alloc)?];
-    let ends = ends_after(alloc, &before, &of_each_kind(alloc)?)?;
-    assert_eq!(rt; ends.as_str(), "1024 1024 1024 1024 1024 1024 0 1024 0 ");
+    let before = wide_table(alloc)?;
+    let actions = of_each_bringing_kind(alloc)?;
+    let ends = ends_after(alloc, &before, &actions)?;
+    assert_eq!(rt; ends.as_str(), "1024 1024 1024 1024 ");
     Ok(())
 }
 
 #[test]
-fn expands_past_the_last_row(rt: HostRuntime) -> Result<(), AllocError> {
+fn takes_away_what_is_above_the_limits(rt: HostRuntime) -> Result<(), AllocError> {
     let alloc = rt.alloc();
-    let last = 4_294_967_295;
-    let before = [add(alloc, "Table1", [1, last], "A", [1, 2])?];
-    let actions = [adds_record(alloc)?, removes_record(alloc, 4_294_967_295)?];
+    let before = wide_table(alloc)?;
+    let actions = of_each_taking_kind(alloc)?;
+    let ends = ends_after(alloc, &before, &actions)?;
+    assert_eq!(rt; ends.as_str(), "1024 0 1024 0 ");
+    Ok(())
+}
+
+#[test]
+fn no_record_comes_behind_the_last_row(rt: HostRuntime) -> Result<(), AllocError> {
+    let alloc = rt.alloc();
+    let before = add(alloc, "Table1", [1, 4_294_967_295], "A", [1, 2])?;
+    let actions = of_records(alloc)?;
     let ends = ends_after(alloc, &before, &actions)?;
     assert_eq!(rt; ends.as_str(), "4294967295 0 ");
-    let before = [add_column(alloc, "Table1", "Z", last)?];
-    let actions = [
-        adds_column(alloc)?,
-        adds_full_table(alloc)?,
-        adds_table(alloc)?,
-    ];
+    Ok(())
+}
+
+#[test]
+fn no_column_comes_behind_the_last_row(rt: HostRuntime) -> Result<(), AllocError> {
+    let alloc = rt.alloc();
+    let before = add_column(alloc, "Table1", "Z", 4_294_967_295)?;
+    let actions = of_metadata_rows(alloc)?;
     let ends = ends_after(alloc, &before, &actions)?;
     assert_eq!(rt; ends.as_str(), "4294967295 4294967295 0 ");
-    let before = [wide_table(alloc)?, add_column(alloc, "Table1", "Z", last)?];
-    let ends = ends_after(alloc, &before, &actions)?;
-    assert_eq!(rt; ends.as_str(), "1024 1024 1024 ");
     Ok(())
 }

@@ -20,8 +20,8 @@ use doc_model::{DocAction, DocActionList, DocTables};
 use row_tables::RowTables;
 use std::alloc::{AllocError, Global};
 
-// Whether the action was done.
-fn is_done(alloc: Global, document: &mut RowTables, action: &DocAction) -> bool
+/// Whether the action was done.
+pub(crate) fn is_done(alloc: Global, document: &mut RowTables, action: &DocAction) -> bool
     requires { IsWhole document.old }
     ensures { IsWhole document.new }
 {

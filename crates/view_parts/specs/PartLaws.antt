@@ -1,6 +1,5 @@
 -- What parts of a view tell.
-use Rattle.std.specs.Prelude.{Bool, true, List, map, ◌≡◌, None}
-use Rattle.std.specs.List.{AllByRecursion}
+use Rattle.std.specs.Prelude.{Bool, true, List, ◌≡◌, None}
 use Rattle.doc_model.specs.declared.action.DocAction.{DocAction}
 use Rattle.doc_model.specs.declared.user_action.UserAction.{UserAction}
 use Rattle.doc_model.specs.declared.view.ViewTable.{ViewTable}

@@ -1,6 +1,5 @@
-use Rattle.std.proofs.Common.{◌≡◌, Bool, true, subst, sym, ap, ◌∙◌}
+use Rattle.std.proofs.Common.{subst, sym, ap, ◌∙◌}
 use Rattle.std.proofs.lemmas.Result.{IfOk-weaker}
-use Rattle.doc_model.specs.Apply.{apply_all}
 use Rattle.doc_model.specs.Changes.{changes}
 use Rattle.doc_model.specs.Document.{Document}
 use Rattle.doc_model.specs.DocumentLaws.{IsWhole}

@@ -1,4 +1,4 @@
-use Rattle.std.proofs.Common.{◌≡◌, ◌+◌, ◌++◌, ◌∷◌, [], ◌≤◌, length, drop, refl, sym, ap, ◌∙◌, arith}
+use Rattle.std.proofs.Common.{◌+◌, [], ◌≤◌, length, drop, refl, ap, ◌∙◌, arith}
 use Rattle.doc_model.specs.Apply.{apply_all}
 use Rattle.bundle_core.specs.Forms.{is_in_form}
 use Rattle.bundle_core.specs.Rulings.{IsAt}

@@ -66,6 +66,3 @@ data_sorted g rows cs vs ws n all same made sorted =
     ∙ sym (map-by_id column_id given_id (λ (d : ColDef). column_of column_id g rows d.id) (λ d. refl) (filter (λ (d : ColDef). not d.info.is_formula) cs))
     ∙ ap (λ ds. map (λ (d : ColDef). column_of column_id g rows d.id) (by_id column_id (filter (λ (d : ColDef). not d.info.is_formula) ds))) same
 
--- one more value beside one more element
-pub map_step : {X Y : Type 0} (f : X → Y) (xs : List X) (i : ℕ) (x : X) (ys zs : List Y) (y : Y) → i < length xs → x ≡ get_or xs i x → ys ≡ map f (take i xs) → zs ≡ ys ++ y ∷ [] → y ≡ f x → zs ≡ map f (take (i + 1) xs)
-map_step f xs i x ys zs y l e h p q = p ∙ ap (λ l. l ++ y ∷ []) h ∙ ap (λ v. map f (take i xs) ++ v ∷ []) (q ∙ ap f e) ∙ sym (map_more f xs i x l)

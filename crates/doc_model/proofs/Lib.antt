@@ -1,4 +1,5 @@
 pub mod Choices
+pub mod Walks
 pub mod ByIdsLaws
 pub mod RowsLaws
 pub mod GridLaws

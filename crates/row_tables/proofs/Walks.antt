@@ -50,10 +50,6 @@ module _ {K V : Type 0} (p : K → Bool) where
   found_at ks vs i k l e is =
       sym (ap (λ qs. found_beside p qs (drop i vs)) (drop_read ks i k l e) ∙ found_here k (drop (i + 1) ks) (drop i vs) is ∙ read-drop i vs)
 
--- one more value beside one more element
-pub map_step : {X Y : Type 0} (f : X → Y) (xs : List X) (i : ℕ) (x : X) (ys zs : List Y) (y : Y) → i < length xs → x ≡ get_or xs i x → ys ≡ map f (take i xs) → zs ≡ ys ++ y ∷ [] → y ≡ f x → zs ≡ map f (take (i + 1) xs)
-map_step f xs i x ys zs y l e h p q = p ∙ ap (λ l. l ++ y ∷ []) h ∙ ap (λ v. map f (take i xs) ++ v ∷ []) (q ∙ ap f e) ∙ sym (map_more f xs i x l)
-
 -- the same of copies
 pub take_step : {X : Type 0} (xs : List X) (i : ℕ) (x : X) (ys zs : List X) (y : X) → i < length xs → x ≡ get_or xs i x → ys ≡ take i xs → zs ≡ ys ++ y ∷ [] → y ≡ x → zs ≡ take (i + 1) xs
 take_step xs i x ys zs y l e h p q = p ∙ ap (λ l. l ++ y ∷ []) h ∙ ap (λ v. take i xs ++ v ∷ []) (q ∙ e) ∙ sym (take_more xs i x l)

@@ -31,10 +31,6 @@ module _ {X Y : Type 0} (f : X → Y) (all : List X) (ys zs : List Y) (n : ℕ) 
       let within : n < length all = slice_get_within all n x at in
       let more : length zs ≡ n + 1 = longer in omega arith
 
--- one more value beside one more element
-pub map_step : {X Y : Type 0} (f : X → Y) (xs : List X) (i : ℕ) (x : X) (ys zs : List Y) (y : Y) → i < length xs → x ≡ get_or xs i x → ys ≡ map f (take i xs) → zs ≡ ys ++ y ∷ [] → y ≡ f x → zs ≡ map f (take (i + 1) xs)
-map_step f xs i x ys zs y l e h p q = p ∙ ap (λ l. l ++ y ∷ []) h ∙ ap (λ v. map f (take i xs) ++ v ∷ []) (q ∙ ap f e) ∙ sym (map_more f xs i x l)
-
 all_taken : {X : Type 0} (all : List X) (n : ℕ) → slice_get all n ≡ None → take n all ≡ all
 all_taken [] zero h = refl
 all_taken [] (suc n) h = refl

@@ -30,5 +30,6 @@ mod values;
 pub use expanding::steps;
 pub use laws::{one_table_law, unopposed_law};
 pub use objection::Objection;
+pub use record_steps::row_ids;
 pub use refusing::{refuse, table_of};
 pub use told::last_row;

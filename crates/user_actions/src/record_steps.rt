@@ -35,8 +35,10 @@ fn new_rows(alloc: Global, last: u32, count: u32) -> Result<Option<RowList>, All
     Ok(Some(RowList::from(rows)))
 }
 
-// The rows that were written.
-fn row_ids(alloc: Global, rows: &[i64]) -> Result<RowList, AllocError>
+/// The rows that were written; a number that is no row id is 0, which no table has.
+///
+/// Errors: want of memory.
+pub fn row_ids(alloc: Global, rows: &[i64]) -> Result<RowList, AllocError>
     ensures { IfOk result (λ l. l ≡ row_ids rows.now) }
 {
     let mut ids = Vec::with_capacity(alloc, rows.len())?;

@@ -1,13 +1,11 @@
 //! The parts of a view that actions are about.
 
-ghost use Rattle.std.specs.Prelude.{◌≡◌, unwrap_or, IfOk, MatchOption};
+ghost use Rattle.std.specs.Prelude.{◌≡◌, IfOk, MatchOption};
 ghost use Rattle.std.specs.Option.{option_to_list};
 ghost use Rattle.cell_types.specs.NameLength.{HasNameLength};
-ghost use Rattle.cell_types.specs.Reference.{row_number};
 ghost use Rattle.doc_model.specs.Changes.{IsView};
 ghost use Rattle.doc_model.specs.DocumentLaws.{IsWhole};
 ghost use Rattle.user_actions.specs.Kinds.{table_of};
-ghost use Rattle.user_actions.specs.Steps.{row_ids};
 ghost use Rattle.view_parts.specs.Parts.{asked, part, rows_asked};
 ghost use Rattle.view_parts.specs.Shown.{view};
 
@@ -18,6 +16,7 @@ use cell_types::{CellText, Name};
 use doc_model::{DocAction, DocTables, UserAction, View, ViewTable, ViewTableList};
 use doc_readers::{has_table, rows_in};
 use std::alloc::{AllocError, Global};
+use user_actions::{row_ids, table_of};
 
 /// The part of what owners see of a document, or others, that these actions are about: the tables
 /// that they name, with the rows that they are about.
@@ -40,49 +39,12 @@ pub fn touched_view<D: DocTables>(
     })
 }
 
-fn table_of(action: &UserAction) -> &CellText
-    ensures { result.now ≡ table_of action.now }
-{
-    match action {
-        UserAction::Add { table, .. }
-        | UserAction::Update { table, .. }
-        | UserAction::Remove { table, .. }
-        | UserAction::AddTable { table, .. }
-        | UserAction::RemoveTable { table }
-        | UserAction::RenameTable { table, .. }
-        | UserAction::AddColumn { table, .. }
-        | UserAction::RemoveColumn { table, .. }
-        | UserAction::RenameColumn { table, .. }
-        | UserAction::ModifyColumn { table, .. } => table,
-    }
-}
-
 // The id of the table that the action names; a text that is no name is no table's id.
 fn asked_id(alloc: Global, action: &UserAction) -> Result<Option<Name>, AllocError>
     ensures { IfOk result (λ o. MatchOption o (HasNameLength (table_of action.now) → ⊥) (λ n. n ≡ table_of action.now)) }
 {
-    let text = CellText::copy_of(alloc, table_of(action).as_str())?;
+    let text = CellText::copy_of(alloc, table_of(action))?;
     Ok(Name::try_new(text))
-}
-
-fn row_id(number: i64) -> u32
-    ensures { result ≡ unwrap_or (row_number number) 0 }
-{
-    match u32::try_from(number) {
-        Ok(row) => row,
-        Err(_) => 0,
-    }
-}
-
-// The rows that were written; a number that is no row id is 0, which no table has.
-fn row_ids(alloc: Global, numbers: &[i64]) -> Result<Vec<u32>, AllocError>
-    ensures { IfOk result (λ l. l.items ≡ row_ids numbers.now) }
-{
-    let mut ids = Vec::with_capacity(alloc, numbers.len())?;
-    for number in numbers {
-        ids.push(row_id(*number))?;
-    }
-    Ok(ids)
 }
 
 // The rows that a user action names.
@@ -91,7 +53,7 @@ fn rows_asked(alloc: Global, action: &UserAction) -> Result<Vec<u32>, AllocError
 {
     match action {
         UserAction::Update { rows, .. } | UserAction::Remove { rows, .. } => {
-            row_ids(alloc, rows.as_slice())
+            Ok(row_ids(alloc, rows.as_slice())?.into_vec())
         }
         _ => Ok(Vec::new(alloc)),
     }

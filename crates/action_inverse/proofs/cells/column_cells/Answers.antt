@@ -3,7 +3,7 @@ use Rattle.std.proofs.lemmas.List.{get_or_default}
 use Rattle.doc_model.specs.Column.{column_id}
 use Rattle.doc_model.specs.Grid.{cell}
 use Rattle.action_inverse.specs.Parts.{grid_at}
-use Rattle.action_inverse.proofs.OrderLemmas.{map_step}
+use Rattle.doc_model.proofs.Walks.{map_step}
 use Rattle.action_inverse.proofs.cells.column_cells.Goals as goal
 
 pub loop-row-preserved : goal.loop-row-preserved

@@ -3,7 +3,8 @@ use Rattle.doc_model.specs.declared.column.CellColumn.{CellColumn}
 use Rattle.doc_model.specs.Column.{column_id}
 use Rattle.doc_model.specs.Records.{column_of}
 use Rattle.action_inverse.specs.Parts.{grid_at}
-use Rattle.action_inverse.proofs.OrderLemmas.{map_step, old_sorted}
+use Rattle.doc_model.proofs.Walks.{map_step}
+use Rattle.action_inverse.proofs.OrderLemmas.{old_sorted}
 use Rattle.action_inverse.proofs.cells.old_columns.Goals as goal
 
 pub loop-column-preserved : goal.loop-column-preserved

@@ -6,7 +6,7 @@ use Rattle.doc_model.specs.Records.{given}
 use Rattle.row_tables.specs.RowPlaces.{given_at}
 use Rattle.row_tables.proofs.AddedLaws.{map_same}
 use Rattle.row_tables.proofs.Latest.{given_place}
-use Rattle.row_tables.proofs.Walks.{map_step}
+use Rattle.doc_model.proofs.Walks.{map_step}
 use Rattle.row_tables.proofs.added.cells_of_new.Goals as goal
 
 pub loop-place-preserved : goal.loop-place-preserved

@@ -2,7 +2,7 @@ use Rattle.std.proofs.Common.{unwrap_or}
 use Rattle.doc_model.specs.declared.column.ColDef.{ColDef}
 use Rattle.doc_model.specs.Column.{start_of}
 use Rattle.row_tables.specs.RowPlaces.{given_at}
-use Rattle.row_tables.proofs.Walks.{map_step}
+use Rattle.doc_model.proofs.Walks.{map_step}
 use Rattle.row_tables.proofs.added.new_cells.Goals as goal
 
 pub loop-column-preserved : goal.loop-column-preserved

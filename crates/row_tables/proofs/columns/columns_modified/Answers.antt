@@ -2,7 +2,7 @@ use Rattle.std.proofs.Common.{cond}
 use Rattle.std.specs.Str.{bytes_eq}
 use Rattle.doc_model.specs.Apply.{with_info}
 use Rattle.doc_model.specs.Column.{column_id}
-use Rattle.row_tables.proofs.Walks.{map_step}
+use Rattle.doc_model.proofs.Walks.{map_step}
 use Rattle.row_tables.proofs.columns.columns_modified.Goals as goal
 
 pub loop-column-preserved : goal.loop-column-preserved

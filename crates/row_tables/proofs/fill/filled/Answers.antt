@@ -1,6 +1,6 @@
 use Rattle.std.proofs.Common.{ℕ, get_or, map}
 use Rattle.std.proofs.lemmas.List.{get_or_default}
-use Rattle.row_tables.proofs.Walks.{map_step}
+use Rattle.doc_model.proofs.Walks.{map_step}
 use Rattle.row_tables.proofs.fill.filled.Goals as goal
 
 pub loop-row-preserved : goal.loop-row-preserved

@@ -1,4 +1,4 @@
-use Rattle.row_tables.proofs.Walks.{map_step}
+use Rattle.doc_model.proofs.Walks.{map_step}
 use Rattle.row_tables.proofs.fill.filled_row.Goals as goal
 
 pub loop-column-preserved : goal.loop-column-preserved

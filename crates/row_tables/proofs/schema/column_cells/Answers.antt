@@ -1,5 +1,5 @@
 use Rattle.doc_model.specs.Schema.{describe}
-use Rattle.row_tables.proofs.Walks.{map_step}
+use Rattle.doc_model.proofs.Walks.{map_step}
 use Rattle.row_tables.proofs.schema.column_cells.Goals as goal
 
 pub loop-told-preserved : goal.loop-told-preserved

@@ -1,7 +1,7 @@
 use Rattle.std.proofs.Common.{[], ◌∷◌, ap, ◌∙◌}
 use Rattle.cell_types.specs.declared.value.CellValue.TheVariants.{Text}
 use Rattle.doc_model.specs.Document.{Table}
-use Rattle.row_tables.proofs.Walks.{map_step}
+use Rattle.doc_model.proofs.Walks.{map_step}
 use Rattle.row_tables.proofs.schema.table_cells.Goals as goal
 
 pub loop-table-preserved : goal.loop-table-preserved

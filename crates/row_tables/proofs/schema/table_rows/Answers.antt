@@ -1,5 +1,5 @@
 use Rattle.doc_model.specs.Document.{table_row}
-use Rattle.row_tables.proofs.Walks.{map_step}
+use Rattle.doc_model.proofs.Walks.{map_step}
 use Rattle.row_tables.proofs.schema.table_rows.Goals as goal
 
 pub loop-table-preserved : goal.loop-table-preserved

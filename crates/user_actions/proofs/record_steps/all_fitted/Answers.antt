@@ -1,7 +1,7 @@
 use Rattle.std.proofs.Common.{rules}
 use Rattle.doc_readers.specs.Parts.{grid_at}
 use Rattle.user_actions.specs.Steps.{fitted}
-use Rattle.user_actions.proofs.WalkLemmas.{map_step}
+use Rattle.doc_model.proofs.Walks.{map_step}
 use Rattle.user_actions.proofs.record_steps.all_fitted.Goals as goal
 
 pub loop-column-preserved : goal.loop-column-preserved

@@ -4,6 +4,7 @@
 //! `keeps_the_limits` its bounds. `reads_rules` shows what the other dialect has and leaves out;
 //! `faults_tell_their_place` has the messages.
 
+use crate::texts::is_text;
 use formula_parse::{
     Dialect, Formula, LookupKey, LookupKind, Node, ParseFault, RuleAtom, parse, read_tree,
 };
@@ -123,19 +124,20 @@ fn shape(alloc: Global, formula: &Formula) -> Result<String, AllocError> {
 }
 
 fn has_shape(alloc: Global, formula: &Formula, want: &str) -> bool {
-    let Ok(shape) = shape(alloc, formula) else {
-        return false;
-    };
-    shape.as_str() == want
+    is_text(&shape(alloc, formula), want)
 }
 
-// Whether a text has this shape; `-` is that of no formula.
-fn is_parsed(alloc: Global, text: &str, want: &str) -> bool {
-    match &parse(alloc, text) {
+// Whether what was read has this shape; `-` is that of no formula.
+fn is_shape(alloc: Global, read: &Result<Formula, ParseFault>, want: &str) -> bool {
+    match read {
         Ok(formula) => has_shape(alloc, formula, want),
         Err(ParseFault::Syntax { at: _ }) => want == "-",
         Err(ParseFault::NoMemory) => false,
     }
+}
+
+fn is_parsed(alloc: Global, text: &str, want: &str) -> bool {
+    is_shape(alloc, &parse(alloc, text), want)
 }
 
 // Texts, and their shapes.
@@ -350,14 +352,18 @@ fn keeps_the_limits(rt: HostRuntime) {
     }
 }
 
-// Whether a text has this shape as a rule; `-` is that of no rule, and an empty text has none.
-fn is_rule(alloc: Global, text: &str, want: &str) -> bool {
-    match &read_tree(alloc, Dialect::Rule, text) {
+// Whether what was read has this shape; `-` is that of no rule, and an empty text has none.
+fn is_rule_shape(alloc: Global, read: &Result<Option<Formula>, ParseFault>, want: &str) -> bool {
+    match read {
         Ok(Some(tree)) => has_shape(alloc, tree, want),
         Ok(None) => want == "",
         Err(ParseFault::Syntax { at: _ }) => want == "-",
         Err(ParseFault::NoMemory) => false,
     }
+}
+
+fn is_rule(alloc: Global, text: &str, want: &str) -> bool {
+    is_rule_shape(alloc, &read_tree(alloc, Dialect::Rule, text), want)
 }
 
 // Texts of rules, and their shapes.
@@ -401,10 +407,7 @@ static MESSAGES: [(ParseFault, &str); 2] = [
 ];
 
 fn is_told(alloc: Global, fault: ParseFault, want: &str) -> bool {
-    let Ok(message) = format!(in alloc; "{fault}") else {
-        return false;
-    };
-    message.as_str() == want
+    is_text(&format!(in alloc; "{fault}"), want)
 }
 
 #[test]

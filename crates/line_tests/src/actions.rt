@@ -2,8 +2,9 @@
 //! (`spelled_values`), and JSON that stands for none (`no_actions`). What is expected is written out by hand
 //! from the protocol, a row a line, as `Debug` shows it; `-` stands for no actions.
 
+use crate::texts::is_text;
 use action_lines::*;
-use doc_model::UserAction;
+use doc_model::{UserAction, UserActionList};
 use serde_json::Value;
 use std::alloc::{AllocError, Global};
 
@@ -103,14 +104,11 @@ true => [Bool(true)]
 {"A":1.5} => -"#;
 
 fn are_shown(alloc: Global, actions: &[UserAction], want: &str) -> bool {
-    let Ok(text) = format!(in alloc; "{actions:?}") else {
-        return false;
-    };
-    text.as_str() == want
+    is_text(&format!(in alloc; "{actions:?}"), want)
 }
 
-fn are_read(alloc: Global, value: &Value, want: &str) -> bool {
-    match &read_actions(alloc, value) {
+fn are_read(alloc: Global, read: &Result<Option<UserActionList>, AllocError>, want: &str) -> bool {
+    match read {
         Ok(Some(actions)) => are_shown(alloc, actions.as_slice(), want),
         Ok(None) => want == "-",
         Err(_) => false,
@@ -121,7 +119,7 @@ fn are_spelled(alloc: Global, text: &str, want: &str) -> bool {
     let Ok(value) = Value::from_str(alloc, text) else {
         return false;
     };
-    are_read(alloc, &value, want)
+    are_read(alloc, &read_actions(alloc, &value), want)
 }
 
 // Whether the list of this action spells what is wanted.

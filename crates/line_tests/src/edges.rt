@@ -2,6 +2,7 @@
 //! sources and sinks (`fails_at_listed_calls`, `sink_keeps_its_room`), the buffer in front of a sink
 //! (`outbox_gathers`, `outbox_hands_on_faults`), the edge over readers and writers of std (`std_streams`).
 
+use crate::texts::is_text;
 use io_edges::*;
 use std::alloc::{AllocError, Global};
 
@@ -69,10 +70,7 @@ fn are_lines<S: Source>(
     source: &mut S,
     want: &str,
 ) -> bool {
-    let Ok(lines) = marked_lines(alloc, reader, source) else {
-        return false;
-    };
-    lines.as_str() == want
+    is_text(&marked_lines(alloc, reader, source), want)
 }
 
 fn gives<S: Source>(alloc: Global, source: &mut S, want: &str) -> bool {

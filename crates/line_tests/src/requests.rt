@@ -3,6 +3,7 @@
 //! `printed_frame`). The expected texts are those of the stored cases and of the protocol, a row a line;
 //! what is read is shown as `Debug` shows it.
 
+use crate::texts::{is_line, is_text};
 use cell_types::*;
 use doc_model::*;
 use grist_json::*;
@@ -66,10 +67,7 @@ nonsense => -
 {"line":{"method":"sync"},"session":"s1"} => -"#;
 
 fn is_shown(alloc: Global, request: &Request, want: &str) -> bool {
-    let Ok(text) = format!(in alloc; "{request:?}") else {
-        return false;
-    };
-    text.as_str() == want
+    is_text(&format!(in alloc; "{request:?}"), want)
 }
 
 fn is_request(alloc: Global, line: &str, want: &str) -> bool {
@@ -93,9 +91,15 @@ fn spelled_requests(rt: HostRuntime) {
     }
 }
 
+fn is_bad_line(read: &Result<Request, ReadFault>) -> bool {
+    match read {
+        Err(ReadFault::BadLine) => true,
+        _ => false,
+    }
+}
+
 fn is_bad(alloc: Global, line: &str) -> bool {
-    let read = read_request(alloc, line.as_bytes());
-    matches!(&read, Err(ReadFault::BadLine))
+    is_bad_line(&read_request(alloc, line.as_bytes()))
 }
 
 #[test]
@@ -107,19 +111,23 @@ fn lines_that_spell_none(rt: HostRuntime) {
 
 // Whether these are the session and the request.
 fn is_shown_frame(alloc: Global, frame: &Frame, want: &str) -> bool {
-    let Ok(text) = format!(in alloc; "{} {:?}", frame.session.as_str(), frame.request) else {
-        return false;
-    };
-    text.as_str() == want
+    is_text(
+        &format!(in alloc; "{} {:?}", frame.session.as_str(), frame.request),
+        want,
+    )
 }
 
-// Whether bytes spell this frame; `-` where they spell none.
-fn is_frame(alloc: Global, line: &[u8], want: &str) -> bool {
-    match &read_frame(alloc, line) {
+// Whether this frame was read; `-` where none was.
+fn is_read_frame(alloc: Global, read: &Result<Option<Frame>, AllocError>, want: &str) -> bool {
+    match read {
         Ok(Some(frame)) => is_shown_frame(alloc, frame, want),
         Ok(None) => want == "-",
         Err(_) => false,
     }
+}
+
+fn is_frame(alloc: Global, line: &[u8], want: &str) -> bool {
+    is_read_frame(alloc, &read_frame(alloc, line), want)
 }
 
 fn is_frame_row(alloc: Global, row: &str) -> bool {
@@ -140,20 +148,24 @@ fn spelled_frames(rt: HostRuntime) {
 
 fn is_shown_user(alloc: Global, user: &User, want: &str) -> bool {
     let (name, email, token) = (user.name.as_str(), user.email.as_str(), user.token.as_str());
-    let Ok(text) = format!(in alloc; "{name} {email} {} {token}", user.id) else {
-        return false;
-    };
-    text.as_str() == want
+    is_text(
+        &format!(in alloc; "{name} {email} {} {token}", user.id),
+        want,
+    )
 }
 
-// Whether a line says this of a user, in short.
-fn is_user(alloc: Global, line: &str, want: &str) -> bool {
-    match &read_user(alloc, line.as_bytes()) {
+// Whether this was read of a user, in short.
+fn is_read_user(alloc: Global, read: &Result<UserLine, AllocError>, want: &str) -> bool {
+    match read {
         Ok(UserLine::User(user)) => is_shown_user(alloc, user, want),
         Ok(UserLine::Bad) => want == "bad",
         Ok(UserLine::Other) => want == "-",
         Err(_) => false,
     }
+}
+
+fn is_user(alloc: Global, line: &str, want: &str) -> bool {
+    is_read_user(alloc, &read_user(alloc, line.as_bytes()), want)
 }
 
 fn is_user_row(alloc: Global, row: &str) -> bool {
@@ -261,28 +273,38 @@ fn added_table(alloc: Global) -> Result<ViewAction, AllocError> {
     Ok(ViewAction::AddTable { table, columns })
 }
 
-fn single(alloc: Global, change: ViewAction) -> Result<ViewActionList, AllocError> {
+// A change that is sent.
+#[derive(Clone, Copy)]
+enum Sent {
+    Rows,
+    Column,
+    Table,
+}
+
+fn change_of(alloc: Global, sent: Sent) -> Result<ViewAction, AllocError> {
+    match sent {
+        Sent::Rows => added_rows(alloc),
+        Sent::Column => added_column(alloc),
+        Sent::Table => added_table(alloc),
+    }
+}
+
+// The change alone.
+fn changes_of(alloc: Global, sent: Sent) -> Result<ViewActionList, AllocError> {
     let mut changes = ViewActionList::new(alloc);
-    changes.push(change)?;
+    changes.push(change_of(alloc, sent)?)?;
     Ok(changes)
 }
 
-fn are_printed(alloc: Global, changes: &ViewActionList, want: &str) -> bool {
-    let Ok(line) = write_stream(alloc, 7, changes) else {
-        return false;
-    };
-    line.as_str() == want
+fn are_printed(alloc: Global, changes: &Result<ViewActionList, AllocError>, want: &str) -> bool {
+    match changes {
+        Ok(changes) => is_line(&write_stream(alloc, 7, changes), want),
+        Err(_) => false,
+    }
 }
 
-// Whether a message with this change alone is printed so.
-fn is_sent(alloc: Global, change: Result<ViewAction, AllocError>, want: &str) -> bool {
-    let Ok(change) = change else {
-        return false;
-    };
-    let Ok(changes) = single(alloc, change) else {
-        return false;
-    };
-    are_printed(alloc, &changes, want)
+fn is_sent(alloc: Global, sent: Sent, want: &str) -> bool {
+    are_printed(alloc, &changes_of(alloc, sent), want)
 }
 
 const SENT_ROWS: &str =
@@ -295,13 +317,13 @@ const SENT_TABLE: &str = r#"{"actions":[["AddTable","T",[]]],"seq":7}"#;
 
 #[test]
 fn printed_values(rt: HostRuntime) {
-    assert!(rt; is_sent(rt.alloc(), added_rows(rt.alloc()), SENT_ROWS));
+    assert!(rt; is_sent(rt.alloc(), Sent::Rows, SENT_ROWS));
 }
 
 #[test]
 fn printed_columns(rt: HostRuntime) {
-    assert!(rt; is_sent(rt.alloc(), added_column(rt.alloc()), SENT_COLUMN));
-    assert!(rt; is_sent(rt.alloc(), added_table(rt.alloc()), SENT_TABLE));
+    assert!(rt; is_sent(rt.alloc(), Sent::Column, SENT_COLUMN));
+    assert!(rt; is_sent(rt.alloc(), Sent::Table, SENT_TABLE));
 }
 
 #[derive(Clone, Copy)]
@@ -314,12 +336,24 @@ enum Reply {
     Denied,
 }
 
+fn ret_ids(alloc: Global) -> Result<RetValue, AllocError> {
+    let ids = vec![in alloc; Some(1u32), None]?;
+    Ok(RetValue::Ids(RetIdList::from(ids)))
+}
+
+fn ret_value_at(alloc: Global, place: usize) -> Result<RetValue, AllocError> {
+    match place {
+        0 => Ok(RetValue::Null),
+        1 => ret_ids(alloc),
+        _ => Ok(RetValue::Name(name_of(alloc, "T2")?)),
+    }
+}
+
 fn bundle_values(alloc: Global) -> Result<RetValueList, AllocError> {
     let mut values = RetValueList::new(alloc);
-    let ids = RetIdList::from(vec![in alloc; Some(1u32), None]?);
-    values.push(RetValue::Null)?;
-    values.push(RetValue::Ids(ids))?;
-    values.push(RetValue::Name(name_of(alloc, "T2")?))?;
+    for place in 0..3 {
+        values.push(ret_value_at(alloc, place)?)?;
+    }
     Ok(values)
 }
 
@@ -350,18 +384,15 @@ fn verdict_of(alloc: Global, reply: Reply) -> Result<Verdict, AllocError> {
     }
 }
 
-fn is_printed(alloc: Global, verdict: &Verdict, want: &str) -> bool {
-    let Ok(line) = write_reply(alloc, verdict) else {
-        return false;
-    };
-    line.as_str() == want
+fn is_printed(alloc: Global, verdict: &Result<Verdict, AllocError>, want: &str) -> bool {
+    match verdict {
+        Ok(verdict) => is_line(&write_reply(alloc, verdict), want),
+        Err(_) => false,
+    }
 }
 
 fn is_reply(alloc: Global, reply: Reply, want: &str) -> bool {
-    let Ok(verdict) = verdict_of(alloc, reply) else {
-        return false;
-    };
-    is_printed(alloc, &verdict, want)
+    is_printed(alloc, &verdict_of(alloc, reply), want)
 }
 
 static REPLIES: [(Reply, &str); 3] = [
@@ -406,25 +437,28 @@ fn printed_refusals(rt: HostRuntime) {
     }
 }
 
-fn is_framed(alloc: Global, session: &Name, line: &Line, want: &str) -> bool {
-    let Ok(frame) = write_frame(alloc, session, line) else {
+fn is_framed(
+    alloc: Global,
+    session: &Result<Name, AllocError>,
+    line: &Result<Line, AllocError>,
+    want: &str,
+) -> bool {
+    let Ok(session) = session else {
         return false;
     };
-    frame.as_str() == want
-}
-
-fn is_done_framed(alloc: Global, session: &Name, want: &str) -> bool {
-    let Ok(line) = write_reply(alloc, &Verdict::Done) else {
+    let Ok(line) = line else {
         return false;
     };
-    is_framed(alloc, session, &line, want)
+    is_line(&write_frame(alloc, session, line), want)
 }
 
 fn frames_done(alloc: Global, session: &str, want: &str) -> bool {
-    let Ok(session) = name_of(alloc, session) else {
-        return false;
-    };
-    is_done_framed(alloc, &session, want)
+    is_framed(
+        alloc,
+        &name_of(alloc, session),
+        &write_reply(alloc, &Verdict::Done),
+        want,
+    )
 }
 
 #[test]

@@ -2,6 +2,7 @@
 //! `reads_tokens` shows kinds, values and places; `refuses_texts` shows where reading ends;
 //! `faults_tell_their_place` has the messages.
 
+use crate::texts::is_text;
 use formula_lex::{LexFault, Token, TokenKind, tokens};
 use std::alloc::{AllocError, Global};
 
@@ -33,10 +34,7 @@ fn show_all(alloc: Global, list: &[Token]) -> Result<String, AllocError> {
 }
 
 fn are_shown(alloc: Global, list: &[Token], want: &str) -> bool {
-    let Ok(out) = show_all(alloc, list) else {
-        return false;
-    };
-    out.as_str() == want
+    is_text(&show_all(alloc, list), want)
 }
 
 fn are_read(alloc: Global, text: &str, want: &str) -> bool {
@@ -123,10 +121,7 @@ static MESSAGES: [(LexFault, &str); 2] = [
 ];
 
 fn is_told(alloc: Global, fault: LexFault, want: &str) -> bool {
-    let Ok(message) = format!(in alloc; "{fault}") else {
-        return false;
-    };
-    message.as_str() == want
+    is_text(&format!(in alloc; "{fault}"), want)
 }
 
 #[test]

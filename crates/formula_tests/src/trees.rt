@@ -4,40 +4,73 @@
 //! `keeps_the_limits` its bounds. `reads_rules` shows what the other dialect has and leaves out;
 //! `faults_tell_their_place` has the messages.
 
-use formula_parse::{Dialect, Formula, LookupKey, Node, ParseFault, RuleAtom, parse, read_tree};
+use crate::texts::is_text;
+use formula_parse::{
+    Dialect, Formula, LookupKey, LookupKind, Node, ParseFault, RuleAtom, parse, read_tree,
+};
 use std::alloc::{AllocError, Global};
 
-fn push_atom(out: &mut String, atom: &RuleAtom) -> Result<(), AllocError> {
+// What an atom is, without its names.
+fn atom_word(atom: &RuleAtom) -> &'static str {
     match atom {
-        RuleAtom::Owner => write!(out, "Owner"),
-        RuleAtom::Editor => write!(out, "Editor"),
-        RuleAtom::Viewer => write!(out, "Viewer"),
-        RuleAtom::User(name) => write!(out, "User:{}", name.as_str()),
-        RuleAtom::UserAttribute(first, name) => {
-            write!(out, "User:{}:{}", first.as_str(), name.as_str())
+        RuleAtom::Owner => "Owner",
+        RuleAtom::Editor => "Editor",
+        RuleAtom::Viewer => "Viewer",
+        RuleAtom::User(_) | RuleAtom::UserAttribute(_, _) => "User:",
+        RuleAtom::Rec(_) => "Rec:",
+        RuleAtom::NewRec(_) => "NewRec:",
+    }
+}
+
+fn push_atom(out: &mut String, atom: &RuleAtom) -> Result<(), AllocError> {
+    out.push_str(atom_word(atom))?;
+    match atom {
+        RuleAtom::User(name) | RuleAtom::Rec(name) | RuleAtom::NewRec(name) => {
+            out.push_str(name.as_str())
         }
-        RuleAtom::Rec(name) => write!(out, "Rec:{}", name.as_str()),
-        RuleAtom::NewRec(name) => write!(out, "NewRec:{}", name.as_str()),
+        RuleAtom::UserAttribute(first, name) => {
+            write!(out, "{}:{}", first.as_str(), name.as_str())
+        }
+        _ => Ok(()),
+    }
+}
+
+fn lookup_word(kind: &LookupKind) -> &'static str {
+    match kind {
+        LookupKind::Records => "Records:",
+        LookupKind::One => "One:",
+    }
+}
+
+// What stands at the root, without its name or sign.
+fn word(node: &Node) -> &'static str {
+    match node {
+        Node::Number(_) => "Number",
+        Node::Text(_) => "Text",
+        Node::Dollar(_) => "$",
+        Node::Conditional(_, _, _) => "Conditional",
+        Node::Parentheses(_) => "Parentheses",
+        Node::List(_) => "List",
+        Node::Call(_, _) => "Call",
+        Node::Attribute(_, _) => "Attribute",
+        Node::All(_) => "All:",
+        Node::Lookup(kind, _, _) => lookup_word(kind),
+        _ => "",
     }
 }
 
 // Adds what stands at the root.
 fn push_root(out: &mut String, formula: &Formula) -> Result<(), AllocError> {
+    out.push_str(word(formula.node()))?;
     match formula.node() {
-        Node::Number(_) => write!(out, "Number"),
-        Node::Text(_) => write!(out, "Text"),
+        Node::Dollar(name) | Node::All(name) | Node::Lookup(_, name, _) => {
+            out.push_str(name.as_str())
+        }
         Node::Constant(constant) => write!(out, "{constant:?}"),
-        Node::Dollar(name) => write!(out, "${}", name.as_str()),
         Node::Binary(op, _, _) => write!(out, "{op:?}"),
         Node::Prefix(op, _) => write!(out, "{op:?}"),
-        Node::Conditional(_, _, _) => write!(out, "Conditional"),
-        Node::Parentheses(_) => write!(out, "Parentheses"),
-        Node::List(_) => write!(out, "List"),
-        Node::Call(_, _) => write!(out, "Call"),
-        Node::Attribute(_, _) => write!(out, "Attribute"),
-        Node::All(table) => write!(out, "All:{}", table.as_str()),
-        Node::Lookup(kind, table, _) => write!(out, "{kind:?}:{}", table.as_str()),
         Node::Rule(atom) => push_atom(out, atom),
+        _ => Ok(()),
     }
 }
 
@@ -91,17 +124,20 @@ fn shape(alloc: Global, formula: &Formula) -> Result<String, AllocError> {
 }
 
 fn has_shape(alloc: Global, formula: &Formula, want: &str) -> bool {
-    let Ok(shape) = shape(alloc, formula) else {
-        return false;
-    };
-    shape.as_str() == want
+    is_text(&shape(alloc, formula), want)
+}
+
+// Whether what was read has this shape; `-` is that of no formula.
+fn is_shape(alloc: Global, read: &Result<Formula, ParseFault>, want: &str) -> bool {
+    match read {
+        Ok(formula) => has_shape(alloc, formula, want),
+        Err(ParseFault::Syntax { at: _ }) => want == "-",
+        Err(ParseFault::NoMemory) => false,
+    }
 }
 
 fn is_parsed(alloc: Global, text: &str, want: &str) -> bool {
-    let Ok(formula) = parse(alloc, text) else {
-        return false;
-    };
-    has_shape(alloc, &formula, want)
+    is_shape(alloc, &parse(alloc, text), want)
 }
 
 // Texts, and their shapes.
@@ -263,14 +299,10 @@ static REFUSED: [&str; 68] = [
     "1 2 3 'a",
 ];
 
-fn is_refused(alloc: Global, text: &str) -> bool {
-    matches!(&parse(alloc, text), Err(ParseFault::Syntax { at: _ }))
-}
-
 #[test]
 fn refuses_texts(rt: HostRuntime) {
     for text in &REFUSED {
-        assert!(rt; is_refused(rt.alloc(), text), "at {text}");
+        assert!(rt; is_parsed(rt.alloc(), text, "-"), "at {text}");
     }
 }
 
@@ -320,49 +352,45 @@ fn keeps_the_limits(rt: HostRuntime) {
     }
 }
 
-fn is_rule(alloc: Global, text: &str, want: &str) -> bool {
-    match &read_tree(alloc, Dialect::Rule, text) {
+// Whether what was read has this shape; `-` is that of no rule, and an empty text has none.
+fn is_rule_shape(alloc: Global, read: &Result<Option<Formula>, ParseFault>, want: &str) -> bool {
+    match read {
         Ok(Some(tree)) => has_shape(alloc, tree, want),
-        _ => false,
+        Ok(None) => want == "",
+        Err(ParseFault::Syntax { at: _ }) => want == "-",
+        Err(ParseFault::NoMemory) => false,
     }
 }
 
-fn is_no_rule(alloc: Global, text: &str) -> bool {
-    let read = read_tree(alloc, Dialect::Rule, text);
-    matches!(&read, Err(ParseFault::Syntax { at: _ }))
-}
-
-fn is_empty_rule(alloc: Global, text: &str) -> bool {
-    matches!(&read_tree(alloc, Dialect::Rule, text), Ok(None))
+fn is_rule(alloc: Global, text: &str, want: &str) -> bool {
+    is_rule_shape(alloc, &read_tree(alloc, Dialect::Rule, text), want)
 }
 
 // Texts of rules, and their shapes.
-static RULES: [(&str, &str); 6] = [
+static RULES: [(&str, &str); 23] = [
     ("1 in [2, 'a'] and not (3 % 2 == 0)", "And In Not"),
     ("user.Access == OWNER", "Equal User:Access Owner"),
     ("user.Office.id not in [1, 2]", "NotIn User:Office:id List"),
     ("rec.A != newRec.A", "NotEqual Rec:A NewRec:A"),
     ("EDITOR or VIEWER", "Or Editor Viewer"),
     ("(rec.id)", "Parentheses Rec:id"),
-];
-
-static NO_RULES: [&str; 16] = [
-    "1 // 2",
-    "1 if 2 else 3",
-    "$A",
-    "rec",
-    "len('a')",
-    "(1).id",
-    "P.all",
-    "user",
-    "user.",
-    "user.A.B.C",
-    "rec.A.B",
-    "newRec",
-    "OWNER.A",
-    "owner",
-    "user.if",
-    "newRec.A()",
+    ("1 // 2", "-"),
+    ("1 if 2 else 3", "-"),
+    ("$A", "-"),
+    ("rec", "-"),
+    ("len('a')", "-"),
+    ("(1).id", "-"),
+    ("P.all", "-"),
+    ("user", "-"),
+    ("user.", "-"),
+    ("user.A.B.C", "-"),
+    ("rec.A.B", "-"),
+    ("newRec", "-"),
+    ("OWNER.A", "-"),
+    ("owner", "-"),
+    ("user.if", "-"),
+    ("newRec.A()", "-"),
+    (" ", ""),
 ];
 
 #[test]
@@ -370,10 +398,6 @@ fn reads_rules(rt: HostRuntime) {
     for row in &RULES {
         assert!(rt; is_rule(rt.alloc(), row.0, row.1), "at {}", row.0);
     }
-    for text in &NO_RULES {
-        assert!(rt; is_no_rule(rt.alloc(), text), "at {text}");
-    }
-    assert!(rt; is_empty_rule(rt.alloc(), " "));
 }
 
 // Faults, and what they tell.
@@ -383,10 +407,7 @@ static MESSAGES: [(ParseFault, &str); 2] = [
 ];
 
 fn is_told(alloc: Global, fault: ParseFault, want: &str) -> bool {
-    let Ok(message) = format!(in alloc; "{fault}") else {
-        return false;
-    };
-    message.as_str() == want
+    is_text(&format!(in alloc; "{fault}"), want)
 }
 
 #[test]

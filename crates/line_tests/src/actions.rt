@@ -1,11 +1,12 @@
 //! Plan: the action that JSON stands for, in each form (`spelled_actions`), the values in one
 //! (`spelled_values`), and JSON that stands for none (`no_actions`). What is expected is written out by hand
-//! from the protocol, a row a line.
+//! from the protocol, a row a line, as `Debug` shows it; `-` stands for no actions.
 
+use crate::texts::is_text;
 use action_lines::*;
-use doc_model::UserAction;
+use doc_model::{UserAction, UserActionList};
 use serde_json::Value;
-use std::test::Fail;
+use std::alloc::{AllocError, Global};
 
 const ACTIONS: &str =
     r#"["AddRecord","T",null,{}] => [Add { table: CellText { text: "T" }, single: true, count: 1, explicit: false, columns: Sequence { items: [] } }]
@@ -102,59 +103,93 @@ true => [Bool(true)]
 {} => -
 {"A":1.5} => -"#;
 
-// The actions of a list of this one, as `Debug` shows them; `-` where it is none.
-fn shown(rt: &HostRuntime, action: &str) -> Result<String, Fail> {
-    let text = format!(in rt.alloc(); "[{action}]")?;
-    let value = Value::from_str(rt.alloc(), text.as_str())?;
-    match read_actions(rt.alloc(), &value)? {
-        Some(actions) => Ok(format!(in rt.alloc(); "{:?}", actions.as_slice())?),
-        None => Ok(String::from_str(rt.alloc(), "-")?),
+fn are_shown(alloc: Global, actions: &[UserAction], want: &str) -> bool {
+    is_text(&format!(in alloc; "{actions:?}"), want)
+}
+
+fn are_read(alloc: Global, read: &Result<Option<UserActionList>, AllocError>, want: &str) -> bool {
+    match read {
+        Ok(Some(actions)) => are_shown(alloc, actions.as_slice(), want),
+        Ok(None) => want == "-",
+        Err(_) => false,
     }
 }
 
-#[test]
-fn spelled_actions(rt: HostRuntime) -> Result<(), Fail> {
-    for row in ACTIONS.lines() {
-        let (action, wanted) = row.split_once(" => ").ok_or("no row")?;
-        let text = shown(&rt, action)?;
-        assert!(rt; text.as_str() == wanted, "{action} gave {text}");
-    }
-    Ok(())
-}
-
-#[test]
-fn no_actions(rt: HostRuntime) -> Result<(), Fail> {
-    for action in NO_ACTIONS.lines() {
-        let text = shown(&rt, action)?;
-        assert!(rt; text.as_str() == "-", "{action} gave {text}");
-    }
-    Ok(())
-}
-
-// The values of an action with this one, as `Debug` shows them; `-` where it is none.
-fn shown_value(rt: &HostRuntime, value: &str) -> Result<String, Fail> {
-    let text = format!(in rt.alloc(); "[[\"UpdateRecord\",\"T\",1,{{\"A\":{value}}}]]")?;
-    let value = Value::from_str(rt.alloc(), text.as_str())?;
-    let Some(actions) = read_actions(rt.alloc(), &value)? else {
-        return Ok(String::from_str(rt.alloc(), "-")?);
+fn are_spelled(alloc: Global, text: &str, want: &str) -> bool {
+    let Ok(value) = Value::from_str(alloc, text) else {
+        return false;
     };
-    let mut text = String::new(rt.alloc());
-    for action in actions.as_slice() {
-        if let UserAction::Update { columns, .. } = action {
-            for column in columns.as_slice() {
-                write!(text, "{:?}", column.values.as_slice())?;
-            }
-        }
-    }
-    Ok(text)
+    are_read(alloc, &read_actions(alloc, &value), want)
+}
+
+// Whether the list of this action spells what is wanted.
+fn is_spelled(alloc: Global, action: &str, want: &str) -> bool {
+    let Ok(text) = format!(in alloc; "[{action}]") else {
+        return false;
+    };
+    are_spelled(alloc, text.as_str(), want)
+}
+
+fn is_row_spelled(alloc: Global, row: &str) -> bool {
+    let Some((action, want)) = row.split_once(" => ") else {
+        return false;
+    };
+    is_spelled(alloc, action, want)
 }
 
 #[test]
-fn spelled_values(rt: HostRuntime) -> Result<(), Fail> {
-    for row in VALUES.lines() {
-        let (value, wanted) = row.split_once(" => ").ok_or("no row")?;
-        let text = shown_value(&rt, value)?;
-        assert!(rt; text.as_str() == wanted, "{value} gave {text}");
+fn spelled_actions(rt: HostRuntime) {
+    for row in ACTIONS.lines() {
+        assert!(rt; is_row_spelled(rt.alloc(), row), "not {row}");
     }
-    Ok(())
+}
+
+#[test]
+fn no_actions(rt: HostRuntime) {
+    for action in NO_ACTIONS.lines() {
+        assert!(rt; is_spelled(rt.alloc(), action, "-"), "at {action}");
+    }
+}
+
+// The action with this value, as JSON.
+fn update(alloc: Global, value: &str) -> Result<String, AllocError> {
+    format!(in alloc; "[\"UpdateRecord\",\"T\",1,{{\"A\":{value}}}]")
+}
+
+// What `Debug` shows of an action with these values.
+fn shown_update(alloc: Global, values: &str) -> Result<String, AllocError> {
+    format!(in alloc;
+        "[Update {{ table: CellText {{ text: \"T\" }}, single: true, rows: Sequence {{ items: [1] }}, columns: Sequence {{ items: [UserColumn {{ id: CellText {{ text: \"A\" }}, values: Sequence {{ items: {values} }} }}] }} }}]"
+    )
+}
+
+fn is_update(alloc: Global, action: &str, values: &str) -> bool {
+    if values == "-" {
+        return is_spelled(alloc, action, "-");
+    }
+    let Ok(want) = shown_update(alloc, values) else {
+        return false;
+    };
+    is_spelled(alloc, action, want.as_str())
+}
+
+fn are_values(alloc: Global, value: &str, want: &str) -> bool {
+    let Ok(action) = update(alloc, value) else {
+        return false;
+    };
+    is_update(alloc, action.as_str(), want)
+}
+
+fn is_value_row(alloc: Global, row: &str) -> bool {
+    let Some((value, want)) = row.split_once(" => ") else {
+        return false;
+    };
+    are_values(alloc, value, want)
+}
+
+#[test]
+fn spelled_values(rt: HostRuntime) {
+    for row in VALUES.lines() {
+        assert!(rt; is_value_row(rt.alloc(), row), "not {row}");
+    }
 }

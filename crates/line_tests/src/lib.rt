@@ -14,3 +14,5 @@ mod actions;
 mod edges;
 #[cfg(test)]
 mod requests;
+#[cfg(test)]
+mod texts;

@@ -8,11 +8,11 @@
 //! byte more; `values_are_the_same_as_their_copies_alone` has each of those values beside each
 //! other one; `new_cells_hold_defaults` has the default of each type.
 
-use crate::samples::{Kind, Part, Sample, shown, text, type_of, value_of};
+use crate::samples::{Kind, Part, Sample, is_text, shown, text, type_of, value_of};
 use Part::{Bool, Date, Int, Letters, Null, Rec, Text};
 use Sample::{List, One, RecSet};
-use cell_types::{CellValue, ColType, Same, convert, copy_of, default_of, text_of};
-use std::alloc::Global;
+use cell_types::{CellText, CellValue, ColType, Same, convert, copy_of, default_of, text_of};
+use std::alloc::{AllocError, Global};
 
 // The types of the columns, in the order of the table.
 static KINDS: [Kind; 7] = [
@@ -132,22 +132,12 @@ static TEXTS: [(Sample, &str); 16] = [
 
 // Whether a value shows this, between quotes where it is a text.
 fn is_shown(alloc: Global, value: &CellValue, want: &str) -> bool {
-    let Ok(text) = shown(alloc, value) else {
-        return false;
-    };
-    text.as_str() == want
-}
-
-fn is_text(alloc: Global, value: &CellValue, want: &str) -> bool {
-    let Ok(text) = text(alloc, value) else {
-        return false;
-    };
-    text.as_str() == want
+    is_text(&shown(alloc, value), want)
 }
 
 fn is_text_of(alloc: Global, made: &CellValue, value: &CellValue) -> bool {
     match made {
-        CellValue::Text(text) => is_text(alloc, value, text.as_str()),
+        CellValue::Text(made) => is_text(&text(alloc, value), made.as_str()),
         _ => false,
     }
 }
@@ -220,7 +210,7 @@ fn has_text(alloc: Global, sample: Sample, want: &str) -> bool {
     let Ok(value) = value_of(alloc, sample) else {
         return false;
     };
-    is_text(alloc, &value, want)
+    is_text(&text(alloc, &value), want)
 }
 
 #[test]
@@ -231,8 +221,8 @@ fn values_show_their_texts(rt: HostRuntime) {
 }
 
 // Whether a value's text has this size; 0 says that it has none.
-fn is_size(alloc: Global, value: &CellValue, size: usize) -> bool {
-    match &text_of(alloc, value) {
+fn is_size(text: &Result<Option<CellText>, AllocError>, size: usize) -> bool {
+    match text {
         Ok(Some(text)) => text.len() == size,
         Ok(None) => size == 0,
         Err(_) => false,
@@ -243,7 +233,7 @@ fn has_size(alloc: Global, sample: Sample, size: usize) -> bool {
     let Ok(value) = value_of(alloc, sample) else {
         return false;
     };
-    is_size(alloc, &value, size)
+    is_size(&text_of(alloc, &value), size)
 }
 
 // Values, and the sizes of their texts; 0 for none.
@@ -290,41 +280,42 @@ fn new_cells_hold_defaults(rt: HostRuntime) {
     }
 }
 
-// Whether a value is the same as the copy of another, where it has to be, and else is not.
-fn compares(value: &CellValue, other: &CellValue, want: bool) -> bool {
-    let Ok(copy) = copy_of(other) else {
-        return false;
-    };
-    value.same_as(&copy) == want
+fn copied(alloc: Global, sample: Sample) -> Result<CellValue, AllocError> {
+    copy_of(&value_of(alloc, sample)?)
 }
 
-fn compares_with(alloc: Global, value: &CellValue, other: Sample, want: bool) -> bool {
-    let Ok(other) = value_of(alloc, other) else {
+// Whether a value and a copy are the same, where they have to be, and else are not.
+fn are_same(
+    value: &Result<CellValue, AllocError>,
+    copy: &Result<CellValue, AllocError>,
+    want: bool,
+) -> bool {
+    let Ok(value) = value else {
         return false;
     };
-    compares(value, &other, want)
+    let Ok(copy) = copy else {
+        return false;
+    };
+    value.same_as(copy) == want
+}
+
+fn compares(alloc: Global, value: Sample, other: Sample, want: bool) -> bool {
+    are_same(&value_of(alloc, value), &copied(alloc, other), want)
 }
 
 // Whether a value is the same as the copy of the value at its own place, and as no other copy.
-fn is_copy_alone(alloc: Global, value: &CellValue, place: usize) -> bool {
+fn is_copy_alone(alloc: Global, value: Sample, place: usize) -> bool {
     for (at, other) in TEXTS.iter().enumerate() {
-        if !compares_with(alloc, value, other.0, at == place) {
+        if !compares(alloc, value, other.0, at == place) {
             return false;
         }
     }
     true
 }
 
-fn is_alone(alloc: Global, sample: Sample, place: usize) -> bool {
-    let Ok(value) = value_of(alloc, sample) else {
-        return false;
-    };
-    is_copy_alone(alloc, &value, place)
-}
-
 #[test]
 fn values_are_the_same_as_their_copies_alone(rt: HostRuntime) {
     for (place, row) in TEXTS.iter().enumerate() {
-        assert!(rt; is_alone(rt.alloc(), row.0, place), "at {}", row.1);
+        assert!(rt; is_copy_alone(rt.alloc(), row.0, place), "at {}", row.1);
     }
 }

@@ -56,25 +56,30 @@ fn names(alloc: Global, text: &str) -> Result<Vec<Name>, AllocError> {
     Ok(names)
 }
 
-fn is_free(alloc: Global, wanted: &Name, taken: &[Name], free: &str) -> bool {
-    let Ok(made) = free_name(alloc, wanted, taken) else {
-        return false;
-    };
-    made.as_str() == free
+fn is_made(name: &Result<Name, AllocError>, want: &str) -> bool {
+    match name {
+        Ok(name) => name.as_str() == want,
+        Err(_) => false,
+    }
 }
 
-fn is_free_beside(alloc: Global, wanted: &Name, taken: &str, free: &str) -> bool {
-    let Ok(taken) = names(alloc, taken) else {
+fn is_free(
+    alloc: Global,
+    wanted: &Result<Name, AllocError>,
+    taken: &Result<Vec<Name>, AllocError>,
+    free: &str,
+) -> bool {
+    let Ok(wanted) = wanted else {
         return false;
     };
-    is_free(alloc, wanted, &taken, free)
+    let Ok(taken) = taken else {
+        return false;
+    };
+    is_made(&free_name(alloc, wanted, taken), free)
 }
 
 fn finds(alloc: Global, wanted: &str, taken: &str, free: &str) -> bool {
-    let Ok(wanted) = name(alloc, wanted) else {
-        return false;
-    };
-    is_free_beside(alloc, &wanted, taken, free)
+    is_free(alloc, &name(alloc, wanted), &names(alloc, taken), free)
 }
 
 #[test]

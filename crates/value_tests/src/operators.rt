@@ -6,12 +6,12 @@
 //! `kinds_meet_as_the_page_says` has each operator at each pair of kinds; the others have the rest of
 //! the page, and what is told of a fault.
 
-use crate::samples::{Part, Sample, value_of};
+use crate::samples::{Part, Sample, is_text, value_of};
 use Answer::{Letter, Number};
 use Part::{Bool, Date, Int, Letters, Null, Rec, Text};
 use Sample::{List, Nulls, One, RecSet};
 use cell_types::{CellValue, ErrKind, decimal_value};
-use std::alloc::Global;
+use std::alloc::{AllocError, Global};
 use value_ops::{
     OpFault, add, contains, equal, floor_div, less, modulo, mul, negate, same, sub, truth,
 };
@@ -84,24 +84,31 @@ fn is_answer(outcome: &Result<CellValue, OpFault>, want: Answer) -> bool {
     }
 }
 
-fn gives_with(
+fn is_given(
     alloc: Global,
     operator: Operator,
-    left: &CellValue,
-    right: Sample,
+    left: &Result<CellValue, AllocError>,
+    right: &Result<CellValue, AllocError>,
     want: Answer,
 ) -> bool {
-    let Ok(right) = value_of(alloc, right) else {
+    let Ok(left) = left else {
         return false;
     };
-    is_answer(&apply(alloc, operator, left, &right), want)
+    let Ok(right) = right else {
+        return false;
+    };
+    is_answer(&apply(alloc, operator, left, right), want)
 }
 
+// Whether an operator gives this for two values.
 fn gives(alloc: Global, operator: Operator, left: Sample, right: Sample, want: Answer) -> bool {
-    let Ok(left) = value_of(alloc, left) else {
-        return false;
-    };
-    gives_with(alloc, operator, &left, right, want)
+    is_given(
+        alloc,
+        operator,
+        &value_of(alloc, left),
+        &value_of(alloc, right),
+        want,
+    )
 }
 
 // The operators on numbers, in the order of the table.
@@ -419,10 +426,7 @@ static MESSAGES: [(OpFault, &str); 3] = [
 ];
 
 fn is_told(alloc: Global, fault: OpFault, want: &str) -> bool {
-    let Ok(message) = format!(in alloc; "{fault}") else {
-        return false;
-    };
-    message.as_str() == want
+    is_text(&format!(in alloc; "{fault}"), want)
 }
 
 #[test]

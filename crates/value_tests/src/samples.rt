@@ -139,3 +139,11 @@ pub fn shown(alloc: Global, value: &CellValue) -> Result<String, AllocError> {
         _ => text(alloc, value),
     }
 }
+
+/// Whether the text was made, and is the wanted one.
+pub fn is_text(text: &Result<String, AllocError>, want: &str) -> bool {
+    match text {
+        Ok(text) => text.as_str() == want,
+        Err(_) => false,
+    }
+}

@@ -65,4 +65,3 @@ data_sorted g rows cs vs ws n all same made sorted =
     ∙ ap (by_id given_id) (made ∙ ap (λ ds. map (λ (d : ColDef). column_of column_id g rows d.id) (filter (λ (d : ColDef). not d.info.is_formula) ds)) (take_all n cs all))
     ∙ sym (map-by_id column_id given_id (λ (d : ColDef). column_of column_id g rows d.id) (λ d. refl) (filter (λ (d : ColDef). not d.info.is_formula) cs))
     ∙ ap (λ ds. map (λ (d : ColDef). column_of column_id g rows d.id) (by_id column_id (filter (λ (d : ColDef). not d.info.is_formula) ds))) same
-

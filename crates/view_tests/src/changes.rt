@@ -6,63 +6,32 @@
 ghost use Rattle.std.specs.Prelude.{IfOk};
 ghost use Rattle.doc_model.specs.Changes.{IsView};
 
-use cell_types::{CellText, CellValue, ColType, Name, RowList, ValueList};
-use doc_model::{
-    CellColumn, ColumnList, View, ViewAction, ViewActionList, ViewCol, ViewColList, ViewTableList,
-};
+use crate::shown::are_shown;
+use crate::steps::{Kind, Part, Step, actions_of};
+use Part::{Bool, Int, Null};
+use doc_model::{View, ViewActionList, ViewTableList};
 use plain_view::{PatchFault, are_full, changes, patch};
 use std::alloc::{AllocError, Global};
 
-fn name(alloc: Global, id: &str) -> Result<Name, AllocError> {
-    Name::try_new(CellText::copy_of(alloc, id)?).ok_or(AllocError)
-}
+// A without columns, and B with X and Y in the rows 1 to 3.
+static BEFORE: [Step; 3] = [
+    Step::Table("B", &[("Y", Kind::Int), ("X", Kind::Any)]),
+    Step::Table("A", &[]),
+    Step::Rows(&[3, 2, 1], &[("X", &[Int(3), Int(1), Int(2)])]),
+];
 
-fn column(alloc: Global, id: &str, ty: ColType) -> Result<ViewCol, AllocError> {
-    Ok(ViewCol {
-        id: name(alloc, id)?,
-        ty,
-        is_formula: false,
-        formula: None,
-    })
-}
-
-fn two_columns(alloc: Global, first: ViewCol, second: ViewCol) -> Result<ViewColList, AllocError> {
-    Ok(ViewColList::from(Vec::from_array(alloc, [first, second])?))
-}
-
-fn table(alloc: Global, id: &str, columns: ViewColList) -> Result<ViewAction, AllocError> {
-    Ok(ViewAction::AddTable {
-        table: name(alloc, id)?,
-        columns,
-    })
-}
-
-fn cells(alloc: Global, id: &str, values: [CellValue; 3]) -> Result<CellColumn, AllocError> {
-    Ok(CellColumn {
-        id: name(alloc, id)?,
-        values: ValueList::from(Vec::from_array(alloc, values)?),
-    })
-}
-
-fn rows(alloc: Global, rows: [u32; 3], columns: ColumnList) -> Result<ViewAction, AllocError> {
-    Ok(ViewAction::BulkAdd {
-        table: name(alloc, "B")?,
-        rows: RowList::from(Vec::from_array(alloc, rows)?),
-        columns,
-    })
-}
-
-// Patches where the actions are such as `patch` takes.
-fn patched(alloc: Global, view: &View, actions: &ViewActionList) -> Result<View, AllocError>
-    requires { IsView view.now.tables }
-    ensures { IfOk result (λ v. IsView v.tables) }
-{
-    if actions.len() < 100 && are_full(actions) {
-        patch(alloc, view, actions).map_err(|_fault: PatchFault| AllocError)
-    } else {
-        Err(AllocError)
-    }
-}
+// B with X and Z in the rows 2 to 4, and C without columns.
+static AFTER: [Step; 3] = [
+    Step::Table("B", &[("X", Kind::Any), ("Z", Kind::Bool)]),
+    Step::Table("C", &[]),
+    Step::Rows(
+        &[2, 3, 4],
+        &[
+            ("X", &[Bool(true), Int(3), Int(4)]),
+            ("Z", &[Bool(false), Bool(true), Null]),
+        ],
+    ),
+];
 
 fn empty(alloc: Global) -> View
     ensures { IsView result.tables }
@@ -72,176 +41,154 @@ fn empty(alloc: Global) -> View
     }
 }
 
-fn view(alloc: Global, actions: [ViewAction; 3]) -> Result<View, AllocError>
+// Patches where the actions are such as `patch` takes.
+fn patched(alloc: Global, view: &View, actions: &ViewActionList) -> Result<View, AllocError>
+    requires { IsView view.now.tables }
     ensures { IfOk result (λ v. IsView v.tables) }
 {
-    let actions = ViewActionList::from(Vec::from_array(alloc, actions)?);
-    patched(alloc, &empty(alloc), &actions)
+    if actions.len() >= 100 || !are_full(actions) {
+        return Err(AllocError);
+    }
+    match patch(alloc, view, actions) {
+        Ok(view) => Ok(view),
+        Err(_) => Err(AllocError),
+    }
 }
 
-fn columns_before(alloc: Global) -> Result<ViewColList, AllocError> {
-    let y = column(alloc, "Y", ColType::Int)?;
-    two_columns(alloc, y, column(alloc, "X", ColType::Any)?)
-}
-
-fn rows_before(alloc: Global) -> Result<ViewAction, AllocError> {
-    let values = [CellValue::Int(3), CellValue::Int(1), CellValue::Int(2)];
-    let x = cells(alloc, "X", values)?;
-    let columns = ColumnList::from(Vec::from_array(alloc, [x])?);
-    rows(alloc, [3, 2, 1], columns)
-}
-
-// A without columns, and B with X and Y in the rows 1 to 3.
-fn before(alloc: Global) -> Result<View, AllocError>
+// The view after the actions, where those were made.
+fn led(
+    alloc: Global,
+    view: &View,
+    actions: &Result<ViewActionList, AllocError>,
+) -> Result<View, AllocError>
+    requires { IsView view.now.tables }
     ensures { IfOk result (λ v. IsView v.tables) }
 {
-    let b = table(alloc, "B", columns_before(alloc)?)?;
-    let a = table(alloc, "A", ViewColList::new(alloc))?;
-    view(alloc, [b, a, rows_before(alloc)?])
+    match actions {
+        Ok(actions) => patched(alloc, view, actions),
+        Err(_) => Err(AllocError),
+    }
 }
 
-fn columns_after(alloc: Global) -> Result<ViewColList, AllocError> {
-    let x = column(alloc, "X", ColType::Any)?;
-    two_columns(alloc, x, column(alloc, "Z", ColType::Bool)?)
-}
-
-fn rows_after(alloc: Global) -> Result<ViewAction, AllocError> {
-    let values = [CellValue::Bool(true), CellValue::Int(3), CellValue::Int(4)];
-    let x = cells(alloc, "X", values)?;
-    let flags = [
-        CellValue::Bool(false),
-        CellValue::Bool(true),
-        CellValue::Null,
-    ];
-    let z = cells(alloc, "Z", flags)?;
-    let columns = ColumnList::from(Vec::from_array(alloc, [x, z])?);
-    rows(alloc, [2, 3, 4], columns)
-}
-
-// B with X and Z in the rows 2 to 4, and C without columns.
-fn after(alloc: Global) -> Result<View, AllocError>
+fn view(alloc: Global, steps: &[Step]) -> Result<View, AllocError>
     ensures { IfOk result (λ v. IsView v.tables) }
 {
-    let b = table(alloc, "B", columns_after(alloc)?)?;
-    let c = table(alloc, "C", ViewColList::new(alloc))?;
-    view(alloc, [b, c, rows_after(alloc)?])
+    led(alloc, &empty(alloc), &actions_of(alloc, steps))
 }
 
-fn show_values(text: &mut String, values: &[CellValue]) -> Result<(), AllocError> {
-    for value in values {
-        match value {
-            CellValue::Int(4) => text.push_str(" 4")?,
-            CellValue::Bool(true) => text.push_str(" true")?,
-            CellValue::Bool(false) => text.push_str(" false")?,
-            CellValue::Null => text.push_str(" null")?,
-            _ => text.push_str(" other")?,
-        }
-    }
-    Ok(())
+const TOLD: &str =
+    "|-table A|+table C|-column Y|+column Z|-rows 1|+rows 4 X 4 Z null|=rows 2 X true|=rows 3 Z true";
+
+// Whether these lines lead from one view to another.
+fn are_told(
+    alloc: Global,
+    old: &Result<View, AllocError>,
+    new: &Result<View, AllocError>,
+    want: &str,
+) -> bool
+    requires old { IfOk old.now (λ v. IsView v.tables) }
+    requires new { IfOk new.now (λ v. IsView v.tables) }
+{
+    let Ok(old) = old else {
+        return false;
+    };
+    let Ok(new) = new else {
+        return false;
+    };
+    are_shown(alloc, &changes(alloc, old, new), want)
 }
 
-fn show_rows(text: &mut String, rows: &RowList) -> Result<(), AllocError> {
-    for row in rows.as_slice() {
-        text.push_str(match *row {
-            1 => " 1",
-            2 => " 2",
-            3 => " 3",
-            4 => " 4",
-            _ => " ?",
-        })?;
-    }
-    Ok(())
-}
-
-fn show_cells(text: &mut String, rows: &RowList, columns: &ColumnList) -> Result<(), AllocError> {
-    show_rows(text, rows)?;
-    for column in columns.as_slice() {
-        text.push_str(" ")?;
-        text.push_str(column.id.as_str())?;
-        show_values(text, column.values.as_slice())?;
-    }
-    Ok(())
-}
-
-fn show(text: &mut String, action: &ViewAction) -> Result<(), AllocError> {
-    match action {
-        ViewAction::AddTable { table, .. } => show_name(text, "+table ", table),
-        ViewAction::RemoveTable { table } => show_name(text, "-table ", table),
-        ViewAction::AddColumn { column, .. } => show_name(text, "+column ", &column.id),
-        ViewAction::RemoveColumn { column, .. } => show_name(text, "-column ", column),
-        ViewAction::ModifyColumn { column, .. } => show_name(text, "=column ", &column.id),
-        ViewAction::BulkRemove { rows, .. } => {
-            text.push_str("-rows")?;
-            show_rows(text, rows)
-        }
-        ViewAction::BulkAdd { rows, columns, .. } => {
-            text.push_str("+rows")?;
-            show_cells(text, rows, columns)
-        }
-        ViewAction::BulkUpdate { rows, columns, .. } => {
-            text.push_str("=rows")?;
-            show_cells(text, rows, columns)
-        }
-    }
-}
-
-fn show_name(text: &mut String, word: &str, id: &Name) -> Result<(), AllocError> {
-    text.push_str(word)?;
-    text.push_str(id.as_str())
-}
-
-fn shown(alloc: Global, actions: &ViewActionList) -> Result<String, AllocError> {
-    let mut text = String::new(alloc);
-    for action in actions.as_slice() {
-        text.push_str("|")?;
-        show(&mut text, action)?;
-    }
-    Ok(text)
+fn tells(alloc: Global) -> bool {
+    are_told(alloc, &view(alloc, &BEFORE), &view(alloc, &AFTER), TOLD)
 }
 
 #[test]
-fn tells_what_changed(rt: HostRuntime) -> Result<(), AllocError> {
-    let alloc = rt.alloc();
-    let told = changes(alloc, &before(alloc)?, &after(alloc)?)?;
-    assert_eq!(rt;
-        shown(alloc, &told)?.as_str(),
-        "|-table A|+table C|-column Y|+column Z|-rows 1|+rows 4 X 4 Z null|=rows 2 X true|=rows 3 Z true"
-    );
-    Ok(())
+fn tells_what_changed(rt: HostRuntime) {
+    assert!(rt; tells(rt.alloc()), "not {TOLD}");
+}
+
+// The view that the changes from the old view to the new one make of the old one.
+fn followed(
+    alloc: Global,
+    old: &Result<View, AllocError>,
+    new: &Result<View, AllocError>,
+) -> Result<View, AllocError>
+    requires old { IfOk old.now (λ v. IsView v.tables) }
+    requires new { IfOk new.now (λ v. IsView v.tables) }
+    ensures { IfOk result (λ v. IsView v.tables) }
+{
+    let Ok(old) = old else {
+        return Err(AllocError);
+    };
+    let Ok(new) = new else {
+        return Err(AllocError);
+    };
+    led(alloc, old, &changes(alloc, old, new))
+}
+
+// Whether nothing leads from what the changes make to the new view.
+fn lead_there(alloc: Global, old: &Result<View, AllocError>, new: &Result<View, AllocError>) -> bool
+    requires old { IfOk old.now (λ v. IsView v.tables) }
+    requires new { IfOk new.now (λ v. IsView v.tables) }
+{
+    are_told(alloc, &followed(alloc, old, new), new, "")
+}
+
+fn leads(alloc: Global) -> bool {
+    lead_there(alloc, &view(alloc, &BEFORE), &view(alloc, &AFTER))
 }
 
 #[test]
-fn changes_lead_there(rt: HostRuntime) -> Result<(), AllocError> {
-    let alloc = rt.alloc();
-    let old = before(alloc)?;
-    let new = after(alloc)?;
-    let made = patched(alloc, &old, &changes(alloc, &old, &new)?)?;
-    assert_eq!(rt; changes(alloc, &made, &new)?.len(), 0);
-    Ok(())
+fn changes_lead_there(rt: HostRuntime) {
+    assert!(rt; leads(rt.alloc()), "something is left");
 }
 
-fn row_removed(alloc: Global) -> Result<ViewAction, AllocError> {
-    Ok(ViewAction::BulkRemove {
-        table: name(alloc, "B")?,
-        rows: RowList::from(Vec::from_array(alloc, [2])?),
-    })
-}
+static REMOVED_TWICE: [Step; 2] = [Step::Removed(&[2]), Step::Removed(&[2])];
 
-fn removed_twice(alloc: Global) -> Result<ViewActionList, AllocError> {
-    let first = row_removed(alloc)?;
-    let actions = [first, row_removed(alloc)?];
-    Ok(ViewActionList::from(Vec::from_array(alloc, actions)?))
-}
-
-#[test]
-fn tells_what_does_not_fit(rt: HostRuntime) -> Result<(), AllocError> {
-    let alloc = rt.alloc();
-    let view = before(alloc)?;
-    let actions = removed_twice(alloc)?;
-    assert!(rt; are_full(&actions) && actions.len() < 100);
-    match patch(alloc, &view, &actions) {
-        Err(PatchFault::Unfit { index }) => assert_eq!(rt; index, 1),
-        _ => assert!(rt; false),
+fn is_unfit(patched: &Result<View, PatchFault>, place: u32) -> bool {
+    match patched {
+        Err(PatchFault::Unfit { index }) => *index == place,
+        _ => false,
     }
-    Ok(())
+}
+
+fn are_unfit(alloc: Global, view: &View, actions: &ViewActionList, place: u32) -> bool
+    requires { IsView view.now.tables }
+{
+    if actions.len() >= 100 || !are_full(actions) {
+        return false;
+    }
+    is_unfit(&patch(alloc, view, actions), place)
+}
+
+// Whether both were made, and the action at this place does not fit.
+fn stops(
+    alloc: Global,
+    view: &Result<View, AllocError>,
+    actions: &Result<ViewActionList, AllocError>,
+    place: u32,
+) -> bool
+    requires { IfOk view.now (λ v. IsView v.tables) }
+{
+    let Ok(view) = view else {
+        return false;
+    };
+    let Ok(actions) = actions else {
+        return false;
+    };
+    are_unfit(alloc, view, actions, place)
+}
+
+fn stops_at_the_second(alloc: Global) -> bool {
+    stops(
+        alloc,
+        &view(alloc, &BEFORE),
+        &actions_of(alloc, &REMOVED_TWICE),
+        1,
+    )
+}
+
+#[test]
+fn tells_what_does_not_fit(rt: HostRuntime) {
+    assert!(rt; stops_at_the_second(rt.alloc()), "not at 1");
 }

@@ -14,3 +14,7 @@ mod changes;
 mod parts;
 #[cfg(test)]
 mod refusals;
+#[cfg(test)]
+mod shown;
+#[cfg(test)]
+mod steps;

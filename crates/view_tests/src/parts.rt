@@ -5,10 +5,11 @@
 ghost use Rattle.std.specs.Prelude.{IfOk};
 ghost use Rattle.doc_model.specs.DocumentLaws.{IsWhole};
 
+use crate::asking::{Asked, actions_of};
 use crate::steps::name;
-use cell_types::{CellText, Name};
+use cell_types::Name;
 use doc_model::laws::new_document_law;
-use doc_model::{UserAction, View};
+use doc_model::{UserAction, UserActionList, View};
 use row_tables::RowTables;
 use std::alloc::{AllocError, Global};
 use view_parts::{asked_view, is_column_shown, rows_shown};
@@ -74,29 +75,6 @@ fn rules_are_shown_to_owners_alone(rt: HostRuntime) {
     }
 }
 
-fn action_on(alloc: Global, table: &str) -> Result<UserAction, AllocError> {
-    Ok(UserAction::RemoveTable {
-        table: CellText::copy_of(alloc, table)?,
-    })
-}
-
-// The part that an action asks for, where both were made.
-fn asked(
-    alloc: Global,
-    document: &Result<RowTables, AllocError>,
-    action: &Result<UserAction, AllocError>,
-) -> Result<View, AllocError>
-    requires { IfOk document.now IsWhole }
-{
-    let Ok(document) = document else {
-        return Err(AllocError);
-    };
-    let Ok(action) = action else {
-        return Err(AllocError);
-    };
-    asked_view(alloc, document, true, action)
-}
-
 // Whether this is the first table of the view; `-` where there is none.
 fn is_first(view: &Result<View, AllocError>, want: &str) -> bool {
     let Ok(view) = view else {
@@ -108,14 +86,36 @@ fn is_first(view: &Result<View, AllocError>, want: &str) -> bool {
     }
 }
 
-fn finds(alloc: Global, document: &Result<RowTables, AllocError>, table: &str, want: &str) -> bool
-    requires { IfOk document.now IsWhole }
+fn is_asked(alloc: Global, document: &RowTables, action: &UserAction, want: &str) -> bool
+    requires { IsWhole document.now }
 {
-    is_first(&asked(alloc, document, &action_on(alloc, table)), want)
+    is_first(&asked_view(alloc, document, true, action), want)
 }
 
-fn finds_in_new(alloc: Global, table: &str, want: &str) -> bool {
-    finds(alloc, &new_document(alloc), table, want)
+// Whether both were made, and the action asks for this table first.
+fn finds(
+    alloc: Global,
+    document: &Result<RowTables, AllocError>,
+    actions: &Result<UserActionList, AllocError>,
+    want: &str,
+) -> bool
+    requires { IfOk document.now IsWhole }
+{
+    let Ok(document) = document else {
+        return false;
+    };
+    let Ok(actions) = actions else {
+        return false;
+    };
+    let Some(action) = actions.as_slice().first() else {
+        return false;
+    };
+    is_asked(alloc, document, action, want)
+}
+
+fn finds_in_new(alloc: Global, table: &'static str, want: &str) -> bool {
+    let actions = actions_of(alloc, Asked::RemoveTable(table));
+    finds(alloc, &new_document(alloc), &actions, want)
 }
 
 #[test]

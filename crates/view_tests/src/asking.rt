@@ -18,10 +18,7 @@ fn text(alloc: Global, text: &str) -> Result<CellText, AllocError> {
 }
 
 fn ones(alloc: Global) -> Result<IdList, AllocError> {
-    let mut rows = IdList::new(alloc);
-    rows.push(1)?;
-    rows.push(1)?;
-    Ok(rows)
+    Ok(IdList::from(Vec::from_array(alloc, [1, 1])?))
 }
 
 fn update(alloc: Global, table: &str) -> Result<UserAction, AllocError> {

@@ -5,7 +5,8 @@
 //!
 //! Promises: nothing. What is tested is what no clause says: that the definitions mean what is meant,
 //! by values that were worked out by hand, and that calls succeed where there is memory.
-//! Read first: changes.rt, then parts.rt and refusals.rt.
+//! Read first: changes.rt, then parts.rt and refusals.rt. What they try is made in steps.rt and
+//! asking.rt, and shown in shown.rt.
 #![tactic(auto)]
 
 #[cfg(test)]

@@ -1,153 +1,253 @@
-//! Document actions that tests do.
+//! Document actions that tests do, and the plain words for them.
 
+use Change::{
+    Add, AddColumn, AddTable, AddWideTable, ModifyColumn, Remove, RemoveColumn, RemoveTable,
+    RenameColumn, RenameTable, Update,
+};
 use cell_types::{CellText, CellValue, ColType, Name, RowList, ValueList};
 use doc_model::{CellColumn, ColDef, ColDefList, ColInfo, ColumnList, DocAction};
 use std::alloc::{AllocError, Global};
 
-/// A name, which the text has to be.
-pub(crate) fn name(alloc: Global, id: &str) -> Result<Name, AllocError> {
+/// An action: the table first, then rows, the id of a column, and what it gives. Records have whole
+/// numbers in one column; a new table has columns `X` and `Y` of the last two rows, `Y` given first;
+/// a modified column has the formula, or none where that is empty. The wide table has one column more
+/// than a table may have.
+pub(crate) enum Change {
+    Add(&'static str, [u32; 2], &'static str, [i64; 2]),
+    Update(&'static str, [u32; 2], &'static str, [i64; 2]),
+    Remove(&'static str, [u32; 2]),
+    AddTable(&'static str, u32, u32, u32),
+    AddWideTable,
+    RemoveTable(&'static str),
+    RenameTable(&'static str, &'static str),
+    AddColumn(&'static str, &'static str, u32),
+    RemoveColumn(&'static str, &'static str),
+    RenameColumn(&'static str, &'static str, &'static str),
+    ModifyColumn(&'static str, &'static str, &'static str),
+}
+
+// The records that an action is about.
+#[derive(Drop)]
+struct Records {
+    table: Name,
+    rows: RowList,
+}
+
+// The column that an action is about.
+#[derive(Drop)]
+struct Place {
+    table: Name,
+    column: Name,
+}
+
+// A name, which the text has to be.
+fn name(alloc: Global, id: &str) -> Result<Name, AllocError> {
     Name::try_new(CellText::copy_of(alloc, id)?).ok_or(AllocError)
 }
 
-fn rows_of(alloc: Global, rows: [u32; 2]) -> Result<RowList, AllocError> {
-    Ok(RowList::from(Vec::from_array(alloc, rows)?))
+fn records_of(alloc: Global, table: &str, rows: [u32; 2]) -> Result<Records, AllocError> {
+    let rows = RowList::from(Vec::from_array(alloc, rows)?);
+    let table = name(alloc, table)?;
+    Ok(Records { table, rows })
 }
 
-fn ints(alloc: Global, id: &str, values: [i64; 2]) -> Result<ColumnList, AllocError> {
-    let [first, second] = values;
-    let values = [CellValue::Int(first), CellValue::Int(second)];
-    let column = CellColumn {
-        id: name(alloc, id)?,
-        values: ValueList::from(Vec::from_array(alloc, values)?),
-    };
-    Ok(ColumnList::from(Vec::from_array(alloc, [column])?))
+fn place_of(alloc: Global, table: &str, column: &str) -> Result<Place, AllocError> {
+    let table = name(alloc, table)?;
+    let column = name(alloc, column)?;
+    Ok(Place { table, column })
 }
 
-fn info(alloc: Global, formula: &str) -> Result<ColInfo, AllocError> {
-    Ok(ColInfo {
-        ty: ColType::Any,
-        is_formula: !formula.is_empty(),
-        formula: CellText::copy_of(alloc, formula)?,
-    })
+fn ints(alloc: Global, values: [i64; 2]) -> Result<ValueList, AllocError> {
+    let mut list = ValueList::new(alloc);
+    for value in values {
+        list.push(CellValue::Int(value))?;
+    }
+    Ok(list)
 }
 
-/// A data column of any values.
-pub(crate) fn column(alloc: Global, id: &str, row: u32) -> Result<ColDef, AllocError> {
-    Ok(ColDef {
-        id: name(alloc, id)?,
-        info: info(alloc, "")?,
-        row,
-    })
+fn column_of_ints(alloc: Global, id: &str, values: [i64; 2]) -> Result<CellColumn, AllocError> {
+    let values = ints(alloc, values)?;
+    let id = name(alloc, id)?;
+    Ok(CellColumn { id, values })
 }
 
-/// Two records with whole numbers in one column.
-pub(crate) fn add(
+fn columns_of_ints(alloc: Global, id: &str, values: [i64; 2]) -> Result<ColumnList, AllocError> {
+    let mut columns = ColumnList::new(alloc);
+    columns.push(column_of_ints(alloc, id, values)?)?;
+    Ok(columns)
+}
+
+fn add(
     alloc: Global,
     table: &str,
     rows: [u32; 2],
     id: &str,
     values: [i64; 2],
 ) -> Result<DocAction, AllocError> {
+    let records = records_of(alloc, table, rows)?;
+    let columns = columns_of_ints(alloc, id, values)?;
     Ok(DocAction::BulkAdd {
-        table: name(alloc, table)?,
-        rows: rows_of(alloc, rows)?,
-        columns: ints(alloc, id, values)?,
+        table: records.table,
+        rows: records.rows,
+        columns,
     })
 }
 
-/// Whole numbers in two records.
-pub(crate) fn update(
+fn update(
     alloc: Global,
     table: &str,
     rows: [u32; 2],
     id: &str,
     values: [i64; 2],
 ) -> Result<DocAction, AllocError> {
+    let records = records_of(alloc, table, rows)?;
+    let columns = columns_of_ints(alloc, id, values)?;
     Ok(DocAction::BulkUpdate {
-        table: name(alloc, table)?,
-        rows: rows_of(alloc, rows)?,
-        columns: ints(alloc, id, values)?,
+        table: records.table,
+        rows: records.rows,
+        columns,
     })
 }
 
-pub(crate) fn remove(alloc: Global, table: &str, rows: [u32; 2]) -> Result<DocAction, AllocError> {
+fn remove(alloc: Global, table: &str, rows: [u32; 2]) -> Result<DocAction, AllocError> {
+    let records = records_of(alloc, table, rows)?;
     Ok(DocAction::BulkRemove {
-        table: name(alloc, table)?,
-        rows: rows_of(alloc, rows)?,
+        table: records.table,
+        rows: records.rows,
     })
 }
 
-/// A table with columns `X` and `Y` of those metadata rows, `Y` given first.
-pub(crate) fn add_table(
+// A data column of any values.
+fn column(alloc: Global, id: &str, row: u32) -> Result<ColDef, AllocError> {
+    let id = name(alloc, id)?;
+    let info = ColInfo {
+        ty: ColType::Any,
+        is_formula: false,
+        formula: CellText::empty(alloc),
+    };
+    Ok(ColDef { id, info, row })
+}
+
+/// Columns `Y` and `X` of those metadata rows, `Y` first.
+pub(crate) fn x_and_y(alloc: Global, x: u32, y: u32) -> Result<ColDefList, AllocError> {
+    let mut columns = ColDefList::new(alloc);
+    columns.push(column(alloc, "Y", y)?)?;
+    columns.push(column(alloc, "X", x)?)?;
+    Ok(columns)
+}
+
+// A table of these columns.
+fn add_table(
+    alloc: Global,
+    table: &str,
+    row: u32,
+    columns: ColDefList,
+) -> Result<DocAction, AllocError> {
+    let table = name(alloc, table)?;
+    Ok(DocAction::AddTable {
+        table,
+        row,
+        columns,
+    })
+}
+
+fn add_x_and_y(
     alloc: Global,
     table: &str,
     row: u32,
     x: u32,
     y: u32,
 ) -> Result<DocAction, AllocError> {
-    let columns = [column(alloc, "Y", y)?, column(alloc, "X", x)?];
-    Ok(DocAction::AddTable {
-        table: name(alloc, table)?,
-        row,
-        columns: ColDefList::from(Vec::from_array(alloc, columns)?),
-    })
+    let columns = x_and_y(alloc, x, y)?;
+    add_table(alloc, table, row, columns)
 }
 
-pub(crate) fn remove_table(alloc: Global, table: &str) -> Result<DocAction, AllocError> {
-    Ok(DocAction::RemoveTable {
-        table: name(alloc, table)?,
-    })
+fn numbered_column(alloc: Global, number: u32, row: u32) -> Result<ColDef, AllocError> {
+    let id = format!(in alloc; "C{number}")?;
+    column(alloc, id.as_str(), row)
 }
 
-pub(crate) fn rename_table(alloc: Global, table: &str, new: &str) -> Result<DocAction, AllocError> {
-    Ok(DocAction::RenameTable {
-        table: name(alloc, table)?,
-        new: name(alloc, new)?,
-    })
+fn wide_columns(alloc: Global) -> Result<ColDefList, AllocError> {
+    let mut columns = ColDefList::new(alloc);
+    for number in 0..1025u32 {
+        columns.push(numbered_column(alloc, number, 100 + number)?)?;
+    }
+    Ok(columns)
 }
 
-pub(crate) fn add_column(
-    alloc: Global,
-    table: &str,
-    id: &str,
-    row: u32,
-) -> Result<DocAction, AllocError> {
-    Ok(DocAction::AddColumn {
-        table: name(alloc, table)?,
-        column: column(alloc, id, row)?,
-    })
+fn add_wide_table(alloc: Global) -> Result<DocAction, AllocError> {
+    let columns = wide_columns(alloc)?;
+    add_table(alloc, "Wide", 2, columns)
 }
 
-pub(crate) fn remove_column(alloc: Global, table: &str, id: &str) -> Result<DocAction, AllocError> {
+fn remove_table(alloc: Global, table: &str) -> Result<DocAction, AllocError> {
+    let table = name(alloc, table)?;
+    Ok(DocAction::RemoveTable { table })
+}
+
+fn rename_table(alloc: Global, table: &str, new: &str) -> Result<DocAction, AllocError> {
+    let table = name(alloc, table)?;
+    let new = name(alloc, new)?;
+    Ok(DocAction::RenameTable { table, new })
+}
+
+fn add_column(alloc: Global, table: &str, id: &str, row: u32) -> Result<DocAction, AllocError> {
+    let column = column(alloc, id, row)?;
+    let table = name(alloc, table)?;
+    Ok(DocAction::AddColumn { table, column })
+}
+
+fn remove_column(alloc: Global, table: &str, id: &str) -> Result<DocAction, AllocError> {
+    let place = place_of(alloc, table, id)?;
     Ok(DocAction::RemoveColumn {
-        table: name(alloc, table)?,
-        column: name(alloc, id)?,
+        table: place.table,
+        column: place.column,
     })
 }
 
-pub(crate) fn rename_column(
-    alloc: Global,
-    table: &str,
-    id: &str,
-    new: &str,
-) -> Result<DocAction, AllocError> {
+fn rename_column(alloc: Global, table: &str, id: &str, new: &str) -> Result<DocAction, AllocError> {
+    let place = place_of(alloc, table, id)?;
+    let new = name(alloc, new)?;
     Ok(DocAction::RenameColumn {
-        table: name(alloc, table)?,
-        column: name(alloc, id)?,
-        new: name(alloc, new)?,
+        table: place.table,
+        column: place.column,
+        new,
     })
 }
 
-/// The column with a formula, or without one where that is empty.
-pub(crate) fn modify_column(
+fn modify_column(
     alloc: Global,
     table: &str,
     id: &str,
     formula: &str,
 ) -> Result<DocAction, AllocError> {
+    let place = place_of(alloc, table, id)?;
+    let text = CellText::copy_of(alloc, formula)?;
+    let info = ColInfo {
+        ty: ColType::Any,
+        is_formula: !formula.is_empty(),
+        formula: text,
+    };
     Ok(DocAction::ModifyColumn {
-        table: name(alloc, table)?,
-        column: name(alloc, id)?,
-        info: info(alloc, formula)?,
+        table: place.table,
+        column: place.column,
+        info,
     })
+}
+
+/// The action that the words stand for.
+pub(crate) fn action_of(alloc: Global, change: &Change) -> Result<DocAction, AllocError> {
+    match change {
+        Add(table, rows, id, values) => add(alloc, table, *rows, id, *values),
+        Update(table, rows, id, values) => update(alloc, table, *rows, id, *values),
+        Remove(table, rows) => remove(alloc, table, *rows),
+        AddTable(table, row, x, y) => add_x_and_y(alloc, table, *row, *x, *y),
+        AddWideTable => add_wide_table(alloc),
+        RemoveTable(table) => remove_table(alloc, table),
+        RenameTable(table, new) => rename_table(alloc, table, new),
+        AddColumn(table, id, row) => add_column(alloc, table, id, *row),
+        RemoveColumn(table, id) => remove_column(alloc, table, id),
+        RenameColumn(table, id, new) => rename_column(alloc, table, id, new),
+        ModifyColumn(table, id, formula) => modify_column(alloc, table, id, formula),
+    }
 }

@@ -1,23 +1,25 @@
 //! Bounds and tests of rows against values from outside. What documents and views are at traps is
 //! computed in proofs/Traps.antt.
 
-use cell_types::{CellText, ColType, Name};
-use doc_model::{ColDef, ColInfo, LimitKind, are_rows_once, place_of_column};
+use crate::actions::x_and_y;
+use doc_model::{ColDefList, LimitKind, are_rows_once, place_of_column};
 use std::alloc::{AllocError, Global};
+
+static BOUNDS: [(LimitKind, u64); 8] = [
+    (LimitKind::Actions, 2_000),
+    (LimitKind::Sessions, 1_024),
+    (LimitKind::Tables, 2_048),
+    (LimitKind::Columns, 1_024),
+    (LimitKind::Rows, 1_000_000),
+    (LimitKind::RowId, 4_294_967_295),
+    (LimitKind::Cells, 4_000_000),
+    (LimitKind::Weight, 268_435_456),
+];
 
 #[test]
 fn limits_have_their_bounds(rt: HostRuntime) {
-    for (kind, bound) in [
-        (LimitKind::Actions, 2_000),
-        (LimitKind::Sessions, 1_024),
-        (LimitKind::Tables, 2_048),
-        (LimitKind::Columns, 1_024),
-        (LimitKind::Rows, 1_000_000),
-        (LimitKind::RowId, 4_294_967_295),
-        (LimitKind::Cells, 4_000_000),
-        (LimitKind::Weight, 268_435_456),
-    ] {
-        assert_eq!(rt; kind.bound(), bound);
+    for row in &BOUNDS {
+        assert!(rt; row.0.bound() == row.1, "not {}", row.1);
     }
 }
 
@@ -27,28 +29,23 @@ fn repeated_rows_are_found_in_any_order(rt: HostRuntime) {
     assert!(rt; !are_rows_once(&[2, 1, 2]));
 }
 
-fn column(alloc: Global, id: &str, row: u32) -> Result<Option<ColDef>, AllocError> {
-    let Some(id) = Name::try_new(CellText::copy_of(alloc, id)?) else {
-        return Ok(None);
-    };
-    let info = ColInfo {
-        ty: ColType::Any,
-        is_formula: false,
-        formula: CellText::empty(alloc),
-    };
-    Ok(Some(ColDef { id, info, row }))
+// Metadata rows, and the places of such columns among those of the rows 2 and 5.
+static PLACES: [(u32, usize); 5] = [(1, 0), (2, 1), (3, 1), (5, 2), (9, 2)];
+
+fn is_place(columns: &Result<ColDefList, AllocError>, row: u32, place: usize) -> bool {
+    match columns {
+        Ok(columns) => place_of_column(columns.as_slice(), row) == place,
+        Err(_) => false,
+    }
+}
+
+fn goes_to(alloc: Global, row: u32, place: usize) -> bool {
+    is_place(&x_and_y(alloc, 5, 2), row, place)
 }
 
 #[test]
-fn a_column_goes_before_greater_rows(rt: HostRuntime) -> Result<(), AllocError> {
-    let mut columns = Vec::new(rt.alloc());
-    for (id, row) in [("A", 2), ("B", 5)] {
-        if let Some(column) = column(rt.alloc(), id, row)? {
-            columns.push(column)?;
-        }
+fn a_column_goes_before_greater_rows(rt: HostRuntime) {
+    for row in &PLACES {
+        assert!(rt; goes_to(rt.alloc(), row.0, row.1), "not {}", row.0);
     }
-    for (row, place) in [(1, 0), (2, 1), (3, 1), (5, 2), (9, 2)] {
-        assert_eq!(rt; place_of_column(&columns, row), place);
-    }
-    Ok(())
 }

@@ -3,22 +3,128 @@
 //! and so are those that take something else away, not those that take what is too much
 //! (`takes_away_what_is_above_the_limits`). The last row id is taken, of a record or of a row that
 //! describes a column (`no_record_comes_behind_the_last_row`, `no_column_comes_behind_the_last_row`).
-//! An end is the bound of the limit, 0 for steps, 1 for a refusal.
+//! An end is the bound of the limit that would be passed, 0 for steps; what is refused has none. Want
+//! of memory counts as false.
 
 ghost use Rattle.std.specs.Prelude.{◌≡◌, true};
 ghost use Rattle.doc_model.specs.DocumentLaws.{IsWhole};
+ghost use Rattle.user_actions.specs.Allowed.{is_allowed};
 ghost use Rattle.user_actions.specs.StepLaws.{is_well_formed};
 
-use crate::actions::{add, add_column, column, name};
-use crate::tests::is_done;
+use crate::actions::Change;
+use crate::tests::{Deed, does};
+use Asked::{
+    AddColumn, AddFullTable, AddRecord, AddTable, RemoveColumn, RemoveRecord, RemoveTable,
+    RenameTable,
+};
 use action_limits::{Expansion, Tally, expand};
 use cell_types::CellText;
 use doc_model::laws::new_document_law;
-use doc_model::{ColDefList, DocAction, IdList, UserAction, UserCol, UserColList, UserColumnList};
+use doc_model::{IdList, UserAction, UserCol, UserColList, UserColumnList, View};
 use row_tables::RowTables;
 use std::alloc::{AllocError, Global};
 use user_actions::refuse;
 use view_parts::{allowed_law, whole_view};
+
+// User actions: of records and columns of `Table1`, where no table is named, a new column `D`, and a
+// new table `New` of no columns or of that one.
+enum Asked {
+    AddRecord,
+    RemoveRecord(i64),
+    AddTable,
+    AddFullTable,
+    AddColumn,
+    RenameTable,
+    RemoveTable(&'static str),
+    RemoveColumn(&'static str, &'static str),
+}
+
+fn text(alloc: Global, said: &str) -> Result<CellText, AllocError> {
+    CellText::copy_of(alloc, said)
+}
+
+fn new_column(alloc: Global) -> Result<UserCol, AllocError> {
+    let id = text(alloc, "D")?;
+    Ok(UserCol {
+        id,
+        ty: None,
+        is_formula: None,
+        formula: None,
+    })
+}
+
+fn add_record(alloc: Global) -> Result<UserAction, AllocError> {
+    let table = text(alloc, "Table1")?;
+    Ok(UserAction::Add {
+        table,
+        single: true,
+        count: 1,
+        explicit: false,
+        columns: UserColumnList::new(alloc),
+    })
+}
+
+fn remove_record(alloc: Global, row: i64) -> Result<UserAction, AllocError> {
+    let rows = IdList::from(Vec::from_array(alloc, [row])?);
+    let table = text(alloc, "Table1")?;
+    Ok(UserAction::Remove {
+        table,
+        single: true,
+        rows,
+    })
+}
+
+fn new_columns(alloc: Global) -> Result<UserColList, AllocError> {
+    let mut columns = UserColList::new(alloc);
+    columns.push(new_column(alloc)?)?;
+    Ok(columns)
+}
+
+fn table_of(alloc: Global, columns: UserColList) -> Result<UserAction, AllocError> {
+    let table = text(alloc, "New")?;
+    Ok(UserAction::AddTable { table, columns })
+}
+
+fn full_table(alloc: Global) -> Result<UserAction, AllocError> {
+    let columns = new_columns(alloc)?;
+    table_of(alloc, columns)
+}
+
+fn add_column(alloc: Global) -> Result<UserAction, AllocError> {
+    let column = new_column(alloc)?;
+    let table = text(alloc, "Table1")?;
+    Ok(UserAction::AddColumn { table, column })
+}
+
+fn rename_table(alloc: Global) -> Result<UserAction, AllocError> {
+    let table = text(alloc, "Table1")?;
+    let new = text(alloc, "Other")?;
+    Ok(UserAction::RenameTable { table, new })
+}
+
+fn remove_table(alloc: Global, table: &str) -> Result<UserAction, AllocError> {
+    let table = text(alloc, table)?;
+    Ok(UserAction::RemoveTable { table })
+}
+
+fn remove_column(alloc: Global, table: &str, id: &str) -> Result<UserAction, AllocError> {
+    let table = text(alloc, table)?;
+    let column = text(alloc, id)?;
+    Ok(UserAction::RemoveColumn { table, column })
+}
+
+fn user_action(alloc: Global, asked: &Asked) -> Result<UserAction, AllocError> {
+    match asked {
+        AddRecord => add_record(alloc),
+        RemoveRecord(row) => remove_record(alloc, *row),
+        AddTable => table_of(alloc, UserColList::new(alloc)),
+        AddFullTable => full_table(alloc),
+        AddColumn => add_column(alloc),
+        RenameTable => rename_table(alloc),
+        RemoveTable(table) => remove_table(alloc, table),
+        RemoveColumn(table, id) => remove_column(alloc, table, id),
+    }
+}
 
 // Whether the action gives no values, so that it gives each column once.
 fn is_bare(action: &UserAction) -> bool
@@ -31,220 +137,125 @@ fn is_bare(action: &UserAction) -> bool
     }
 }
 
-// The bound of the limit that would be passed, 0 where there are steps, 1 where it is refused.
-fn end_of(alloc: Global, document: &RowTables, action: &UserAction) -> Result<u64, AllocError>
+// Whether nothing stands against the action.
+fn is_unrefused(alloc: Global, document: &RowTables, action: &UserAction) -> bool
     requires { IsWhole document.now }
+    ensures { result ≡ true → is_allowed document.now action.now ≡ true }
 {
-    let view = whole_view(alloc, document, true)?;
-    if refuse(alloc, &view, action, 0)?.is_some() || !is_bare(action) {
-        return Ok(1);
-    }
-    allowed_law();
-    let Some(tally) = Tally::of(document) else {
-        return Ok(1);
+    let Ok(view) = whole_view(alloc, document, true) else {
+        return false;
     };
-    match expand(alloc, document, tally, action)? {
-        Expansion::Steps { .. } => Ok(0),
-        Expansion::Limit(kind) => Ok(kind.bound()),
+    allowed_law();
+    matches!(refuse(alloc, &view, action, 0), Ok(None))
+}
+
+fn is_end(expansion: &Result<Expansion, AllocError>, end: u64) -> bool {
+    match expansion {
+        Ok(Expansion::Steps { .. }) => end == 0,
+        Ok(Expansion::Limit(kind)) => kind.bound() == end,
+        Err(_) => false,
     }
 }
 
-// The ends of actions, each of the same document.
-fn ends(alloc: Global, document: &RowTables, actions: &[UserAction]) -> Result<String, AllocError>
+fn ends_at(alloc: Global, document: &RowTables, action: &UserAction, end: u64) -> bool
     requires { IsWhole document.now }
 {
-    let mut text = String::new(alloc);
-    for action in actions {
-        let end = end_of(alloc, document, action)?;
-        write!(text, "{end} ")?;
+    if !is_unrefused(alloc, document, action) || !is_bare(action) {
+        return false;
     }
-    Ok(text)
+    let Some(tally) = Tally::of(document) else {
+        return false;
+    };
+    is_end(&expand(alloc, document, tally, action), end)
 }
 
-fn text(alloc: Global, said: &str) -> Result<CellText, AllocError> {
-    CellText::copy_of(alloc, said)
+// User actions and their ends.
+type Row = (Asked, u64);
+
+fn is_so(
+    alloc: Global,
+    document: &RowTables,
+    action: &Result<UserAction, AllocError>,
+    end: u64,
+) -> bool
+    requires { IsWhole document.now }
+{
+    match action {
+        Ok(action) => ends_at(alloc, document, action, end),
+        Err(_) => false,
+    }
 }
 
-fn new_column(alloc: Global, id: &str) -> Result<UserCol, AllocError> {
-    Ok(UserCol {
-        id: text(alloc, id)?,
-        ty: None,
-        is_formula: None,
-        formula: None,
-    })
+fn is_row(alloc: Global, document: &RowTables, row: &Row) -> bool
+    requires { IsWhole document.now }
+{
+    is_so(alloc, document, &user_action(alloc, &row.0), row.1)
 }
 
-fn adds_record(alloc: Global) -> Result<UserAction, AllocError> {
-    Ok(UserAction::Add {
-        table: text(alloc, "Table1")?,
-        single: true,
-        count: 1,
-        explicit: false,
-        columns: UserColumnList::new(alloc),
-    })
+fn are_rows(alloc: Global, document: &RowTables, rows: &[Row]) -> bool
+    requires { IsWhole document.now }
+{
+    for row in rows {
+        if !is_row(alloc, document, row) {
+            return false;
+        }
+    }
+    true
 }
 
-fn removes_record(alloc: Global, row: i64) -> Result<UserAction, AllocError> {
-    Ok(UserAction::Remove {
-        table: text(alloc, "Table1")?,
-        single: true,
-        rows: IdList::from(Vec::from_array(alloc, [row])?),
-    })
-}
-
-fn adds_table(alloc: Global) -> Result<UserAction, AllocError> {
-    Ok(UserAction::AddTable {
-        table: text(alloc, "New")?,
-        columns: UserColList::new(alloc),
-    })
-}
-
-fn adds_full_table(alloc: Global) -> Result<UserAction, AllocError> {
-    Ok(UserAction::AddTable {
-        table: text(alloc, "New")?,
-        columns: UserColList::from(Vec::from_array(alloc, [new_column(alloc, "D")?])?),
-    })
-}
-
-fn adds_column(alloc: Global) -> Result<UserAction, AllocError> {
-    Ok(UserAction::AddColumn {
-        table: text(alloc, "Table1")?,
-        column: new_column(alloc, "D")?,
-    })
-}
-
-fn renames_table(alloc: Global) -> Result<UserAction, AllocError> {
-    Ok(UserAction::RenameTable {
-        table: text(alloc, "Table1")?,
-        new: text(alloc, "Other")?,
-    })
-}
-
-fn removes_table(alloc: Global, table: &str) -> Result<UserAction, AllocError> {
-    Ok(UserAction::RemoveTable {
-        table: text(alloc, table)?,
-    })
-}
-
-fn removes_column(alloc: Global, table: &str, id: &str) -> Result<UserAction, AllocError> {
-    Ok(UserAction::RemoveColumn {
-        table: text(alloc, table)?,
-        column: text(alloc, id)?,
-    })
+// Whether the actions have these ends in a new document after another action.
+fn come_to(alloc: Global, before: &Change, rows: &[Row]) -> bool {
+    new_document_law();
+    let Ok(mut document) = RowTables::new_document(alloc) else {
+        return false;
+    };
+    does(alloc, &mut document, before, Deed::Done) && are_rows(alloc, &document, rows)
 }
 
 // Actions that keep the peaks of a document, or bring more.
-fn of_each_bringing_kind(alloc: Global) -> Result<Vec<UserAction>, AllocError> {
-    let mut actions = Vec::new(alloc);
-    actions.push(renames_table(alloc)?)?;
-    actions.push(adds_record(alloc)?)?;
-    actions.push(adds_table(alloc)?)?;
-    actions.push(adds_column(alloc)?)?;
-    Ok(actions)
+static BRINGING: [Row; 4] = [
+    (RenameTable, 1024),
+    (AddRecord, 1024),
+    (AddTable, 1024),
+    (AddColumn, 1024),
+];
+
+#[test]
+fn brings_nothing_above_the_limits(rt: HostRuntime) {
+    assert!(rt; come_to(rt.alloc(), &Change::AddWideTable, &BRINGING));
 }
 
 // Actions that take a column or a table away.
-fn of_each_taking_kind(alloc: Global) -> Result<Vec<UserAction>, AllocError> {
-    let mut actions = Vec::new(alloc);
-    actions.push(removes_column(alloc, "Table1", "A")?)?;
-    actions.push(removes_column(alloc, "Wide", "C1")?)?;
-    actions.push(removes_table(alloc, "Table1")?)?;
-    actions.push(removes_table(alloc, "Wide")?)?;
-    Ok(actions)
-}
-
-fn of_records(alloc: Global) -> Result<Vec<UserAction>, AllocError> {
-    let mut actions = Vec::new(alloc);
-    actions.push(adds_record(alloc)?)?;
-    actions.push(removes_record(alloc, 4_294_967_295)?)?;
-    Ok(actions)
-}
-
-fn of_metadata_rows(alloc: Global) -> Result<Vec<UserAction>, AllocError> {
-    let mut actions = Vec::new(alloc);
-    actions.push(adds_column(alloc)?)?;
-    actions.push(adds_full_table(alloc)?)?;
-    actions.push(adds_table(alloc)?)?;
-    Ok(actions)
-}
-
-// A table of one column more than a table may have.
-fn wide_table(alloc: Global) -> Result<DocAction, AllocError> {
-    let mut columns = Vec::new(alloc);
-    for place in 0..1025u32 {
-        let id = format!(in alloc; "C{place}")?;
-        columns.push(column(alloc, id.as_str(), 100 + place)?)?;
-    }
-    Ok(DocAction::AddTable {
-        table: name(alloc, "Wide")?,
-        row: 2,
-        columns: ColDefList::from(columns),
-    })
-}
-
-// Whether the actions come to these ends in a new document after another action.
-fn come_to(
-    alloc: Global,
-    before: &DocAction,
-    actions: &[UserAction],
-    wanted: &str,
-) -> Result<bool, AllocError> {
-    let mut document = RowTables::new_document(alloc)?;
-    new_document_law();
-    if !is_done(alloc, &mut document, before) {
-        return Err(AllocError);
-    }
-    Ok(ends(alloc, &document, actions)?.as_str() == wanted)
-}
-
-fn bringing(alloc: Global, wanted: &str) -> Result<bool, AllocError> {
-    let before = wide_table(alloc)?;
-    let actions = of_each_bringing_kind(alloc)?;
-    come_to(alloc, &before, &actions, wanted)
-}
-
-fn taking(alloc: Global, wanted: &str) -> Result<bool, AllocError> {
-    let before = wide_table(alloc)?;
-    let actions = of_each_taking_kind(alloc)?;
-    come_to(alloc, &before, &actions, wanted)
-}
-
-fn behind_the_last_record(alloc: Global, wanted: &str) -> Result<bool, AllocError> {
-    let before = add(alloc, "Table1", [1, 4_294_967_295], "A", [1, 2])?;
-    let actions = of_records(alloc)?;
-    come_to(alloc, &before, &actions, wanted)
-}
-
-fn behind_the_last_column(alloc: Global, wanted: &str) -> Result<bool, AllocError> {
-    let before = add_column(alloc, "Table1", "Z", 4_294_967_295)?;
-    let actions = of_metadata_rows(alloc)?;
-    come_to(alloc, &before, &actions, wanted)
-}
+static TAKING: [Row; 4] = [
+    (RemoveColumn("Table1", "A"), 1024),
+    (RemoveColumn("Wide", "C1"), 0),
+    (RemoveTable("Table1"), 1024),
+    (RemoveTable("Wide"), 0),
+];
 
 #[test]
-fn brings_nothing_above_the_limits(rt: HostRuntime) -> Result<(), AllocError> {
-    let told = bringing(rt.alloc(), "1024 1024 1024 1024 ")?;
-    assert!(rt; told);
-    Ok(())
+fn takes_away_what_is_above_the_limits(rt: HostRuntime) {
+    assert!(rt; come_to(rt.alloc(), &Change::AddWideTable, &TAKING));
 }
 
-#[test]
-fn takes_away_what_is_above_the_limits(rt: HostRuntime) -> Result<(), AllocError> {
-    let told = taking(rt.alloc(), "1024 0 1024 0 ")?;
-    assert!(rt; told);
-    Ok(())
-}
+static LAST_RECORD: Change = Change::Add("Table1", [1, 4_294_967_295], "A", [1, 2]);
+
+static RECORDS: [Row; 2] = [(AddRecord, 4_294_967_295), (RemoveRecord(4_294_967_295), 0)];
 
 #[test]
-fn no_record_comes_behind_the_last_row(rt: HostRuntime) -> Result<(), AllocError> {
-    let told = behind_the_last_record(rt.alloc(), "4294967295 0 ")?;
-    assert!(rt; told);
-    Ok(())
+fn no_record_comes_behind_the_last_row(rt: HostRuntime) {
+    assert!(rt; come_to(rt.alloc(), &LAST_RECORD, &RECORDS));
 }
 
+static LAST_COLUMN: Change = Change::AddColumn("Table1", "Z", 4_294_967_295);
+
+static METADATA_ROWS: [Row; 3] = [
+    (AddColumn, 4_294_967_295),
+    (AddFullTable, 4_294_967_295),
+    (AddTable, 0),
+];
+
 #[test]
-fn no_column_comes_behind_the_last_row(rt: HostRuntime) -> Result<(), AllocError> {
-    let told = behind_the_last_column(rt.alloc(), "4294967295 4294967295 0 ")?;
-    assert!(rt; told);
-    Ok(())
+fn no_column_comes_behind_the_last_row(rt: HostRuntime) {
+    assert!(rt; come_to(rt.alloc(), &LAST_COLUMN, &METADATA_ROWS));
 }

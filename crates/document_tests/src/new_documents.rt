@@ -3,17 +3,34 @@
 
 use doc_model::DocTables;
 use row_tables::RowTables;
-use std::alloc::AllocError;
+use std::alloc::{AllocError, Global};
+
+// Whether the document has one plain table, of this id and three columns.
+fn is_new(document: &RowTables, id: &str) -> bool {
+    match document.table(4) {
+        Some(first) => {
+            first.as_str() == id
+                && document.table(5).is_none()
+                && document.column(first, 2).is_some()
+                && document.column(first, 3).is_none()
+                && document.rows(first).is_some()
+        }
+        None => false,
+    }
+}
+
+fn is_made(document: &Result<RowTables, AllocError>, id: &str) -> bool {
+    match document {
+        Ok(document) => is_new(document, id),
+        Err(_) => false,
+    }
+}
+
+fn makes_one(alloc: Global) -> bool {
+    is_made(&RowTables::new_document(alloc), "Table1")
+}
 
 #[test]
-fn a_new_document_has_one_plain_table(rt: HostRuntime) -> Result<(), AllocError> {
-    let document = RowTables::new_document(rt.alloc())?;
-    assert!(rt; document.table(4).is_some() && document.table(5).is_none());
-    if let Some(first) = document.table(4) {
-        assert_eq!(rt; first.as_str(), "Table1");
-        assert!(rt; document.column(first, 2).is_some());
-        assert!(rt; document.column(first, 3).is_none());
-        assert!(rt; document.rows(first).is_some());
-    }
-    Ok(())
+fn a_new_document_has_one_plain_table(rt: HostRuntime) {
+    assert!(rt; makes_one(rt.alloc()));
 }

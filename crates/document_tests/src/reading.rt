@@ -50,13 +50,18 @@ fn write_cells(
     Ok(())
 }
 
-fn write_table(text: &mut String, document: &RowTables, table: &Name) -> Result<(), AllocError> {
-    write!(text, "; {}", table.as_str())?;
+fn write_columns(text: &mut String, document: &RowTables, table: &Name) -> Result<(), AllocError> {
     for place in 0..9 {
         if let Some(column) = document.column(table, place) {
             write_column(text, column)?;
         }
     }
+    Ok(())
+}
+
+fn write_table(text: &mut String, document: &RowTables, table: &Name) -> Result<(), AllocError> {
+    write!(text, "; {}", table.as_str())?;
+    write_columns(text, document, table)?;
     if let Some(rows) = document.rows(table) {
         for row in rows {
             write_cells(text, document, table, *row)?;
@@ -73,10 +78,8 @@ fn rows_at(document: &RowTables, place: usize) -> &[u32] {
     }
 }
 
-/// Adds the document in that form, up to five plain tables of nine columns.
-pub(crate) fn write_reading(text: &mut String, document: &RowTables) -> Result<(), AllocError> {
-    write_rows(text, "T", rows_at(document, 0))?;
-    write_rows(text, "; C", rows_at(document, 1))?;
+// Adds the plain tables, up to five.
+fn write_tables(text: &mut String, document: &RowTables) -> Result<(), AllocError> {
     for place in 4..9 {
         if let Some(table) = document.table(place) {
             write_table(text, document, table)?;
@@ -85,9 +88,23 @@ pub(crate) fn write_reading(text: &mut String, document: &RowTables) -> Result<(
     Ok(())
 }
 
-/// The document in that form.
-pub(crate) fn reading(alloc: Global, document: &RowTables) -> Result<String, AllocError> {
+// The document in that form, up to five plain tables of nine columns.
+fn reading(alloc: Global, document: &RowTables) -> Result<String, AllocError> {
     let mut text = String::new(alloc);
-    write_reading(&mut text, document)?;
+    write_rows(&mut text, "T", rows_at(document, 0))?;
+    write_rows(&mut text, "; C", rows_at(document, 1))?;
+    write_tables(&mut text, document)?;
     Ok(text)
+}
+
+fn is_text(text: &Result<String, AllocError>, want: &str) -> bool {
+    match text {
+        Ok(text) => text.as_str() == want,
+        Err(_) => false,
+    }
+}
+
+/// Whether the document has this form.
+pub(crate) fn reads_as(alloc: Global, document: &RowTables, want: &str) -> bool {
+    is_text(&reading(alloc, document), want)
 }

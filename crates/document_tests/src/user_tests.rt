@@ -29,38 +29,36 @@ fn steps_of_table(
     steps(alloc, document, &action)
 }
 
-// Whether the steps are one that the rules are asked about, and adds this table.
-fn is_table(steps: &[Step], wanted: &str, wanted_row: u32) -> bool {
-    match steps {
-        [step] => match &step.action {
-            DocAction::AddTable {
-                table,
-                row,
-                columns,
-            } => {
-                step.direct && table.as_str() == wanted && *row == wanted_row && columns.is_empty()
-            }
-            _ => false,
-        },
+// Whether the step is one that the rules are asked about, and adds this table without columns.
+fn is_addition(step: &Step, wanted: &str, wanted_row: u32) -> bool {
+    match &step.action {
+        DocAction::AddTable {
+            table,
+            row,
+            columns,
+        } => step.direct && table.as_str() == wanted && *row == wanted_row && columns.is_empty(),
         _ => false,
     }
 }
 
-fn new_table(alloc: Global, wanted: &str, made: &str) -> Result<bool, AllocError> {
-    let document = RowTables::new_document(alloc)?;
-    new_document_law();
-    match steps_of_table(alloc, &document, wanted)? {
-        Some(steps) => Ok(is_table(steps.as_slice(), made, 2)),
-        None => Ok(false),
+// Whether the steps are this one.
+fn are_addition(steps: &Result<Option<StepList>, AllocError>, made: &str) -> bool {
+    match steps {
+        Ok(Some(steps)) => steps.len() == 1 && is_addition(&steps.as_slice()[0], made, 2),
+        _ => false,
     }
 }
 
+fn is_made(alloc: Global, wanted: &str, made: &str) -> bool {
+    new_document_law();
+    let Ok(document) = RowTables::new_document(alloc) else {
+        return false;
+    };
+    are_addition(&steps_of_table(alloc, &document, wanted), made)
+}
+
 #[test]
-fn a_new_table_is_one_step(rt: HostRuntime) -> Result<(), AllocError> {
-    let alloc = rt.alloc();
-    let free = new_table(alloc, "Work", "Work")?;
-    assert!(rt; free);
-    let taken = new_table(alloc, "Table1", "Table12")?;
-    assert!(rt; taken);
-    Ok(())
+fn a_new_table_is_one_step(rt: HostRuntime) {
+    assert!(rt; is_made(rt.alloc(), "Work", "Work"), "not free");
+    assert!(rt; is_made(rt.alloc(), "Table1", "Table12"), "not taken");
 }

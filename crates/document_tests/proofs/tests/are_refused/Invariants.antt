@@ -2,5 +2,5 @@ use Rattle.doc_model.specs.DocumentLaws.{IsWhole}
 use Rattle.document_tests.proofs.tests.are_refused.Given as goal
 
 -- the document stays whole
-abbrev pub invariant-loop-action : goal.invariant-loop-action
-invariant-loop-action l = IsWhole l.document
+abbrev pub invariant-loop-change : goal.invariant-loop-change
+invariant-loop-change l = IsWhole l.document

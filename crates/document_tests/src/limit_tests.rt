@@ -20,7 +20,7 @@ use Asked::{
 use action_limits::{Expansion, Tally, expand};
 use cell_types::CellText;
 use doc_model::laws::new_document_law;
-use doc_model::{IdList, UserAction, UserCol, UserColList, UserColumnList, View};
+use doc_model::{IdList, UserAction, UserCol, UserColList, UserColumnList};
 use row_tables::RowTables;
 use std::alloc::{AllocError, Global};
 use user_actions::refuse;
@@ -172,6 +172,7 @@ fn ends_at(alloc: Global, document: &RowTables, action: &UserAction, end: u64) -
 // User actions and their ends.
 type Row = (Asked, u64);
 
+// Whether the action was made, and has this end.
 fn is_so(
     alloc: Global,
     document: &RowTables,

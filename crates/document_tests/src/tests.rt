@@ -164,27 +164,47 @@ fn meets(alloc: Global, document: &mut RowTables, action: &DocAction, deed: Deed
     }
 }
 
+// The action that the words stand for, as a list: one way out that drops a list is proved sooner than
+// one that drops an action.
+fn single(alloc: Global, change: &Change) -> Result<DocActionList, AllocError> {
+    let mut actions = DocActionList::new(alloc);
+    actions.push(action_of(alloc, change)?)?;
+    Ok(actions)
+}
+
+fn one_meets(alloc: Global, document: &mut RowTables, actions: &[DocAction], deed: Deed) -> bool
+    requires { IsWhole document.old }
+    ensures { IsWhole document.new }
+{
+    if actions.len() == 1 {
+        meets(alloc, document, &actions[0], deed)
+    } else {
+        false
+    }
+}
+
+// Whether the action was made, and this comes of it.
 fn is_made(
     alloc: Global,
     document: &mut RowTables,
-    action: &Result<DocAction, AllocError>,
+    actions: &Result<DocActionList, AllocError>,
     deed: Deed,
 ) -> bool
     requires { IsWhole document.old }
     ensures { IsWhole document.new }
 {
-    match action {
-        Ok(action) => meets(alloc, document, action, deed),
+    match actions {
+        Ok(actions) => one_meets(alloc, document, actions.as_slice(), deed),
         Err(_) => false,
     }
 }
 
-/// Whether this comes of the action that the words stand for. No other function owns an action.
+/// Whether this comes of the action that the words stand for.
 pub(crate) fn does(alloc: Global, document: &mut RowTables, change: &Change, deed: Deed) -> bool
     requires { IsWhole document.old }
     ensures { IsWhole document.new }
 {
-    is_made(alloc, document, &action_of(alloc, change), deed)
+    is_made(alloc, document, &single(alloc, change), deed)
 }
 
 static RECORDS: Change = Add("Table1", [1, 2], "A", [5, 6]);

@@ -271,9 +271,3 @@ fn std_streams(rt: HostRuntime) {
     let mut sink = StdSink::new(Vec::<u8>::new(rt.alloc()));
     assert!(rt; takes_all(&mut sink));
 }
-
-#[test]
-fn laws_stand(_rt: HostRuntime) {
-    stream_law();
-    kept_law();
-}

@@ -466,9 +466,3 @@ fn printed_frame(rt: HostRuntime) {
     let want = r#"{"line":{"ok":null},"session":"séance"}"#;
     assert!(rt; frames_done(rt.alloc(), "séance", want));
 }
-
-#[test]
-fn laws_stand(_rt: HostRuntime) {
-    one_reading_law();
-    frame_law();
-}

@@ -24,7 +24,7 @@ use std::alloc::{AllocError, Global};
 use user_actions::{last_row, steps, table_of};
 
 /// What a user action comes to.
-#[derive(Debug, Drop)]
+#[derive(Drop)]
 pub enum Expansion {
     /// Its document actions, and the tally of the document after them.
     Steps { steps: StepList, tally: Tally },

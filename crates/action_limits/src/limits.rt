@@ -14,7 +14,7 @@ use doc_readers::{is_schema_id, rows_in, tables_table};
 use user_actions::last_row;
 
 /// What is counted of a document.
-#[derive(Clone, Copy, Debug)]
+#[derive(Clone, Copy)]
 pub(crate) struct Counted {
     pub(crate) tables: u64,
     pub(crate) columns: u64,
@@ -25,7 +25,7 @@ pub(crate) struct Counted {
 }
 
 /// The most columns, the most rows and the greatest row id of tables.
-#[derive(Clone, Copy, Debug)]
+#[derive(Clone, Copy)]
 pub(crate) struct Extent {
     pub(crate) columns: u64,
     pub(crate) rows: u64,

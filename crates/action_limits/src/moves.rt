@@ -17,7 +17,7 @@ use doc_model::{CellColumn, ColDef, DocAction, DocTables, Step};
 use doc_readers::{find_column, rows_in};
 
 /// Tables, cells and weight, each as far as 64 bits can tell.
-#[derive(Clone, Copy, Debug)]
+#[derive(Clone, Copy)]
 pub(crate) struct Moved {
     pub(crate) tables: u64,
     pub(crate) cells: u64,

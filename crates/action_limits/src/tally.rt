@@ -11,7 +11,7 @@ use doc_model::DocTables;
 
 /// The counted sums of a document, kept from one action to the next: its tables, its cells and their
 /// weight in bytes; and whether no table has too many columns or rows, or too great a row id.
-#[derive(Clone, Copy, Debug, PartialEq, Eq)]
+#[derive(Clone, Copy)]
 pub struct Tally {
     pub tables: u64,
     pub cells: u64,

@@ -26,7 +26,7 @@ pub const MAX_HISTORY_BYTES: u32 = 268_435_456;
 pub type LineList = Sequence<Line>;
 
 /// What a step answers.
-#[derive(Debug, Drop)]
+#[derive(Drop)]
 pub enum Answer {
     /// The lines that the session is given, in this order.
     Lines(LineList),

@@ -18,7 +18,7 @@ use view_parts::{is_column_shown, rows_shown};
 
 /// What one user action made, under the ids as it left them: nothing, a record, records, a table, or a
 /// column.
-#[derive(Debug, Drop)]
+#[derive(Drop)]
 pub(crate) enum Made {
     Nothing,
     Record { table: Name, row: u32 },

@@ -13,7 +13,7 @@ use std::marker::Model;
 pub const MAX_TEXT_BYTES: usize = 65_536;
 
 /// Why a text stopped growing.
-#[derive(Clone, Copy, Debug, PartialEq, Eq)]
+#[derive(Clone, Copy)]
 pub(crate) enum TextEnd {
     TooLong,
     NoMemory,

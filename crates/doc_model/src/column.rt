@@ -12,7 +12,7 @@ pub struct ColInfo {
 
 /// A column with its id and the row of `_grist_Tables_column` that describes it; the columns of the
 /// metadata tables, which nothing describes, have row 0.
-#[derive(Clone, Debug, Drop)]
+#[derive(Clone, Drop)]
 pub struct ColDef {
     pub id: Name,
     pub info: ColInfo,

@@ -7,7 +7,7 @@ use cell_types::{Name, Sequence};
 ///
 /// Units: the size is the byte count of the request's line without its newline, at most 1,048,577.
 /// `kept` is false exactly where the keeper failed in that entry.
-#[derive(Debug, Drop)]
+#[derive(Drop)]
 pub struct Entry {
     pub session: Name,
     pub request: Request,

@@ -30,7 +30,7 @@ pub const MAX_CELLS: u64 = 4_000_000;
 pub const MAX_WEIGHT_BYTES: u64 = 268_435_456;
 
 /// What is counted against a bound.
-#[derive(Clone, Copy, Debug, PartialEq, Eq)]
+#[derive(Clone, Copy)]
 pub enum LimitKind {
     Actions,
     Sessions,
@@ -44,14 +44,14 @@ pub enum LimitKind {
 
 /// The rule that denied an action: its row of `_grist_ACLRules`, 0 for the built-in rule, and its
 /// memo.
-#[derive(Debug, Drop)]
+#[derive(Drop)]
 pub struct RuleRef {
     pub row: u32,
     pub memo: CellText,
 }
 
 /// Why the action with that place in its bundle is refused: a kind by its code, or a limit.
-#[derive(Clone, Copy, Debug, PartialEq, Eq)]
+#[derive(Clone, Copy)]
 pub enum Refusal {
     Kind {
         code: u8,

@@ -3,7 +3,7 @@
 use cell_types::{CellText, Sequence};
 
 /// A user, who opens a document by the token. Access is `owners`, `editors`, `viewers` or nothing.
-#[derive(Clone, Debug, Drop)]
+#[derive(Clone, Drop)]
 pub struct User {
     pub token: CellText,
     pub access: Option<CellText>,

@@ -4,7 +4,7 @@ use crate::{CellRowList, ColumnList};
 use cell_types::{CellText, ColType, Name, RowList, Sequence};
 
 /// A column as a user sees it; a formula that is hidden is nothing.
-#[derive(Clone, Debug, Drop)]
+#[derive(Clone, Drop)]
 pub struct ViewCol {
     pub id: Name,
     pub ty: ColType,
@@ -14,7 +14,7 @@ pub struct ViewCol {
 
 /// A table as a user sees it: columns by id, row ids that ascend, and the cells of each row in the
 /// order of the columns.
-#[derive(Debug, Drop)]
+#[derive(Drop)]
 pub struct ViewTable {
     pub id: Name,
     pub columns: ViewColList,
@@ -23,13 +23,13 @@ pub struct ViewTable {
 }
 
 /// What a user sees of a document: tables by id.
-#[derive(Debug, Drop)]
+#[derive(Drop)]
 pub struct View {
     pub tables: ViewTableList,
 }
 
 /// One change of a view.
-#[derive(Debug, Drop)]
+#[derive(Drop)]
 pub enum ViewAction {
     AddTable {
         table: Name,

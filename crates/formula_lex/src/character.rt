@@ -8,7 +8,7 @@ use crate::token::Sign;
 use unicode_ident::is_xid_start;
 
 /// A sign of which a second character may be part.
-#[derive(Clone, Copy, Debug, PartialEq, Eq)]
+#[derive(Clone, Copy)]
 pub enum Half {
     Slash,
     Bang,
@@ -18,7 +18,7 @@ pub enum Half {
 }
 
 /// What a character begins, where no token is open.
-#[derive(Clone, Copy, Debug, PartialEq, Eq)]
+#[derive(Clone, Copy)]
 pub enum Class {
     Blank,
     Digit,

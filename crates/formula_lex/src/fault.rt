@@ -4,7 +4,7 @@ use std::alloc::{AllocError, AllocFailed};
 use std::fmt;
 
 /// Why a text has no tokens.
-#[derive(Clone, Copy, Debug, PartialEq, Eq)]
+#[derive(Clone, Copy, Debug)]
 pub enum LexFault {
     /// No list of tokens spells the text. The place is that of the character that ends the reading.
     ///
@@ -43,7 +43,7 @@ impl From<AllocError> for LexFault {
 }
 
 // What ends the reading at a character, whose place the loop knows.
-#[derive(Clone, Copy, Debug, PartialEq, Eq)]
+#[derive(Clone, Copy)]
 pub(crate) enum Stop {
     Bad,
     NoMemory,

@@ -8,7 +8,7 @@ use std::alloc::{AllocError, AllocFailed, Global};
 use std::marker::Model;
 
 /// A sign of one or two characters.
-#[derive(Clone, Copy, Debug, PartialEq, Eq)]
+#[derive(Clone, Copy, Debug)]
 pub enum Sign {
     /// `+`
     Plus,
@@ -49,7 +49,7 @@ pub enum Sign {
 }
 
 /// What a token is.
-#[derive(Debug, Drop)]
+#[derive(Drop)]
 pub enum TokenKind {
     /// Decimal digits, by their value.
     Number(u64),
@@ -66,7 +66,7 @@ pub enum TokenKind {
 /// A token, and the bytes of the text that it takes.
 ///
 /// Units: `from` and `to` count bytes; `to` is the place behind the token.
-#[derive(Debug, Drop)]
+#[derive(Drop)]
 pub struct Token {
     pub kind: TokenKind,
     pub from: usize,
@@ -74,7 +74,7 @@ pub struct Token {
 }
 
 /// The text of a name or a string. Contracts see its bytes; they are UTF-8.
-#[derive(Debug, Drop)]
+#[derive(Drop)]
 pub struct TokenText {
     text: String,
 }

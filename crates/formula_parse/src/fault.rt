@@ -5,7 +5,7 @@ use std::alloc::{AllocError, AllocFailed};
 use std::fmt;
 
 /// Why a text is no formula.
-#[derive(Clone, Copy, Debug, PartialEq, Eq)]
+#[derive(Clone, Copy, Debug)]
 pub enum ParseFault {
     /// No tree within the limits spells the text. The place is that of the token that ends the
     /// reading; nothing is claimed of it but that it lies in the text.
@@ -59,7 +59,7 @@ impl From<LexFault> for ParseFault {
 }
 
 // What ends the reading at a token, whose place the loop knows.
-#[derive(Clone, Copy, Debug, PartialEq, Eq)]
+#[derive(Clone, Copy)]
 pub(crate) enum Stop {
     Syntax,
     NoMemory,

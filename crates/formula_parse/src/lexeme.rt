@@ -12,7 +12,7 @@ use formula_lex::{Sign, TokenKind, TokenText};
 use std::alloc::Global;
 
 /// A reserved word that the grammar uses.
-#[derive(Clone, Copy, Debug, PartialEq, Eq)]
+#[derive(Clone, Copy)]
 pub enum Keyword {
     Or,
     And,

@@ -18,7 +18,7 @@ ghost use Rattle.formula_parse.specs.Standing.{has_op};
 ghost use Rattle.formula_parse.specs.Levels.{group_level, group_left, group_right};
 
 /// Which formulas are read.
-#[derive(Clone, Copy, Debug, PartialEq, Eq)]
+#[derive(Clone, Copy)]
 pub enum Dialect {
     /// The formulas of columns.
     Formula,
@@ -28,7 +28,7 @@ pub enum Dialect {
 }
 
 /// An operator between two operands.
-#[derive(Clone, Copy, Debug, PartialEq, Eq)]
+#[derive(Clone, Copy, Debug)]
 pub enum BinaryOp {
     Or,
     And,
@@ -50,14 +50,14 @@ pub enum BinaryOp {
 }
 
 /// An operator in front of its operand.
-#[derive(Clone, Copy, Debug, PartialEq, Eq)]
+#[derive(Clone, Copy, Debug)]
 pub enum PrefixOp {
     Not,
     Negate,
 }
 
 /// A word that is a formula of its own.
-#[derive(Clone, Copy, Debug, PartialEq, Eq)]
+#[derive(Clone, Copy, Debug)]
 pub enum Constant {
     /// `True`
     Truth,
@@ -70,7 +70,7 @@ pub enum Constant {
 }
 
 /// Which rows a lookup gives.
-#[derive(Clone, Copy, Debug, PartialEq, Eq)]
+#[derive(Clone, Copy)]
 pub enum LookupKind {
     /// `lookupRecords`: all rows that match.
     Records,

@@ -22,7 +22,7 @@ pub enum RuleAtom {
 }
 
 /// What an atom asks, before the name of what is asked for.
-#[derive(Clone, Copy, Debug, PartialEq, Eq)]
+#[derive(Clone, Copy)]
 pub enum Subject {
     User,
     Rec,

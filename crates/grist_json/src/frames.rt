@@ -14,7 +14,7 @@ use serde_json::Value;
 use std::alloc::{AllocError, Global};
 
 /// A request of a session. It is `Bad` where the framed line spells no request.
-#[derive(Debug, Drop)]
+#[derive(Drop)]
 pub struct Frame {
     pub session: Name,
     pub request: Request,

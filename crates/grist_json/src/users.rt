@@ -17,7 +17,7 @@ const MAX_FIELD_BYTES: usize = 256;
 const MAX_TOKEN_BYTES: usize = 64;
 
 /// What a line says of a user.
-#[derive(Debug, Drop)]
+#[derive(Drop)]
 pub enum UserLine {
     User(User),
     /// The line has the key `user`, and spells no user.

@@ -1,30 +1,13 @@
-//! The program: `replay` answers the requests of its input over a new document.
+//! The program: a run over its words, standard input and standard output.
 //!
-//! Stands on `bundle_core` (a core and its history), `grist_json` (lines of JSON) and `io_edges`
-//! (sources, sinks and lines). Standard input and output are handed in as a source and a sink.
+//! Stands on `grist_run`, which says what is written for what is read, and `io_edges`.
 //!
-//! Promises: `run` says what is written for what was read, in whatever pieces it came, and which event
-//! each status stands for; a fault is told only where the source's or the sink's count of faults rose.
-//! Not promised: that standard input and output pass bytes on, and that memory is there.
-//! Read first: running.rt, then specs/Run.antt, specs/Script.antt and specs/UserLines.antt.
+//! Promises: none beyond those of the run.
+//! Not promised: that standard input and output pass bytes on.
 #![tactic(auto)]
 
-mod answering;
-mod asked;
-mod reading;
-mod running;
-mod sending;
-mod serving;
-mod status;
-#[cfg(test)]
-mod tests;
-mod user_lines;
-mod words;
-
-use crate::running::run;
-use crate::status::Status;
+use grist_run::{Status, run};
 use io_edges::{StdSink, StdSource};
-use std::alloc::AllocError;
 use std::process::ExitCode;
 use std::{env, io};
 

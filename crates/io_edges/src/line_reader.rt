@@ -11,7 +11,7 @@ const BUFFER: usize = 65536;
 const TURNS: u64 = 1 << 32;
 
 /// Why the reading of lines ended early.
-#[derive(Clone, Copy, Debug, PartialEq, Eq)]
+#[derive(Clone, Copy)]
 pub enum ReadEnd {
     /// A read failed.
     ReadFault,
@@ -21,7 +21,7 @@ pub enum ReadEnd {
 }
 
 /// What the reader came upon.
-#[derive(Clone, Copy, Debug, PartialEq, Eq)]
+#[derive(Clone, Copy)]
 pub enum NextLine {
     /// A line that a newline ended.
     Line,

@@ -5,7 +5,7 @@ use doc_model::ColDefList;
 
 /// A table with its id, the row of `_grist_Tables` that describes it, and its columns in the order
 /// of the rows that describe them.
-#[derive(Debug, Drop)]
+#[derive(Drop)]
 pub struct SchemaTable {
     pub id: Name,
     pub row: u32,

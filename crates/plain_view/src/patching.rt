@@ -21,7 +21,7 @@ use doc_model::{CellRowList, View, ViewAction, ViewActionList, ViewCol, ViewTabl
 use std::alloc::{AllocError, Global};
 
 /// Why a view was not patched.
-#[derive(Debug, Drop)]
+#[derive(Drop)]
 pub enum PatchFault {
     /// The action at this place, counted from 0, names what is not there or adds what is.
     Unfit { index: u32 },

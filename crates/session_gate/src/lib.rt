@@ -26,6 +26,3 @@ pub use gate::Gate;
 pub use known::{Known, Made, Told};
 pub use machine::Machine;
 pub use pass::{Pass, PassList};
-
-#[cfg(test)]
-mod tests;

@@ -6,7 +6,7 @@ ghost use Rattle.user_actions.specs.Codes.{code_of};
 use doc_model::Refusal;
 
 /// What stands against a user action.
-#[derive(Clone, Copy, Debug, PartialEq, Eq)]
+#[derive(Clone, Copy)]
 pub enum Objection {
     /// The table is not in the view.
     NoSuchTable,

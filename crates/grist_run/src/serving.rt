@@ -1,0 +1,87 @@
+//! The lines behind the users, answered one after the other.
+ghost use Rattle.std.specs.Prelude.{◌≡◌, ◌≤◌, ◌<◌, ℕ, List, Option, Ok, IsErrOf};
+ghost use Rattle.io_edges.specs.Causes.{Rose};
+ghost use Rattle.io_edges.specs.Reading.{LineState, work_left};
+ghost use Rattle.grist_run.specs.Serving.{IsServing, TakesTurn, EndsServing};
+
+use crate::answering::answer;
+use crate::reading::read_next;
+use crate::status::Status;
+use bundle_core::Core;
+use io_edges::{LineReader, NextLine, Outbox, Sink, Source};
+use std::alloc::Global;
+
+// Answers the line that the reader gave last, and reads the next one.
+fn take_turn<S: Source, O: Sink>(
+    alloc: Global,
+    core: &mut Core,
+    outbox: &mut Outbox,
+    reader: &mut LineReader,
+    input: &mut S,
+    out: &mut O,
+) -> Result<NextLine, Status>
+    ensures users { core.new.users ≡ core.old.users }
+    ensures turn { (left written : Option (List ℕ)) → IsServing NextLine.Line left (S.left input.old) core.old outbox.old written (O.written out.old) reader.old → TakesTurn result left (S.left input.new) core.new outbox.new written (O.written out.new) reader.new }
+    ensures usage { IsErrOf result Status.Usage → ⊥ }
+    ensures falls { result ≡ Ok NextLine.Line → work_left reader.new < work_left reader.old }
+    ensures read_later { S.faults input.old ≤ S.faults input.new }
+    ensures write_later { O.faults out.old ≤ O.faults out.new }
+    ensures read_fault { IsErrOf result Status.ReadFault → Rose (S.faults input.old) (S.faults input.new) }
+    ensures write_fault { IsErrOf result Status.WriteFault → Rose (O.faults out.old) (O.faults out.new) }
+{
+    match answer(alloc, core, outbox, out, reader.line()) {
+        Ok(()) => read_next(reader, input),
+        Err(status) => Err(status),
+    }
+}
+
+// Answers the last line of the input.
+fn take_last<O: Sink>(
+    alloc: Global,
+    core: &mut Core,
+    outbox: &mut Outbox,
+    line: &[u8],
+    out: &mut O,
+) -> Status
+    ensures users { core.new.users ≡ core.old.users }
+    ensures ends { (left left_new written : Option (List ℕ)) (reader : LineState) → reader.line ≡ line.now → IsServing NextLine.Last left left_new core.old outbox.old written (O.written out.old) reader → EndsServing result left left_new core.new.history outbox.new written (O.written out.new) }
+    ensures later { O.faults out.old ≤ O.faults out.new }
+    ensures usage { result ≡ Status.Usage → ⊥ }
+    ensures read_fault { result ≡ Status.ReadFault → ⊥ }
+    ensures write_fault { result ≡ Status.WriteFault → Rose (O.faults out.old) (O.faults out.new) }
+{
+    match answer(alloc, core, outbox, out, line) {
+        Ok(()) => Status::Done,
+        Err(status) => status,
+    }
+}
+
+/// Answers the lines of the input, from the one that the reader gave last.
+pub(crate) fn serve<S: Source, O: Sink>(
+    alloc: Global,
+    core: &mut Core,
+    outbox: &mut Outbox,
+    reader: &mut LineReader,
+    first: NextLine,
+    input: &mut S,
+    out: &mut O,
+) -> Status
+    ensures ends { (left written : Option (List ℕ)) → IsServing first left (S.left input.old) core.old outbox.old written (O.written out.old) reader.old → EndsServing result left (S.left input.new) core.new.history outbox.new written (O.written out.new) }
+    ensures usage { result ≡ Status.Usage → ⊥ }
+    ensures read_later { S.faults input.old ≤ S.faults input.new }
+    ensures write_later { O.faults out.old ≤ O.faults out.new }
+    ensures read_fault { result ≡ Status.ReadFault → Rose (S.faults input.old) (S.faults input.new) }
+    ensures write_fault { result ≡ Status.WriteFault → Rose (O.faults out.old) (O.faults out.new) }
+{
+    let mut next = first;
+    loop {
+        match next {
+            NextLine::Line => match take_turn(alloc, core, outbox, reader, input, out) {
+                Ok(then) => next = then,
+                Err(status) => return status,
+            },
+            NextLine::Last => return take_last(alloc, core, outbox, reader.line(), out),
+            NextLine::End => return Status::Done,
+        }
+    }
+}

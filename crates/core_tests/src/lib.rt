@@ -1,14 +1,12 @@
-//! Tests of the core and of runs: whole histories of few requests.
+//! Tests of whole runs: what is given for the lines that come, and how a run ends.
 //!
-//! Stands on `bundle_core`, `grist_json`, `grist_run` and `io_edges`. Nothing stands on it; it is a
-//! crate of its own, so that these are not proved a second time with its tests.
+//! Stands on `grist_run` and `io_edges`. Nothing stands on it; it is a crate of its own, so that the run
+//! is not proved a second time with its tests.
 //!
-//! Promises: nothing. What is tested is what no clause says: that the state's definition means what
-//! the protocol says, and that calls succeed where there is memory.
-//! Read first: bundles.rt, runs.rt.
+//! Promises: nothing. What is tested is what no clause says: that the definition of a run means what the
+//! protocol says, and that calls succeed where there is memory.
+//! Read first: runs.rt.
 #![tactic(auto)]
 
-#[cfg(test)]
-mod bundles;
 #[cfg(test)]
 mod runs;

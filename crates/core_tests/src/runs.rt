@@ -1,81 +1,164 @@
-//! Plan: that a run finds memory and answers, which no clause says (`answers_requests`), and how it ends
-//! at its words, its users and the faults of what it was handed (`ends_at_the_first_event`).
+//! Plan: whole runs of `replay`, each a script: a line behind `> ` comes, a line behind `< ` is given. What
+//! a run answers where it finds memory, which no clause says (`answers_as_the_protocol_says`), bundles that
+//! are done and refused among them, and how it ends at its words, its users and the faults of what it was
+//! handed (`ends_at_the_first_event`). The lines are those of the protocol, worked out by hand.
 
 use grist_run::{Status, run};
 use io_edges::{MemSink, MemSource};
 use std::alloc::{AllocError, Global};
 use std::test::Fail;
 
-const ANN: &str =
-    "{\"user\":{\"access\":\"owners\",\"email\":\"a\",\"id\":1,\"name\":\"Ann\",\"token\":\"ta\"}}\n";
-
-// A run over these lines, behind Ann's: how it ended, and what was written. Calls of these numbers fail.
-fn ran(
-    alloc: Global,
-    word: &str,
-    lines: &str,
+// A run: its word, the numbers of its first read and write that fail, its script and its end.
+struct Case {
+    word: &'static str,
     read: u64,
     write: u64,
-) -> Result<(Status, Vec<u8>), AllocError> {
-    let mut text = String::from_str(alloc, ANN)?;
-    text.push_str(lines)?;
-    let words = vec![in alloc; String::from_str(alloc, word)?]?;
-    let mut input = MemSource::new(text.into_bytes(), vec![in alloc; read]?);
-    let mut out = MemSink::new(alloc, 4096, vec![in alloc; write]?)?;
+    script: &'static str,
+    end: Status,
+}
+
+// The lines of a script behind this mark.
+fn lines_behind(alloc: Global, mark: &str, script: &str) -> Result<Vec<u8>, AllocError> {
+    let mut text = String::new(alloc);
+    for line in script.lines() {
+        if let Some(rest) = line.strip_prefix(mark) {
+            text.push_str(rest)?;
+            text.push_str("\n")?;
+        }
+    }
+    Ok(text.into_bytes())
+}
+
+// How a run of the case ended, and what it wrote.
+fn ran(alloc: Global, case: &Case) -> Result<(Status, Vec<u8>), AllocError> {
+    let words = vec![in alloc; String::from_str(alloc, case.word)?]?;
+    let lines = lines_behind(alloc, "> ", case.script)?;
+    let mut input = MemSource::new(lines, vec![in alloc; case.read]?);
+    let mut out = MemSink::new(alloc, 65_536, vec![in alloc; case.write]?)?;
     let outcome = run(alloc, words.as_slice(), &mut input, &mut out);
     Ok((outcome.status, Vec::from_slice(alloc, out.bytes())?))
 }
 
+// Whether a run of the case ends as it says, and writes the lines that it gives.
+fn ends_as_told(alloc: Global, case: &Case) -> bool {
+    let Ok((end, written)) = ran(alloc, case) else {
+        return false;
+    };
+    let Ok(want) = lines_behind(alloc, "< ", case.script) else {
+        return false;
+    };
+    end == case.end && written.as_slice() == want.as_slice()
+}
+
+const ANSWERED: [&str; 3] = [
+    "",
+    r#"> {"user":{"access":"owners","email":"a","id":1,"name":"Ann","token":"ta"}}
+>    
+> {"line":{"method":"sync"},"session":"s"}
+< {"line":{"error":{"code":3,"name":"NotOpen"}},"session":"s"}
+> {"line":{"method":"fetchTable","table":"Table1"},"session":"é"}
+< {"line":{"error":{"code":1,"name":"BadLine"}},"session":"é"}
+> no
+< {"line":{"error":{"code":1,"name":"BadLine"}},"session":"_"}"#,
+    r#"> {"user":{"access":"owners","email":"a","id":1,"name":"Ann","token":"ta"}}
+> {"line":{"method":"openDoc","token":"ta"},"session":"s1"}
+< {"line":{"ok":{"actions":[["AddTable","Table1",[{"formula":"","id":"A","isFormula":false,"type":"Any"},{"formula":"","id":"B","isFormula":false,"type":"Any"},{"formula":"","id":"C","isFormula":false,"type":"Any"}]],["AddTable","_grist_ACLResources",[{"formula":"","id":"colIds","isFormula":false,"type":"Text"},{"formula":"","id":"tableId","isFormula":false,"type":"Text"}]],["AddTable","_grist_ACLRules",[{"formula":"","id":"aclFormula","isFormula":false,"type":"Text"},{"formula":"","id":"memo","isFormula":false,"type":"Text"},{"formula":"","id":"permissionsText","isFormula":false,"type":"Text"},{"formula":"","id":"resource","isFormula":false,"type":"Ref:_grist_ACLResources"},{"formula":"","id":"rulePos","isFormula":false,"type":"Int"},{"formula":"","id":"userAttributes","isFormula":false,"type":"Text"}]]]}},"session":"s1"}
+> {"line":{"actions":[["BulkAddRecord","Table1",[null,null],{"A":[1,2]}],["UpdateRecord","Table1",1,{"A":"x"}],["RemoveRecord","Table1",2]],"method":"applyUserActions"},"session":"s1"}
+< {"line":{"actions":[["BulkAddRecord","Table1",[1],{"A":["x"],"B":[null],"C":[null]}]],"seq":1},"session":"s1"}
+< {"line":{"ok":{"bundle":1,"retValues":[[1,null],null,null]}},"session":"s1"}
+> {"line":{"actions":[["UpdateRecord","Table1",1,{"C":"7"}]],"method":"applyUserActions"},"session":"s1"}
+< {"line":{"actions":[["BulkUpdateRecord","Table1",[1],{"C":["7"]}]],"seq":2},"session":"s1"}
+< {"line":{"ok":{"bundle":2,"retValues":[null]}},"session":"s1"}
+> {"line":{"actions":[["ModifyColumn","Table1","C",{"type":"Int"}]],"method":"applyUserActions"},"session":"s1"}
+< {"line":{"actions":[["ModifyColumn","Table1","C",{"formula":"","isFormula":false,"type":"Int"}],["BulkUpdateRecord","Table1",[1],{"C":[7]}]],"seq":3},"session":"s1"}
+< {"line":{"ok":{"bundle":3,"retValues":[null]}},"session":"s1"}
+> {"line":{"actions":[["RenameColumn","Table1","A","B"]],"method":"applyUserActions"},"session":"s1"}
+< {"line":{"actions":[["RemoveColumn","Table1","A"],["AddColumn","Table1","B2",{"formula":"","isFormula":false,"type":"Any"}],["BulkUpdateRecord","Table1",[1],{"B2":["x"]}]],"seq":4},"session":"s1"}
+< {"line":{"ok":{"bundle":4,"retValues":["B2"]}},"session":"s1"}
+> {"line":{"actions":[["RenameTable","Table1","Table1"]],"method":"applyUserActions"},"session":"s1"}
+< {"line":{"ok":{"bundle":5,"retValues":["Table1"]}},"session":"s1"}
+> {"line":{"actions":[["AddTable","T",[]],["AddRecord","Nope",null,{}]],"method":"applyUserActions"},"session":"s1"}
+< {"line":{"error":{"action":1,"code":6,"name":"NoSuchTable"}},"session":"s1"}
+> {"line":{"actions":[["AddTable","T",[{"id":"Q"},{"id":"P","type":"Int"}]],["AddRecord","T",null,{"Q":1}]],"method":"applyUserActions"},"session":"s1"}
+< {"line":{"actions":[["AddTable","T",[{"formula":"","id":"P","isFormula":false,"type":"Int"},{"formula":"","id":"Q","isFormula":false,"type":"Any"}]],["BulkAddRecord","T",[1],{"P":[0],"Q":[1]}]],"seq":5},"session":"s1"}
+< {"line":{"ok":{"bundle":6,"retValues":["T",1]}},"session":"s1"}
+> {"line":{"actions":[],"method":"applyUserActions"},"session":"s1"}
+< {"line":{"ok":{"bundle":7,"retValues":[]}},"session":"s1"}
+> {"line":{"method":"closeDoc"},"session":"s1"}
+< {"line":{"ok":null},"session":"s1"}
+> {"line":{"method":"closeDoc"},"session":"s1"}
+< {"line":{"error":{"code":3,"name":"NotOpen"}},"session":"s1"}
+> {"line":{"method":"fetchTable","table":"Table1"},"session":"s1"}
+< {"line":{"error":{"code":1,"name":"BadLine"}},"session":"s1"}"#,
+];
+
 #[test]
-fn answers_requests(rt: HostRuntime) -> Result<(), Fail> {
-    for (lines, want) in [
-        ("", ""),
-        (" \t\r\n\n", ""),
-        (
-            "{\"line\":{\"method\":\"sync\"},\"session\":\"s\"}",
-            "{\"line\":{\"error\":{\"code\":3,\"name\":\"NotOpen\"}},\"session\":\"s\"}\n",
-        ),
-        (
-            "{\"line\":{\"method\":\"fetchTable\",\"table\":\"Table1\"},\"session\":\"é\"}\n",
-            "{\"line\":{\"error\":{\"code\":1,\"name\":\"BadLine\"}},\"session\":\"é\"}\n",
-        ),
-        (
-            "no\n",
-            "{\"line\":{\"error\":{\"code\":1,\"name\":\"BadLine\"}},\"session\":\"_\"}\n",
-        ),
-    ] {
-        let (status, written) = ran(rt.alloc(), "replay", lines, 99, 99)?;
-        assert_eq!(rt; status, Status::Done);
-        assert_eq!(rt; written.as_slice(), want.as_bytes());
+fn answers_as_the_protocol_says(rt: HostRuntime) -> Result<(), Fail> {
+    for script in ANSWERED {
+        let case = Case {
+            word: "replay",
+            read: 99,
+            write: 99,
+            script,
+            end: Status::Done,
+        };
+        assert!(rt; ends_as_told(rt.alloc(), &case));
     }
     Ok(())
 }
+
+// What ends a run before its input does.
+const ENDED: [Case; 6] = [
+    Case {
+        word: "replay",
+        read: 99,
+        write: 99,
+        script: r#"> no
+< {"line":{"error":{"code":1,"name":"BadLine"}},"session":"_"}"#,
+        end: Status::Done,
+    },
+    Case {
+        word: "serve",
+        read: 0,
+        write: 0,
+        script: "> no",
+        end: Status::Usage,
+    },
+    Case {
+        word: "replay",
+        read: 99,
+        write: 0,
+        script: r#"> {"user":{"access":"owners","email":"a","id":1,"name":"Ann","token":"ta"}}
+> {"user":{"access":"owners","email":"a","id":1,"name":"Ann","token":"ta"}}"#,
+        end: Status::BadUsers { line: 2 },
+    },
+    Case {
+        word: "replay",
+        read: 0,
+        write: 0,
+        script: "> no",
+        end: Status::ReadFault,
+    },
+    Case {
+        word: "replay",
+        read: 1,
+        write: 99,
+        script: "> no",
+        end: Status::ReadFault,
+    },
+    Case {
+        word: "replay",
+        read: 99,
+        write: 0,
+        script: "> no",
+        end: Status::WriteFault,
+    },
+];
 
 #[test]
 fn ends_at_the_first_event(rt: HostRuntime) -> Result<(), Fail> {
-    for (word, lines, read, write, want) in [
-        ("replay", "no", 99, 99, Status::Done),
-        ("serve", "no", 0, 0, Status::Usage),
-        ("replay", ANN, 99, 0, Status::BadUsers { line: 2 }),
-        ("replay", "no", 0, 0, Status::ReadFault),
-        ("replay", "no", 1, 99, Status::ReadFault),
-        ("replay", "no", 99, 0, Status::WriteFault),
-    ] {
-        let (status, _) = ran(rt.alloc(), word, lines, read, write)?;
-        assert_eq!(rt; status, want);
+    for case in &ENDED {
+        assert!(rt; ends_as_told(rt.alloc(), case));
     }
-    Ok(())
-}
-
-#[test]
-fn fetching_is_no_request_yet(rt: HostRuntime) -> Result<(), Fail> {
-    let lines = "{\"line\":{\"method\":\"openDoc\",\"token\":\"ta\"},\"session\":\"s\"}\n\
-        {\"line\":{\"method\":\"fetchTable\",\"table\":\"Table1\"},\"session\":\"s\"}\n";
-    let (_, written) = ran(rt.alloc(), "replay", lines, 99, 99)?;
-    assert!(rt;
-        written.ends_with(
-            b"{\"line\":{\"error\":{\"code\":1,\"name\":\"BadLine\"}},\"session\":\"s\"}\n"
-        )
-    );
     Ok(())
 }

@@ -9,6 +9,7 @@ use std::alloc::{AllocError, Global};
 use std::test::Fail;
 
 // A run: its word, the numbers of its first read and write that fail, its script and its end.
+#[derive(Clone, Copy)]
 struct Case {
     word: &'static str,
     read: u64,
@@ -50,7 +51,7 @@ fn ends_as_told(alloc: Global, case: &Case) -> bool {
     end == case.end && written.as_slice() == want.as_slice()
 }
 
-const ANSWERED: [&str; 3] = [
+static ANSWERED: [&str; 3] = [
     "",
     r#"> {"user":{"access":"owners","email":"a","id":1,"name":"Ann","token":"ta"}}
 >    
@@ -107,21 +108,29 @@ fn answers_as_the_protocol_says(rt: HostRuntime) -> Result<(), Fail> {
     Ok(())
 }
 
+const BAD_LINE: &str =
+    r#"> {"user":{"access":"owners","email":"a","id":1,"name":"Ann","token":"ta"}}
+> no
+< {"line":{"error":{"code":1,"name":"BadLine"}},"session":"_"}"#;
+
+const UNANSWERED: &str =
+    r#"> {"user":{"access":"owners","email":"a","id":1,"name":"Ann","token":"ta"}}
+> no"#;
+
 // What ends a run before its input does.
-const ENDED: [Case; 6] = [
+static ENDED: [Case; 6] = [
     Case {
         word: "replay",
         read: 99,
         write: 99,
-        script: r#"> no
-< {"line":{"error":{"code":1,"name":"BadLine"}},"session":"_"}"#,
+        script: BAD_LINE,
         end: Status::Done,
     },
     Case {
         word: "serve",
         read: 0,
         write: 0,
-        script: "> no",
+        script: UNANSWERED,
         end: Status::Usage,
     },
     Case {
@@ -136,21 +145,21 @@ const ENDED: [Case; 6] = [
         word: "replay",
         read: 0,
         write: 0,
-        script: "> no",
+        script: UNANSWERED,
         end: Status::ReadFault,
     },
     Case {
         word: "replay",
         read: 1,
         write: 99,
-        script: "> no",
+        script: BAD_LINE,
         end: Status::ReadFault,
     },
     Case {
         word: "replay",
         read: 99,
         write: 0,
-        script: "> no",
+        script: UNANSWERED,
         end: Status::WriteFault,
     },
 ];

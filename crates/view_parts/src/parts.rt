@@ -59,6 +59,29 @@ fn rows_asked(alloc: Global, action: &UserAction) -> Result<Vec<u32>, AllocError
     }
 }
 
+// The table of this id, which the action names, where it is there to be seen.
+fn named_table<D: DocTables>(
+    alloc: Global,
+    tables: &D,
+    owner: bool,
+    action: &UserAction,
+    id: &Name,
+) -> Result<Option<ViewTable>, AllocError>
+    requires whole { IsWhole (D.document tables.now) }
+    requires named { id.now ≡ table_of action.now }
+    ensures table { IfOk result (λ o. option_to_list o ≡ asked action.now (view owner (D.document tables.now))) }
+    ensures is_view { IfOk result (λ o. IsView (option_to_list o)) }
+{
+    if !is_shown(owner, id) {
+        return Ok(None);
+    }
+    if !has_table(tables, id) {
+        return Ok(None);
+    }
+    let rows = rows_among(alloc, rows_asked(alloc, action)?, rows_in(tables, id))?;
+    Ok(Some(shown_with(alloc, tables, id, rows.as_slice())?))
+}
+
 fn asked_table<D: DocTables>(
     alloc: Global,
     tables: &D,
@@ -69,17 +92,10 @@ fn asked_table<D: DocTables>(
     ensures table { IfOk result (λ o. option_to_list o ≡ asked action.now (view owner (D.document tables.now))) }
     ensures is_view { IfOk result (λ o. IsView (option_to_list o)) }
 {
-    let Some(id) = asked_id(alloc, action)? else {
-        return Ok(None);
-    };
-    if !is_shown(owner, &id) {
-        return Ok(None);
+    match asked_id(alloc, action)? {
+        Some(id) => named_table(alloc, tables, owner, action, &id),
+        None => Ok(None),
     }
-    if !has_table(tables, &id) {
-        return Ok(None);
-    }
-    let rows = rows_among(alloc, rows_asked(alloc, action)?, rows_in(tables, &id))?;
-    Ok(Some(shown_with(alloc, tables, &id, rows.as_slice())?))
 }
 
 /// The table that a user action names, as owners see it, or others, with the rows that the action

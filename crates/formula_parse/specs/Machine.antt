@@ -63,6 +63,10 @@ reduce n (f ∷ fs) t =
 abbrev pub after : List Frame → Tree → Option State
 after fs t = kept t >>= λ u. Some (fs, Operator u)
 
+-- a frame is opened, in which an operand is wanted
+abbrev pub opened : Frame → List Frame → Option State
+opened f fs = Some (f ∷ fs, Operand)
+
 -- an operator comes after the tree
 abbrev pub open_left : Dialect → BinaryOp → List Frame × Tree → Option State
 open_left d o r =

@@ -18,9 +18,10 @@
 //! | `UserPoint`          | is the second name behind `user`                |
 
 ghost use Rattle.std.specs.Prelude.{◌≡◌, ℕ, ◌+◌, ◌≤◌, List, [], ◌∷◌, ◌++◌, Bool, Option, Some, None, IfNone, IfSome, OnOk};
-ghost use Rattle.formula_parse.specs.Machine.{room, room_in, is_last};
-ghost use Rattle.formula_parse.specs.Parsed.{taken};
+ghost use Rattle.formula_parse.specs.Machine.{room, room_in, is_last, opened};
+ghost use Rattle.formula_parse.specs.Parsed.{Gives, taken};
 
+use crate::fault::Stop;
 use crate::open_keys::OpenKeys;
 use crate::operator::{BinaryOp, LookupKind, PrefixOp};
 use crate::rule::Subject;
@@ -127,6 +128,14 @@ impl Stack {
         ensures { OnOk result (self.new ≡ frame ∷ self.old) }
     {
         self.frames.push(frame)
+    }
+
+    /// Opens a frame, in which an operand is wanted.
+    pub fn open(&mut self, frame: Frame) -> Result<Mode, Stop>
+        ensures { Gives (λ m. (self.new, m)) result (opened frame self.old) }
+    {
+        self.push(frame)?;
+        Ok(Mode::Operand)
     }
 
     /// Takes the innermost frame.

@@ -1,8 +1,8 @@
 //! The steps of the parser: what the next token makes of what is open.
 
 ghost use Rattle.std.specs.Prelude.{◌≡◌, ℕ, ◌+◌, ◌≤◌, List, [], ◌∷◌, ◌++◌, Bool, true, Option, Some, None, bytes_eq, IfOk};
-ghost use Rattle.formula_parse.specs.Tree.{Tree, attribute, height_of, from_list, heights, keys_from, key_heights};
-ghost use Rattle.formula_parse.specs.Machine.{kept, close_step, close_list_step, comma_step};
+ghost use Rattle.formula_parse.specs.Tree.{Tree, attribute, parentheses, call, list, lookup, height_of, from_list, heights, keys_from, key_heights};
+ghost use Rattle.formula_parse.specs.Machine.{after, kept, close_step, close_list_step, comma_step};
 ghost use Rattle.formula_parse.specs.Operands.{rule_name, point_step, word_operand, sign_operand, name_operand, operand_step, close_empty, close_empty_list, first_step};
 ghost use Rattle.formula_parse.specs.Steps.{word_after, sign_after, after_step, is_step, name_step, table_step, first_key_step, next_key_step, key_step, not_step, dot_step, name_point_step, lookup_step, subject_step, subject_point_step, user_point_step};
 ghost use Rattle.formula_parse.specs.Runs.{step, finish};
@@ -16,33 +16,64 @@ use crate::frame::{Frame, Mode, Stack};
 use crate::lexeme::{Keyword, Lexeme, is_id};
 use crate::open_keys::OpenKeys;
 use crate::operator::{BinaryOp, Constant, Dialect, LookupKind, PrefixOp};
-use crate::reduce::{infix, kept, open_condition, open_otherwise, open_prefix, reduce};
+use crate::reduce::{infix, kept, open_condition, open_otherwise, open_prefix, operand_of, reduce};
 use crate::rule::{RuleAtom, Subject};
 use crate::tree::{ArgumentList, Formula, LookupKey, LookupKeyList, Node};
 use cell_types::{CellText, Name};
 use formula_lex::Sign;
 use std::alloc::{AllocError, Global};
 
+// A formula in parentheses.
+fn parentheses(alloc: Global, tree: Formula) -> Result<Mode, Stop>
+    ensures { (fs : List Frame) → Gives (λ m. (fs, m)) result (after fs (parentheses tree)) }
+{
+    let below = tree.height();
+    operand_of(alloc, Node::Parentheses(tree), below)
+}
+
+// A call of these arguments and this last one.
+fn call(alloc: Global, name: Name, items: ArgumentList, last: Formula) -> Result<Mode, Stop>
+    ensures { (fs : List Frame) → Gives (λ m. (fs, m)) result (after fs (call name (from_list (items ++ last ∷ [])))) }
+{
+    let items = items.with(last)?;
+    let below = items.height();
+    operand_of(alloc, Node::Call(name, items), below)
+}
+
+// A list of these items and this last one.
+fn list(alloc: Global, items: ArgumentList, last: Formula) -> Result<Mode, Stop>
+    ensures { (fs : List Frame) → Gives (λ m. (fs, m)) result (after fs (list (from_list (items ++ last ∷ [])))) }
+{
+    let items = items.with(last)?;
+    let below = items.height();
+    operand_of(alloc, Node::List(items), below)
+}
+
+// A lookup by these keys and this last one.
+fn lookup(
+    alloc: Global,
+    kind: LookupKind,
+    table: Name,
+    keys: OpenKeys,
+    last: LookupKey,
+) -> Result<Mode, Stop>
+    ensures { (fs : List Frame) → Gives (λ m. (fs, m)) result (after fs (lookup kind table (keys_from (keys ++ (last.name, last.value) ∷ [])))) }
+{
+    let mut keys = keys.into_keys();
+    keys.push(last)?;
+    let below = keys.height();
+    operand_of(alloc, Node::Lookup(kind, table, keys), below)
+}
+
 // `)` behind a formula that nothing else closes.
 fn close(alloc: Global, frames: &mut Stack, tree: Formula) -> Result<Mode, Stop>
     ensures { Gives (λ m. (frames.new, m)) result (close_step frames.old tree) }
 {
     match frames.pop() {
-        Some(Frame::Parentheses) => {
-            let below = tree.height();
-            Ok(Mode::Operator(kept(alloc, Node::Parentheses(tree), below)?))
-        }
-        Some(Frame::Arguments(name, items)) => {
-            let mut items = items;
-            items.push(tree)?;
-            let below = items.height();
-            Ok(Mode::Operator(kept(alloc, Node::Call(name, items), below)?))
-        }
+        Some(Frame::Parentheses) => parentheses(alloc, tree),
+        Some(Frame::Arguments(name, items)) => call(alloc, name, items, tree),
         Some(Frame::Key(kind, table, keys, name)) => {
-            let mut keys = keys.into_keys();
-            keys.push(LookupKey { name, value: tree })?;
-            let below = keys.height();
-            Ok(Mode::Operator(kept(alloc, Node::Lookup(kind, table, keys), below)?))
+            lookup(alloc, kind, table, keys, LookupKey { name, value: tree })
         }
         _ => Err(Stop::Syntax),
     }
@@ -53,12 +84,7 @@ fn close_list(alloc: Global, frames: &mut Stack, tree: Formula) -> Result<Mode, 
     ensures { Gives (λ m. (frames.new, m)) result (close_list_step frames.old tree) }
 {
     match frames.pop() {
-        Some(Frame::Items(items)) => {
-            let mut items = items;
-            items.push(tree)?;
-            let below = items.height();
-            Ok(Mode::Operator(kept(alloc, Node::List(items), below)?))
-        }
+        Some(Frame::Items(items)) => list(alloc, items, tree),
         _ => Err(Stop::Syntax),
     }
 }
@@ -69,16 +95,12 @@ fn comma(frames: &mut Stack, tree: Formula) -> Result<Mode, Stop>
 {
     match frames.pop() {
         Some(Frame::Items(items)) => {
-            let mut items = items;
-            items.push(tree)?;
-            frames.push(Frame::Items(items))?;
-            Ok(Mode::Operand)
+            let items = items.with(tree)?;
+            frames.open(Frame::Items(items))
         }
         Some(Frame::Arguments(name, items)) => {
-            let mut items = items;
-            items.push(tree)?;
-            frames.push(Frame::Arguments(name, items))?;
-            Ok(Mode::Operand)
+            let items = items.with(tree)?;
+            frames.open(Frame::Arguments(name, items))
         }
         Some(Frame::Key(kind, table, keys, name)) => {
             let keys = keys.with(LookupKey { name, value: tree })?;
@@ -99,15 +121,11 @@ fn word_operand(
 {
     match keyword {
         Keyword::Not => open_prefix(PrefixOp::Not, frames),
-        Keyword::Truth => Ok(Mode::Operator(kept(alloc, Node::Constant(Constant::Truth), 0)?)),
-        Keyword::Falsity => {
-            Ok(Mode::Operator(kept(alloc, Node::Constant(Constant::Falsity), 0)?))
-        }
-        Keyword::Nothing => {
-            Ok(Mode::Operator(kept(alloc, Node::Constant(Constant::Nothing), 0)?))
-        }
+        Keyword::Truth => operand_of(alloc, Node::Constant(Constant::Truth), 0),
+        Keyword::Falsity => { operand_of(alloc, Node::Constant(Constant::Falsity), 0) }
+        Keyword::Nothing => { operand_of(alloc, Node::Constant(Constant::Nothing), 0) }
         Keyword::Rec => match dialect {
-            Dialect::Formula => Ok(Mode::Operator(kept(alloc, Node::Constant(Constant::Rec), 0)?)),
+            Dialect::Formula => operand_of(alloc, Node::Constant(Constant::Rec), 0),
             Dialect::Rule => Ok(Mode::AfterSubject(Subject::Rec)),
         },
         _ => Err(Stop::Syntax),
@@ -120,10 +138,7 @@ fn sign_operand(alloc: Global, frames: &mut Stack, sign: Sign) -> Result<Mode, S
 {
     match sign {
         Sign::Minus => open_prefix(PrefixOp::Negate, frames),
-        Sign::Open => {
-            frames.push(Frame::Parentheses)?;
-            Ok(Mode::Operand)
-        }
+        Sign::Open => { frames.open(Frame::Parentheses) }
         Sign::OpenList => {
             frames.push(Frame::Items(ArgumentList::new(alloc)))?;
             Ok(Mode::FirstItem)
@@ -138,13 +153,13 @@ fn rule_name(alloc: Global, frames: &mut Stack, word: &str) -> Result<Mode, Stop
     ensures { Gives (λ m. (frames.new, m)) result (rule_name word.now frames.old) }
 {
     if word == "OWNER" {
-        return Ok(Mode::Operator(kept(alloc, Node::Rule(RuleAtom::Owner), 0)?));
+        return operand_of(alloc, Node::Rule(RuleAtom::Owner), 0);
     }
     if word == "EDITOR" {
-        return Ok(Mode::Operator(kept(alloc, Node::Rule(RuleAtom::Editor), 0)?));
+        return operand_of(alloc, Node::Rule(RuleAtom::Editor), 0);
     }
     if word == "VIEWER" {
-        return Ok(Mode::Operator(kept(alloc, Node::Rule(RuleAtom::Viewer), 0)?));
+        return operand_of(alloc, Node::Rule(RuleAtom::Viewer), 0);
     }
     if word == "user" {
         return Ok(Mode::AfterSubject(Subject::User));
@@ -185,10 +200,10 @@ fn operand(
     ensures { Gives (λ m. (frames.new, m)) result (operand_step dialect lexeme frames.old) }
 {
     match lexeme {
-        Lexeme::Number(n) => Ok(Mode::Operator(kept(alloc, Node::Number(n), 0)?)),
-        Lexeme::Text(text) => Ok(Mode::Operator(kept(alloc, Node::Text(text), 0)?)),
+        Lexeme::Number(n) => operand_of(alloc, Node::Number(n), 0),
+        Lexeme::Text(text) => operand_of(alloc, Node::Text(text), 0),
         Lexeme::Dollar(name) => match dialect {
-            Dialect::Formula => Ok(Mode::Operator(kept(alloc, Node::Dollar(name), 0)?)),
+            Dialect::Formula => operand_of(alloc, Node::Dollar(name), 0),
             Dialect::Rule => Err(Stop::Syntax),
         },
         Lexeme::Name(name) => name_operand(alloc, dialect, frames, name),
@@ -204,7 +219,7 @@ fn close_empty(alloc: Global, frames: &mut Stack) -> Result<Mode, Stop>
     match frames.pop() {
         Some(Frame::Arguments(name, items)) => {
             if items.is_empty() {
-                return Ok(Mode::Operator(kept(alloc, Node::Call(name, items), 0)?));
+                return operand_of(alloc, Node::Call(name, items), 0);
             }
             Err(Stop::Syntax)
         }
@@ -219,7 +234,7 @@ fn close_empty_list(alloc: Global, frames: &mut Stack) -> Result<Mode, Stop>
     match frames.pop() {
         Some(Frame::Items(items)) => {
             if items.is_empty() {
-                return Ok(Mode::Operator(kept(alloc, Node::List(items), 0)?));
+                return operand_of(alloc, Node::List(items), 0);
             }
             Err(Stop::Syntax)
         }
@@ -406,7 +421,7 @@ fn after_point(alloc: Global, frames: &mut Stack, table: Name, word: &str) -> Re
     ensures { Gives (λ m. (frames.new, m)) result (table_step word.now frames.old table) }
 {
     if word == "all" {
-        return Ok(Mode::Operator(kept(alloc, Node::All(table), 0)?));
+        return operand_of(alloc, Node::All(table), 0);
     }
     if word == "lookupRecords" {
         return Ok(Mode::AfterLookup(LookupKind::Records, table));
@@ -430,7 +445,7 @@ fn first_key(
     match lexeme {
         Lexeme::Sign(Sign::Close) => {
             let keys = LookupKeyList::new(alloc);
-            Ok(Mode::Operator(kept(alloc, Node::Lookup(kind, table, keys), 0)?))
+            operand_of(alloc, Node::Lookup(kind, table, keys), 0)
         }
         Lexeme::Name(name) => Ok(Mode::AfterKey(kind, table, OpenKeys::new(alloc), name)),
         _ => Err(Stop::Syntax),
@@ -470,10 +485,7 @@ fn after_key(
     ensures { Gives (λ m. (frames.new, m)) result (key_step lexeme frames.old kind table keys name) }
 {
     match lexeme {
-        Lexeme::Sign(Sign::Assign) => {
-            frames.push(Frame::Key(kind, table, keys, name))?;
-            Ok(Mode::Operand)
-        }
+        Lexeme::Sign(Sign::Assign) => { frames.open(Frame::Key(kind, table, keys, name)) }
         _ => Err(Stop::Syntax),
     }
 }
@@ -542,7 +554,7 @@ fn after_subject_point(alloc: Global, subject: Subject, lexeme: Lexeme) -> Resul
     match lexeme {
         Lexeme::Name(name) => {
             let atom = Node::Rule(asked(subject, name));
-            Ok(Mode::Operator(kept(alloc, atom, 0)?))
+            operand_of(alloc, atom, 0)
         }
         _ => Err(Stop::Syntax),
     }
@@ -554,7 +566,7 @@ fn after_user_point(alloc: Global, first: Name, lexeme: Lexeme) -> Result<Mode, 
     match lexeme {
         Lexeme::Name(name) => {
             let atom = Node::Rule(RuleAtom::UserAttribute(first, name));
-            Ok(Mode::Operator(kept(alloc, atom, 0)?))
+            operand_of(alloc, atom, 0)
         }
         _ => Err(Stop::Syntax),
     }

@@ -63,6 +63,11 @@ reduce n (f ∷ fs) t =
 abbrev pub after : List Frame → Tree → Option State
 after fs t = kept t >>= λ u. Some (fs, Operator u)
 
+-- whether nothing is open
+abbrev pub no_frames : List Frame → Bool
+no_frames [] = true
+no_frames (f ∷ fs) = false
+
 -- a frame is opened, in which an operand is wanted
 abbrev pub opened : Frame → List Frame → Option State
 opened f fs = Some (f ∷ fs, Operand)

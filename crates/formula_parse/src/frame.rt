@@ -18,7 +18,7 @@
 //! | `UserPoint`          | is the second name behind `user`                |
 
 ghost use Rattle.std.specs.Prelude.{◌≡◌, ℕ, ◌+◌, ◌≤◌, List, [], ◌∷◌, ◌++◌, Bool, Option, Some, None, IfNone, IfSome, OnOk};
-ghost use Rattle.formula_parse.specs.Machine.{room, room_in, is_last, opened};
+ghost use Rattle.formula_parse.specs.Machine.{no_frames, room, room_in, is_last, opened};
 ghost use Rattle.formula_parse.specs.Parsed.{Gives, taken};
 
 use crate::fault::Stop;
@@ -128,6 +128,13 @@ impl Stack {
         ensures { OnOk result (self.new ≡ frame ∷ self.old) }
     {
         self.frames.push(frame)
+    }
+
+    /// Whether no frame is open.
+    pub fn is_empty(&self) -> bool
+        ensures { result ≡ no_frames self.now }
+    {
+        self.frames.is_empty()
     }
 
     /// Opens a frame, in which an operand is wanted.

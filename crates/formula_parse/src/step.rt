@@ -368,7 +368,9 @@ fn after_is(
     match lexeme {
         Lexeme::Keyword(Keyword::Not) => infix(alloc, dialect, BinaryOp::IsNot, frames, tree),
         _ => {
-            let _operand = infix(alloc, dialect, BinaryOp::Is, frames, tree)?;
+            if let Err(stop) = infix(alloc, dialect, BinaryOp::Is, frames, tree) {
+                return Err(stop);
+            }
             operand(alloc, dialect, frames, lexeme)
         }
     }
@@ -612,9 +614,10 @@ pub(crate) fn finish(alloc: Global, frames: &mut Stack, mode: Mode) -> Result<Fo
     match mode {
         Mode::Operator(tree) => {
             let tree = reduce(alloc, 0, frames, tree)?;
-            match frames.pop() {
-                Some(_) => Err(Stop::Syntax),
-                None => Ok(tree),
+            if frames.is_empty() {
+                Ok(tree)
+            } else {
+                Err(Stop::Syntax)
             }
         }
         _ => Err(Stop::Syntax),

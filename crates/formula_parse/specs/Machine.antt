@@ -63,6 +63,11 @@ reduce n (f ∷ fs) t =
 abbrev pub after : List Frame → Tree → Option State
 after fs t = kept t >>= λ u. Some (fs, Operator u)
 
+-- the tree behind which an operator may come
+abbrev pub formula_of : Mode → Option Tree
+formula_of (Operator t) = Some t
+formula_of _ = None
+
 -- whether nothing is open
 abbrev pub no_frames : List Frame → Bool
 no_frames [] = true

@@ -38,9 +38,13 @@ step d k fs (UserPoint n) = user_point_step k fs n
 abbrev pub whole : List Frame × Tree → Option Tree
 whole r = cond (no_frames r.0) (Some r.1) None
 
+-- the tree that is left once all frames are closed
+abbrev pub closed : List Frame → Tree → Option Tree
+closed fs t = reduce 0 fs t >>= whole
+
 -- the tree at the end
 unfoldable pub finish : List Frame → Mode → Option Tree
-finish fs (Operator t) = reduce 0 fs t >>= whole
+finish fs (Operator t) = closed fs t
 finish fs _ = None
 
 -- the tree that the lexemes lead to

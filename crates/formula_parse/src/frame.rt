@@ -18,7 +18,7 @@
 //! | `UserPoint`          | is the second name behind `user`                |
 
 ghost use Rattle.std.specs.Prelude.{◌≡◌, ℕ, ◌+◌, ◌≤◌, List, [], ◌∷◌, ◌++◌, Bool, Option, Some, None, IfNone, IfSome, OnOk};
-ghost use Rattle.formula_parse.specs.Machine.{no_frames, room, room_in, is_last, opened};
+ghost use Rattle.formula_parse.specs.Machine.{formula_of, no_frames, room, room_in, is_last, opened};
 ghost use Rattle.formula_parse.specs.Parsed.{Gives, taken};
 
 use crate::fault::Stop;
@@ -110,6 +110,18 @@ impl Frame {
             | Frame::Items(_)
             | Frame::Arguments(_, _)
             | Frame::Key(_, _, _, _) => 0,
+        }
+    }
+}
+
+impl Mode {
+    /// The formula behind which an operator may come, where there is one.
+    pub fn into_formula(self) -> Option<Formula>
+        ensures { result ≡ formula_of self }
+    {
+        match self {
+            Mode::Operator(tree) => Some(tree),
+            _ => None,
         }
     }
 }

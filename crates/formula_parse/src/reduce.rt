@@ -7,6 +7,7 @@ ghost use Rattle.formula_parse.specs.Machine.{after, kept, is_last, filled, redu
 ghost use Rattle.formula_parse.specs.Operands.{if_step};
 ghost use Rattle.formula_parse.specs.Parsed.{Gives};
 ghost use Rattle.formula_parse.specs.declared.frame.Frame.{Frame};
+ghost use Rattle.formula_parse.specs.declared.frame.Mode.TheVariants as modes;
 ghost use Rattle.formula_parse.specs.declared.operator.Dialect.TheVariants as dialects;
 
 use crate::fault::Stop;
@@ -72,6 +73,23 @@ pub(crate) fn reduce(
     Ok(tree)
 }
 
+/// Opens what is left of an operator, once what binds closer is closed.
+pub(crate) fn open_left(
+    alloc: Global,
+    dialect: Dialect,
+    op: BinaryOp,
+    frames: &mut Stack,
+    tree: Formula,
+) -> Result<(), Stop>
+    ensures { Gives (λ _. (frames.new, modes.Operand)) result (infix_step dialect op frames.old tree) }
+{
+    let left = reduce(alloc, op.level() + 1, frames, tree)?;
+    if dialect.has(op) && frames.room() <= op.level() && op.left() <= left.level() {
+        return Ok(frames.push(Frame::Left(left, op))?);
+    }
+    Err(Stop::Syntax)
+}
+
 /// An operator between operands behind a formula.
 pub(crate) fn infix(
     alloc: Global,
@@ -82,11 +100,8 @@ pub(crate) fn infix(
 ) -> Result<Mode, Stop>
     ensures { Gives (λ m. (frames.new, m)) result (infix_step dialect op frames.old tree) }
 {
-    let left = reduce(alloc, op.level() + 1, frames, tree)?;
-    if dialect.has(op) && frames.room() <= op.level() && op.left() <= left.level() {
-        return frames.open(Frame::Left(left, op));
-    }
-    Err(Stop::Syntax)
+    open_left(alloc, dialect, op, frames, tree)?;
+    Ok(Mode::Operand)
 }
 
 /// An operator in front of an operand.

@@ -4,8 +4,8 @@ ghost use Rattle.std.specs.Prelude.{◌≡◌, ℕ, ◌+◌, ◌≤◌, List, []
 ghost use Rattle.formula_parse.specs.Tree.{Tree, attribute, parentheses, call, list, lookup, height_of, from_list, heights, keys_from, key_heights};
 ghost use Rattle.formula_parse.specs.Machine.{after, kept, close_step, close_list_step, comma_step};
 ghost use Rattle.formula_parse.specs.Operands.{rule_name, point_step, word_operand, sign_operand, name_operand, operand_step, close_empty, close_empty_list, first_step};
-ghost use Rattle.formula_parse.specs.Steps.{word_after, sign_after, after_step, is_step, name_step, table_step, first_key_step, next_key_step, key_step, not_step, dot_step, name_point_step, lookup_step, subject_step, subject_point_step, user_point_step};
-ghost use Rattle.formula_parse.specs.Runs.{step, finish};
+ghost use Rattle.formula_parse.specs.Steps.{word_after, sign_after, after_step, compared_step, is_step, name_step, table_step, first_key_step, next_key_step, key_step, not_step, dot_step, name_point_step, lookup_step, subject_step, subject_point_step, user_point_step};
+ghost use Rattle.formula_parse.specs.Runs.{step, finish, closed};
 ghost use Rattle.formula_parse.specs.Grammar.{all_word, lookup_word};
 ghost use Rattle.formula_parse.specs.Parsed.{Gives};
 ghost use Rattle.formula_parse.specs.RuleGrammar.{asked};
@@ -16,7 +16,9 @@ use crate::frame::{Frame, Mode, Stack};
 use crate::lexeme::{Keyword, Lexeme, is_id};
 use crate::open_keys::OpenKeys;
 use crate::operator::{BinaryOp, Constant, Dialect, LookupKind, PrefixOp};
-use crate::reduce::{infix, kept, open_condition, open_otherwise, open_prefix, operand_of, reduce};
+use crate::reduce::{
+    infix, kept, open_condition, open_left, open_otherwise, open_prefix, operand_of, reduce,
+};
 use crate::rule::{RuleAtom, Subject};
 use crate::tree::{ArgumentList, Formula, LookupKey, LookupKeyList, Node};
 use cell_types::{CellText, Name};
@@ -355,6 +357,20 @@ fn after(
     }
 }
 
+// A token that begins what a formula is compared with by `is`.
+fn operand_behind_is(
+    alloc: Global,
+    dialect: Dialect,
+    frames: &mut Stack,
+    tree: Formula,
+    lexeme: Lexeme,
+) -> Result<Mode, Stop>
+    ensures { Gives (λ m. (frames.new, m)) result (compared_step dialect lexeme frames.old tree) }
+{
+    open_left(alloc, dialect, BinaryOp::Is, frames, tree)?;
+    operand(alloc, dialect, frames, lexeme)
+}
+
 // A token behind a formula and `is`.
 fn after_is(
     alloc: Global,
@@ -367,12 +383,7 @@ fn after_is(
 {
     match lexeme {
         Lexeme::Keyword(Keyword::Not) => infix(alloc, dialect, BinaryOp::IsNot, frames, tree),
-        _ => {
-            if let Err(stop) = infix(alloc, dialect, BinaryOp::Is, frames, tree) {
-                return Err(stop);
-            }
-            operand(alloc, dialect, frames, lexeme)
-        }
+        _ => operand_behind_is(alloc, dialect, frames, tree, lexeme),
     }
 }
 
@@ -603,6 +614,18 @@ pub(crate) fn step(
         Mode::AfterSubject(subject) => after_subject(subject, lexeme),
         Mode::SubjectPoint(subject) => after_subject_point(alloc, subject, lexeme),
         Mode::UserPoint(first) => after_user_point(alloc, first, lexeme),
+    }
+}
+
+// The formula that is left once all frames are closed.
+fn closed(alloc: Global, frames: &mut Stack, tree: Formula) -> Result<Formula, Stop>
+    ensures { Gives (λ t. t) result (closed frames.old tree) }
+{
+    let tree = reduce(alloc, 0, frames, tree)?;
+    if frames.is_empty() {
+        Ok(tree)
+    } else {
+        Err(Stop::Syntax)
     }
 }
 

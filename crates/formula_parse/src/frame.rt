@@ -121,7 +121,10 @@ impl Mode {
     {
         match self {
             Mode::Operator(tree) => Some(tree),
-            _ => None,
+            other => {
+                drop(other);
+                None
+            }
         }
     }
 }

@@ -22,6 +22,7 @@ pub(crate) fn kept(alloc: Global, node: Node, below: u16) -> Result<Formula, Sto
     ensures { Gives (λ f. f) result (kept (tree_of node)) }
 {
     if below >= MAX_HEIGHT {
+        drop(node);
         return Err(Stop::Syntax);
     }
     Ok(Formula::of(alloc, node, below + 1)?)

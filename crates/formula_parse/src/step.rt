@@ -87,7 +87,10 @@ fn close_list(alloc: Global, frames: &mut Stack, tree: Formula) -> Result<Mode, 
 {
     match frames.pop() {
         Some(Frame::Items(items)) => list(alloc, items, tree),
-        _ => Err(Stop::Syntax),
+        other => {
+            drop((other, tree));
+            Err(Stop::Syntax)
+        }
     }
 }
 

@@ -10,7 +10,7 @@ ghost use Rattle.formula_parse.specs.declared.frame.Frame.{Frame};
 ghost use Rattle.formula_parse.specs.declared.frame.Mode.TheVariants as modes;
 ghost use Rattle.formula_parse.specs.declared.operator.Dialect.TheVariants as dialects;
 
-use crate::fault::Stop;
+use crate::fault::{Stop, refused};
 use crate::frame::{Frame, Mode, Stack};
 use crate::operator::{BinaryOp, Dialect, PrefixOp};
 use crate::tree::{Formula, MAX_HEIGHT, Node};
@@ -137,6 +137,6 @@ pub(crate) fn open_otherwise(frames: &mut Stack, tree: Formula) -> Result<Mode, 
             }
             Err(Stop::Syntax)
         }
-        _ => Err(Stop::Syntax),
+        other => refused((other, tree)),
     }
 }

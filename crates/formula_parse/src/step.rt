@@ -11,7 +11,7 @@ ghost use Rattle.formula_parse.specs.Parsed.{Gives};
 ghost use Rattle.formula_parse.specs.RuleGrammar.{asked};
 ghost use Rattle.formula_parse.specs.declared.frame.Frame.{Frame};
 
-use crate::fault::Stop;
+use crate::fault::{Stop, refused};
 use crate::frame::{Frame, Mode, Stack};
 use crate::lexeme::{Keyword, Lexeme, is_id};
 use crate::open_keys::OpenKeys;
@@ -77,7 +77,7 @@ fn close(alloc: Global, frames: &mut Stack, tree: Formula) -> Result<Mode, Stop>
         Some(Frame::Key(kind, table, keys, name)) => {
             lookup(alloc, kind, table, keys, LookupKey { name, value: tree })
         }
-        _ => Err(Stop::Syntax),
+        other => refused((other, tree)),
     }
 }
 
@@ -87,10 +87,7 @@ fn close_list(alloc: Global, frames: &mut Stack, tree: Formula) -> Result<Mode, 
 {
     match frames.pop() {
         Some(Frame::Items(items)) => list(alloc, items, tree),
-        other => {
-            drop((other, tree));
-            Err(Stop::Syntax)
-        }
+        other => refused((other, tree)),
     }
 }
 
@@ -111,7 +108,7 @@ fn comma(frames: &mut Stack, tree: Formula) -> Result<Mode, Stop>
             let keys = keys.with(LookupKey { name, value: tree })?;
             Ok(Mode::NextKey(kind, table, keys))
         }
-        _ => Err(Stop::Syntax),
+        other => refused((other, tree)),
     }
 }
 
@@ -228,7 +225,7 @@ fn close_empty(alloc: Global, frames: &mut Stack) -> Result<Mode, Stop>
             }
             Err(Stop::Syntax)
         }
-        _ => Err(Stop::Syntax),
+        other => refused(other),
     }
 }
 
@@ -243,7 +240,7 @@ fn close_empty_list(alloc: Global, frames: &mut Stack) -> Result<Mode, Stop>
             }
             Err(Stop::Syntax)
         }
-        _ => Err(Stop::Syntax),
+        other => refused(other),
     }
 }
 
@@ -427,7 +424,7 @@ fn after_name(alloc: Global, frames: &mut Stack, name: Name, lexeme: Lexeme) -> 
             Ok(Mode::FirstItem)
         }
         Lexeme::Sign(Sign::Point) => Ok(Mode::AfterPoint(name)),
-        _ => Err(Stop::Syntax),
+        other => refused((other, name)),
     }
 }
 
@@ -464,7 +461,7 @@ fn first_key(
             operand_of(alloc, Node::Lookup(kind, table, keys), 0)
         }
         Lexeme::Name(name) => Ok(Mode::AfterKey(kind, table, OpenKeys::new(alloc), name)),
-        _ => Err(Stop::Syntax),
+        other => refused((other, table)),
     }
 }
 
@@ -485,7 +482,7 @@ fn next_key(
             }
             Ok(Mode::AfterKey(kind, table, keys, name))
         }
-        _ => Err(Stop::Syntax),
+        other => refused((other, table, keys)),
     }
 }
 
@@ -502,7 +499,7 @@ fn after_key(
 {
     match lexeme {
         Lexeme::Sign(Sign::Assign) => { frames.open(Frame::Key(kind, table, keys, name)) }
-        _ => Err(Stop::Syntax),
+        other => refused((other, table, keys, name)),
     }
 }
 
@@ -518,7 +515,7 @@ fn after_not(
 {
     match lexeme {
         Lexeme::Keyword(Keyword::In) => infix(alloc, dialect, BinaryOp::NotIn, frames, tree),
-        _ => Err(Stop::Syntax),
+        other => refused((other, tree)),
     }
 }
 
@@ -527,7 +524,7 @@ fn after_dot(alloc: Global, tree: Formula, lexeme: Lexeme) -> Result<Mode, Stop>
 {
     match lexeme {
         Lexeme::Name(name) => Ok(Mode::Operator(attribute(alloc, tree, name)?)),
-        _ => Err(Stop::Syntax),
+        other => refused((other, tree)),
     }
 }
 
@@ -542,7 +539,7 @@ fn after_table_point(
 {
     match lexeme {
         Lexeme::Name(name) => after_point(alloc, frames, table, name.as_str()),
-        _ => Err(Stop::Syntax),
+        other => refused((other, table)),
     }
 }
 
@@ -551,7 +548,7 @@ fn after_lookup(kind: LookupKind, table: Name, lexeme: Lexeme) -> Result<Mode, S
 {
     match lexeme {
         Lexeme::Sign(Sign::Open) => Ok(Mode::FirstKey(kind, table)),
-        _ => Err(Stop::Syntax),
+        other => refused((other, table)),
     }
 }
 
@@ -560,7 +557,7 @@ fn after_subject(subject: Subject, lexeme: Lexeme) -> Result<Mode, Stop>
 {
     match lexeme {
         Lexeme::Sign(Sign::Point) => Ok(Mode::SubjectPoint(subject)),
-        _ => Err(Stop::Syntax),
+        other => refused(other),
     }
 }
 
@@ -572,7 +569,7 @@ fn after_subject_point(alloc: Global, subject: Subject, lexeme: Lexeme) -> Resul
             let atom = Node::Rule(asked(subject, name));
             operand_of(alloc, atom, 0)
         }
-        _ => Err(Stop::Syntax),
+        other => refused(other),
     }
 }
 
@@ -584,7 +581,7 @@ fn after_user_point(alloc: Global, first: Name, lexeme: Lexeme) -> Result<Mode, 
             let atom = Node::Rule(RuleAtom::UserAttribute(first, name));
             operand_of(alloc, atom, 0)
         }
-        _ => Err(Stop::Syntax),
+        other => refused((other, first)),
     }
 }
 

@@ -2,7 +2,7 @@
 
 ghost use Rattle.std.specs.Prelude.{◌≡◌, ℕ, ◌+◌, ◌≤◌, List, [], ◌∷◌, ◌++◌, Bool, true, Option, Some, None, bytes_eq, IfOk};
 ghost use Rattle.formula_parse.specs.Tree.{Tree, attribute, parentheses, call, list, lookup, height_of, from_list, heights, keys_from, key_heights};
-ghost use Rattle.formula_parse.specs.Machine.{after, kept, close_step, close_list_step, comma_step};
+ghost use Rattle.formula_parse.specs.Machine.{after, kept, opened, close_step, close_list_step, comma_step};
 ghost use Rattle.formula_parse.specs.Operands.{rule_name, point_step, word_operand, sign_operand, name_operand, operand_step, close_empty, close_empty_list, first_step};
 ghost use Rattle.formula_parse.specs.Steps.{word_after, sign_after, after_step, compared_step, is_step, name_step, table_step, first_key_step, next_key_step, key_step, not_step, dot_step, name_point_step, lookup_step, subject_step, subject_point_step, user_point_step};
 ghost use Rattle.formula_parse.specs.Runs.{step, finish, closed};
@@ -10,6 +10,7 @@ ghost use Rattle.formula_parse.specs.Grammar.{all_word, lookup_word};
 ghost use Rattle.formula_parse.specs.Parsed.{Gives};
 ghost use Rattle.formula_parse.specs.RuleGrammar.{asked};
 ghost use Rattle.formula_parse.specs.declared.frame.Frame.{Frame};
+ghost use Rattle.formula_parse.specs.declared.frame.Frame.TheVariants as frame;
 
 use crate::fault::{Stop, refused};
 use crate::frame::{Frame, Mode, Stack};
@@ -91,19 +92,26 @@ fn close_list(alloc: Global, frames: &mut Stack, tree: Formula) -> Result<Mode, 
     }
 }
 
+// A formula behind which a further argument is wanted.
+fn next_argument(
+    frames: &mut Stack,
+    name: Name,
+    items: ArgumentList,
+    tree: Formula,
+) -> Result<Mode, Stop>
+    ensures { Gives (λ m. (frames.new, m)) result (opened (frame.Arguments name (items ++ tree ∷ [])) frames.old) }
+{
+    let items = items.with(tree)?;
+    frames.open(Frame::Arguments(name, items))
+}
+
 // `,` behind a formula that nothing else closes.
 fn comma(frames: &mut Stack, tree: Formula) -> Result<Mode, Stop>
     ensures { Gives (λ m. (frames.new, m)) result (comma_step frames.old tree) }
 {
     match frames.pop() {
-        Some(Frame::Items(items)) => {
-            let items = items.with(tree)?;
-            frames.open(Frame::Items(items))
-        }
-        Some(Frame::Arguments(name, items)) => {
-            let items = items.with(tree)?;
-            frames.open(Frame::Arguments(name, items))
-        }
+        Some(Frame::Items(items)) => frames.open(Frame::Items(items.with(tree)?)),
+        Some(Frame::Arguments(name, items)) => next_argument(frames, name, items, tree),
         Some(Frame::Key(kind, table, keys, name)) => {
             let keys = keys.with(LookupKey { name, value: tree })?;
             Ok(Mode::NextKey(kind, table, keys))
@@ -223,7 +231,7 @@ fn close_empty(alloc: Global, frames: &mut Stack) -> Result<Mode, Stop>
             if items.is_empty() {
                 return operand_of(alloc, Node::Call(name, items), 0);
             }
-            Err(Stop::Syntax)
+            refused((name, items))
         }
         other => refused(other),
     }
@@ -478,7 +486,7 @@ fn next_key(
     match lexeme {
         Lexeme::Name(name) => {
             if keys.has(&name) {
-                return Err(Stop::Syntax);
+                return refused((table, keys, name));
             }
             Ok(Mode::AfterKey(kind, table, keys, name))
         }

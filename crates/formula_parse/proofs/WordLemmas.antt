@@ -15,7 +15,7 @@ use Rattle.formula_parse.specs.declared.lexeme.Lexeme.TheVariants.{Number, Text,
 use Rattle.formula_parse.specs.declared.frame.Frame.{Frame}
 use Rattle.formula_parse.specs.declared.frame.Mode.{Mode}
 use Rattle.formula_parse.specs.declared.frame.Mode.TheVariants.{Operand}
-use Rattle.formula_parse.specs.Lexemes.{keyword_text, keyword_of, id_word, is_field, kind_of, IsAllowed, AllAllowed}
+use Rattle.formula_parse.specs.Lexemes.{keyword_text, keyword_of, operator_word, value_word, id_word, is_field, kind_of, IsAllowed, AllAllowed}
 use Rattle.formula_parse.specs.Grammar.{lexemes_of}
 use Rattle.formula_parse.specs.Standing.{IsWritten}
 use Rattle.formula_parse.specs.Spelling.{SpellsTree}
@@ -41,7 +41,7 @@ is_word : (n : List ℕ) (k : Keyword) (o : Option Keyword) → HasMeaning n o �
 is_word n k o m = either_means n (keyword_text k) k refl (bytes_eq n (keyword_text k)) refl o m
 
 keyword_means : (n : List ℕ) → HasMeaning n (keyword_of n)
-unfolding keyword_of
+unfolding keyword_of operator_word value_word
 keyword_means n =
     is_word n word.Or _ (is_word n word.And _ (is_word n word.Not _ (is_word n word.In _ (is_word n word.Is _ (is_word n word.If _ (is_word n word.Else _
     (is_word n word.Truth _ (is_word n word.Falsity _ (is_word n word.Nothing _ (is_word n word.Rec _ (record { meaning = tt })))))))))))
@@ -50,7 +50,7 @@ keyword_back : (n : List ℕ) (k : Keyword) → keyword_of n ≡ Some k → n �
 keyword_back n k e = let h : HasMeaning n (Some k) = subst (HasMeaning n) e (keyword_means n) in h.meaning
 
 keyword_again : (k : Keyword) → keyword_of (keyword_text k) ≡ Some k
-unfolding keyword_of
+unfolding keyword_of operator_word value_word
 keyword_again word.Or = refl
 keyword_again word.And = refl
 keyword_again word.Not = refl

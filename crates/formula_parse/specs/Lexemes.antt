@@ -23,20 +23,28 @@ keyword_text word.Falsity = codes "False"
 keyword_text word.Nothing = codes "None"
 keyword_text word.Rec = codes "rec"
 
--- the keyword that is written so
-unfoldable pub keyword_of : List ℕ → Option Keyword
-keyword_of n =
+-- the operator that is written so, or else this
+unfoldable pub operator_word : List ℕ → Option Keyword → Option Keyword
+operator_word n other =
     cond (bytes_eq n (codes "or")) (Some word.Or)
     (cond (bytes_eq n (codes "and")) (Some word.And)
     (cond (bytes_eq n (codes "not")) (Some word.Not)
     (cond (bytes_eq n (codes "in")) (Some word.In)
     (cond (bytes_eq n (codes "is")) (Some word.Is)
     (cond (bytes_eq n (codes "if")) (Some word.If)
-    (cond (bytes_eq n (codes "else")) (Some word.Else)
-    (cond (bytes_eq n (codes "True")) (Some word.Truth)
+    (cond (bytes_eq n (codes "else")) (Some word.Else) other))))))
+
+-- the value that is written so
+unfoldable pub value_word : List ℕ → Option Keyword
+value_word n =
+    cond (bytes_eq n (codes "True")) (Some word.Truth)
     (cond (bytes_eq n (codes "False")) (Some word.Falsity)
     (cond (bytes_eq n (codes "None")) (Some word.Nothing)
-    (cond (bytes_eq n (codes "rec")) (Some word.Rec) None))))))))))
+    (cond (bytes_eq n (codes "rec")) (Some word.Rec) None)))
+
+-- the keyword that is written so
+unfoldable pub keyword_of : List ℕ → Option Keyword
+keyword_of n = operator_word n (value_word n)
 
 -- the reserved word by which columns are asked all the same
 unfoldable pub id_word : List ℕ

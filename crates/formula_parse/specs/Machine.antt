@@ -63,6 +63,20 @@ reduce n (f ∷ fs) t =
 abbrev pub after : List Frame → Tree → Option State
 after fs t = kept t >>= λ u. Some (fs, Operator u)
 
+-- the tree behind which an operator may come
+abbrev pub formula_of : Mode → Option Tree
+formula_of (Operator t) = Some t
+formula_of _ = None
+
+-- whether nothing is open
+abbrev pub no_frames : List Frame → Bool
+no_frames [] = true
+no_frames (f ∷ fs) = false
+
+-- a frame is opened, in which an operand is wanted
+abbrev pub opened : Frame → List Frame → Option State
+opened f fs = Some (f ∷ fs, Operand)
+
 -- an operator comes after the tree
 abbrev pub open_left : Dialect → BinaryOp → List Frame × Tree → Option State
 open_left d o r =

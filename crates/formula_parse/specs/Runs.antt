@@ -12,7 +12,7 @@ use Rattle.formula_parse.specs.declared.frame.Mode.{Mode}
 use Rattle.formula_parse.specs.declared.frame.Mode.TheVariants.{Operand, FirstItem, Operator, AfterNot, AfterIs, AfterDot, AfterName, AfterPoint, AfterLookup, FirstKey, NextKey, AfterKey, AfterSubject, SubjectPoint, UserPoint}
 use Rattle.formula_parse.specs.Lexemes.{keyword_of, is_field}
 use Rattle.formula_parse.specs.Tree.{Tree}
-use Rattle.formula_parse.specs.Machine.{◌>>=◌, State, reduce}
+use Rattle.formula_parse.specs.Machine.{◌>>=◌, State, reduce, no_frames}
 use Rattle.formula_parse.specs.Operands.{operand_step, first_step}
 use Rattle.formula_parse.specs.Steps.{after_step, not_step, is_step, dot_step, name_step, name_point_step, lookup_step, first_key_step, next_key_step, key_step, subject_step, subject_point_step, user_point_step}
 
@@ -36,12 +36,15 @@ step d k fs (UserPoint n) = user_point_step k fs n
 
 -- the tree, where nothing is open
 abbrev pub whole : List Frame × Tree → Option Tree
-whole ([], t) = Some t
-whole (_ ∷ _, t) = None
+whole r = cond (no_frames r.0) (Some r.1) None
+
+-- the tree that is left once all frames are closed
+abbrev pub closed : List Frame → Tree → Option Tree
+closed fs t = reduce 0 fs t >>= whole
 
 -- the tree at the end
 unfoldable pub finish : List Frame → Mode → Option Tree
-finish fs (Operator t) = reduce 0 fs t >>= whole
+finish fs (Operator t) = closed fs t
 finish fs _ = None
 
 -- the tree that the lexemes lead to

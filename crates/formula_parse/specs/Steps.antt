@@ -63,10 +63,14 @@ abbrev pub not_step : Dialect → Lexeme → List Frame → Tree → Option Stat
 not_step d (Word word.In) fs t = infix_step d op.NotIn fs t
 not_step d _ fs t = None
 
+-- a lexeme that begins what a tree is compared with by `is`
+abbrev pub compared_step : Dialect → Lexeme → List Frame → Tree → Option State
+compared_step d k fs t = infix_step d op.Is fs t >>= λ s. operand_step d k s.0
+
 -- a lexeme behind a tree and `is`
 abbrev pub is_step : Dialect → Lexeme → List Frame → Tree → Option State
 is_step d (Word word.Not) fs t = infix_step d op.IsNot fs t
-is_step d k fs t = infix_step d op.Is fs t >>= λ s. operand_step d k s.0
+is_step d k fs t = compared_step d k fs t
 
 -- a lexeme behind a tree and a point
 abbrev pub dot_step : Lexeme → List Frame → Tree → Option State

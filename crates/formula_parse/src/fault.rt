@@ -1,5 +1,8 @@
 //! Why there is no formula.
 
+ghost use Rattle.std.specs.Prelude.{◌≡◌, Err};
+ghost use Rattle.formula_parse.specs.declared.fault.Stop.{Stop};
+
 use formula_lex::LexFault;
 use std::alloc::{AllocError, AllocFailed};
 use std::fmt;
@@ -87,4 +90,14 @@ impl<T: Drop> From<AllocFailed<T>> for Stop {
         let _ = error;
         Stop::NoMemory
     }
+}
+
+/// The end of a reading at what has no place there, which is let go.
+///
+/// Its callers hand it over: where a value of many forms is let go in place, each form is proved anew.
+pub(crate) fn refused<X, T: Drop>(rest: T) -> Result<X, Stop>
+    ensures { result ≡ Err Stop.Syntax }
+{
+    drop(rest);
+    Err(Stop::Syntax)
 }

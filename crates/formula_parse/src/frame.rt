@@ -18,9 +18,10 @@
 //! | `UserPoint`          | is the second name behind `user`                |
 
 ghost use Rattle.std.specs.Prelude.{◌≡◌, ℕ, ◌+◌, ◌≤◌, List, [], ◌∷◌, ◌++◌, Bool, Option, Some, None, IfNone, IfSome, OnOk};
-ghost use Rattle.formula_parse.specs.Machine.{room, room_in, is_last};
-ghost use Rattle.formula_parse.specs.Parsed.{taken};
+ghost use Rattle.formula_parse.specs.Machine.{formula_of, no_frames, room, room_in, is_last, opened};
+ghost use Rattle.formula_parse.specs.Parsed.{Gives, taken};
 
+use crate::fault::Stop;
 use crate::open_keys::OpenKeys;
 use crate::operator::{BinaryOp, LookupKind, PrefixOp};
 use crate::rule::Subject;
@@ -113,6 +114,21 @@ impl Frame {
     }
 }
 
+impl Mode {
+    /// The formula behind which an operator may come, where there is one.
+    pub fn into_formula(self) -> Option<Formula>
+        ensures { result ≡ formula_of self }
+    {
+        match self {
+            Mode::Operator(tree) => Some(tree),
+            other => {
+                drop(other);
+                None
+            }
+        }
+    }
+}
+
 impl Stack {
     /// No frame.
     pub fn new(alloc: Global) -> Self
@@ -127,6 +143,21 @@ impl Stack {
         ensures { OnOk result (self.new ≡ frame ∷ self.old) }
     {
         self.frames.push(frame)
+    }
+
+    /// Whether no frame is open.
+    pub fn is_empty(&self) -> bool
+        ensures { result ≡ no_frames self.now }
+    {
+        self.frames.is_empty()
+    }
+
+    /// Opens a frame, in which an operand is wanted.
+    pub fn open(&mut self, frame: Frame) -> Result<Mode, Stop>
+        ensures { Gives (λ m. (self.new, m)) result (opened frame self.old) }
+    {
+        self.push(frame)?;
+        Ok(Mode::Operand)
     }
 
     /// Takes the innermost frame.

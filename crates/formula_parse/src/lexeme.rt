@@ -2,7 +2,7 @@
 
 ghost use Rattle.std.specs.Prelude.{◌≡◌, Bool, Option, Some, None, cond, bytes_eq};
 ghost use Rattle.cell_types.specs.NameRule.{is_reserved};
-ghost use Rattle.formula_parse.specs.Lexemes.{keyword_of, is_id, is_field};
+ghost use Rattle.formula_parse.specs.Lexemes.{keyword_of, operator_word, value_word, is_id, is_field};
 ghost use Rattle.formula_parse.specs.Runs.{lexeme_of, kept_name};
 ghost use Rattle.formula_parse.specs.Parsed.{Gives};
 
@@ -38,45 +38,43 @@ pub enum Lexeme {
     Sign(Sign),
 }
 
+// The operator that a word is, or else this.
+#[tactic(auto, unfolding(crate::specs::Lexemes::operator_word))]
+fn operator_word(word: &str, other: Option<Keyword>) -> Option<Keyword>
+    ensures { result ≡ operator_word word.now other }
+{
+    match word {
+        "or" => Some(Keyword::Or),
+        "and" => Some(Keyword::And),
+        "not" => Some(Keyword::Not),
+        "in" => Some(Keyword::In),
+        "is" => Some(Keyword::Is),
+        "if" => Some(Keyword::If),
+        "else" => Some(Keyword::Else),
+        _ => other,
+    }
+}
+
+// The value that a word is.
+#[tactic(auto, unfolding(crate::specs::Lexemes::value_word))]
+fn value_word(word: &str) -> Option<Keyword>
+    ensures { result ≡ value_word word.now }
+{
+    match word {
+        "True" => Some(Keyword::Truth),
+        "False" => Some(Keyword::Falsity),
+        "None" => Some(Keyword::Nothing),
+        "rec" => Some(Keyword::Rec),
+        _ => None,
+    }
+}
+
 // The keyword that a word is.
 #[tactic(auto, unfolding(crate::specs::Lexemes::keyword_of))]
 fn keyword_of(word: &str) -> Option<Keyword>
     ensures { result ≡ keyword_of word.now }
 {
-    if word == "or" {
-        return Some(Keyword::Or);
-    }
-    if word == "and" {
-        return Some(Keyword::And);
-    }
-    if word == "not" {
-        return Some(Keyword::Not);
-    }
-    if word == "in" {
-        return Some(Keyword::In);
-    }
-    if word == "is" {
-        return Some(Keyword::Is);
-    }
-    if word == "if" {
-        return Some(Keyword::If);
-    }
-    if word == "else" {
-        return Some(Keyword::Else);
-    }
-    if word == "True" {
-        return Some(Keyword::Truth);
-    }
-    if word == "False" {
-        return Some(Keyword::Falsity);
-    }
-    if word == "None" {
-        return Some(Keyword::Nothing);
-    }
-    if word == "rec" {
-        return Some(Keyword::Rec);
-    }
-    None
+    operator_word(word, value_word(word))
 }
 
 // Whether a word is reserved.

@@ -30,8 +30,13 @@ fn token_stop(
 ) -> Result<Mode, Stop>
     ensures { Gives (λ m. (frames.new, m)) result (token_step dialect token.now frames.old mode) }
 {
-    let lexeme = lexeme_of(alloc, &token.kind)?;
-    step(alloc, dialect, frames, mode, lexeme)
+    match lexeme_of(alloc, &token.kind) {
+        Ok(lexeme) => step(alloc, dialect, frames, mode, lexeme),
+        Err(stop) => {
+            drop(mode);
+            Err(stop)
+        }
+    }
 }
 
 // The same with the place of the token.

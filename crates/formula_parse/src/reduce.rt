@@ -3,12 +3,14 @@
 ghost use Rattle.std.specs.Prelude.{◌≡◌, ℕ, ◌+◌, ◌≤◌, List, [], ◌∷◌, ◌++◌, Bool, true, Option, Some, None};
 ghost use Rattle.formula_parse.specs.Tree.{Tree, height_of};
 ghost use Rattle.formula_parse.specs.Seen.{tree_of};
-ghost use Rattle.formula_parse.specs.Machine.{kept, is_last, filled, reduce, infix_step, else_step, prefix_step};
+ghost use Rattle.formula_parse.specs.Machine.{after, kept, is_last, filled, reduce, infix_step, else_step, prefix_step};
 ghost use Rattle.formula_parse.specs.Operands.{if_step};
 ghost use Rattle.formula_parse.specs.Parsed.{Gives};
+ghost use Rattle.formula_parse.specs.declared.frame.Frame.{Frame};
+ghost use Rattle.formula_parse.specs.declared.frame.Mode.TheVariants as modes;
 ghost use Rattle.formula_parse.specs.declared.operator.Dialect.TheVariants as dialects;
 
-use crate::fault::Stop;
+use crate::fault::{Stop, refused};
 use crate::frame::{Frame, Mode, Stack};
 use crate::operator::{BinaryOp, Dialect, PrefixOp};
 use crate::tree::{Formula, MAX_HEIGHT, Node};
@@ -20,9 +22,18 @@ pub(crate) fn kept(alloc: Global, node: Node, below: u16) -> Result<Formula, Sto
     ensures { Gives (λ f. f) result (kept (tree_of node)) }
 {
     if below >= MAX_HEIGHT {
+        drop(node);
         return Err(Stop::Syntax);
     }
     Ok(Formula::of(alloc, node, below + 1)?)
+}
+
+/// The formula with this at its root, where it is not too high; an operator may come behind it.
+pub(crate) fn operand_of(alloc: Global, node: Node, below: u16) -> Result<Mode, Stop>
+    requires { height_of (tree_of node) ≡ below + 1 }
+    ensures { (fs : List Frame) → Gives (λ m. (fs, m)) result (after fs (tree_of node)) }
+{
+    Ok(Mode::Operator(kept(alloc, node, below)?))
 }
 
 // The frame with the formula in it.
@@ -63,6 +74,23 @@ pub(crate) fn reduce(
     Ok(tree)
 }
 
+/// Opens what is left of an operator, once what binds closer is closed.
+pub(crate) fn open_left(
+    alloc: Global,
+    dialect: Dialect,
+    op: BinaryOp,
+    frames: &mut Stack,
+    tree: Formula,
+) -> Result<(), Stop>
+    ensures { Gives (λ _. (frames.new, modes.Operand)) result (infix_step dialect op frames.old tree) }
+{
+    let left = reduce(alloc, op.level() + 1, frames, tree)?;
+    if dialect.has(op) && frames.room() <= op.level() && op.left() <= left.level() {
+        return Ok(frames.push(Frame::Left(left, op))?);
+    }
+    Err(Stop::Syntax)
+}
+
 /// An operator between operands behind a formula.
 pub(crate) fn infix(
     alloc: Global,
@@ -73,12 +101,8 @@ pub(crate) fn infix(
 ) -> Result<Mode, Stop>
     ensures { Gives (λ m. (frames.new, m)) result (infix_step dialect op frames.old tree) }
 {
-    let left = reduce(alloc, op.level() + 1, frames, tree)?;
-    if dialect.has(op) && frames.room() <= op.level() && op.left() <= left.level() {
-        frames.push(Frame::Left(left, op))?;
-        return Ok(Mode::Operand);
-    }
-    Err(Stop::Syntax)
+    open_left(alloc, dialect, op, frames, tree)?;
+    Ok(Mode::Operand)
 }
 
 /// An operator in front of an operand.
@@ -86,8 +110,7 @@ pub(crate) fn open_prefix(op: PrefixOp, frames: &mut Stack) -> Result<Mode, Stop
     ensures { Gives (λ m. (frames.new, m)) result (prefix_step op frames.old) }
 {
     if frames.room() <= op.level() {
-        frames.push(Frame::Prefix(op))?;
-        return Ok(Mode::Operand);
+        return frames.open(Frame::Prefix(op));
     }
     Err(Stop::Syntax)
 }
@@ -98,8 +121,7 @@ pub(crate) fn open_condition(alloc: Global, frames: &mut Stack, tree: Formula) -
 {
     let value = reduce(alloc, 1, frames, tree)?;
     if frames.room() == 0 && 1 <= value.level() {
-        frames.push(Frame::Condition(value))?;
-        return Ok(Mode::Operand);
+        return frames.open(Frame::Condition(value));
     }
     Err(Stop::Syntax)
 }
@@ -111,11 +133,10 @@ pub(crate) fn open_otherwise(frames: &mut Stack, tree: Formula) -> Result<Mode, 
     match frames.pop() {
         Some(Frame::Condition(value)) => {
             if 1 <= tree.level() {
-                frames.push(Frame::Otherwise(value, tree))?;
-                return Ok(Mode::Operand);
+                return frames.open(Frame::Otherwise(value, tree));
             }
             Err(Stop::Syntax)
         }
-        _ => Err(Stop::Syntax),
+        other => refused((other, tree)),
     }
 }

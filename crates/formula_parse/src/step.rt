@@ -1,50 +1,84 @@
 //! The steps of the parser: what the next token makes of what is open.
 
 ghost use Rattle.std.specs.Prelude.{◌≡◌, ℕ, ◌+◌, ◌≤◌, List, [], ◌∷◌, ◌++◌, Bool, true, Option, Some, None, bytes_eq, IfOk};
-ghost use Rattle.formula_parse.specs.Tree.{Tree, attribute, height_of, from_list, heights, keys_from, key_heights};
-ghost use Rattle.formula_parse.specs.Machine.{kept, close_step, close_list_step, comma_step};
+ghost use Rattle.formula_parse.specs.Tree.{Tree, attribute, parentheses, call, list, lookup, height_of, from_list, heights, keys_from, key_heights};
+ghost use Rattle.formula_parse.specs.Machine.{after, kept, opened, close_step, close_list_step, comma_step};
 ghost use Rattle.formula_parse.specs.Operands.{rule_name, point_step, word_operand, sign_operand, name_operand, operand_step, close_empty, close_empty_list, first_step};
-ghost use Rattle.formula_parse.specs.Steps.{word_after, sign_after, after_step, is_step, name_step, table_step, first_key_step, next_key_step, key_step, not_step, dot_step, name_point_step, lookup_step, subject_step, subject_point_step, user_point_step};
-ghost use Rattle.formula_parse.specs.Runs.{step, finish};
+ghost use Rattle.formula_parse.specs.Steps.{word_after, sign_after, after_step, compared_step, is_step, name_step, table_step, first_key_step, next_key_step, key_step, not_step, dot_step, name_point_step, lookup_step, subject_step, subject_point_step, user_point_step};
+ghost use Rattle.formula_parse.specs.Runs.{step, finish, closed};
 ghost use Rattle.formula_parse.specs.Grammar.{all_word, lookup_word};
 ghost use Rattle.formula_parse.specs.Parsed.{Gives};
 ghost use Rattle.formula_parse.specs.RuleGrammar.{asked};
 ghost use Rattle.formula_parse.specs.declared.frame.Frame.{Frame};
+ghost use Rattle.formula_parse.specs.declared.frame.Frame.TheVariants as frame;
 
-use crate::fault::Stop;
+use crate::fault::{Stop, refused};
 use crate::frame::{Frame, Mode, Stack};
 use crate::lexeme::{Keyword, Lexeme, is_id};
 use crate::open_keys::OpenKeys;
 use crate::operator::{BinaryOp, Constant, Dialect, LookupKind, PrefixOp};
-use crate::reduce::{infix, kept, open_condition, open_otherwise, open_prefix, reduce};
+use crate::reduce::{
+    infix, kept, open_condition, open_left, open_otherwise, open_prefix, operand_of, reduce,
+};
 use crate::rule::{RuleAtom, Subject};
 use crate::tree::{ArgumentList, Formula, LookupKey, LookupKeyList, Node};
 use cell_types::{CellText, Name};
 use formula_lex::Sign;
 use std::alloc::{AllocError, Global};
 
+// A formula in parentheses.
+fn parentheses(alloc: Global, tree: Formula) -> Result<Mode, Stop>
+    ensures { (fs : List Frame) → Gives (λ m. (fs, m)) result (after fs (parentheses tree)) }
+{
+    let below = tree.height();
+    operand_of(alloc, Node::Parentheses(tree), below)
+}
+
+// A call of these arguments and this last one.
+fn call(alloc: Global, name: Name, items: ArgumentList, last: Formula) -> Result<Mode, Stop>
+    ensures { (fs : List Frame) → Gives (λ m. (fs, m)) result (after fs (call name (from_list (items ++ last ∷ [])))) }
+{
+    let items = items.with(last)?;
+    let below = items.height();
+    operand_of(alloc, Node::Call(name, items), below)
+}
+
+// A list of these items and this last one.
+fn list(alloc: Global, items: ArgumentList, last: Formula) -> Result<Mode, Stop>
+    ensures { (fs : List Frame) → Gives (λ m. (fs, m)) result (after fs (list (from_list (items ++ last ∷ [])))) }
+{
+    let items = items.with(last)?;
+    let below = items.height();
+    operand_of(alloc, Node::List(items), below)
+}
+
+// A lookup by these keys and this last one.
+fn lookup(
+    alloc: Global,
+    kind: LookupKind,
+    table: Name,
+    keys: OpenKeys,
+    last: LookupKey,
+) -> Result<Mode, Stop>
+    ensures { (fs : List Frame) → Gives (λ m. (fs, m)) result (after fs (lookup kind table (keys_from (keys ++ (last.name, last.value) ∷ [])))) }
+{
+    let mut keys = keys.into_keys();
+    keys.push(last)?;
+    let below = keys.height();
+    operand_of(alloc, Node::Lookup(kind, table, keys), below)
+}
+
 // `)` behind a formula that nothing else closes.
 fn close(alloc: Global, frames: &mut Stack, tree: Formula) -> Result<Mode, Stop>
     ensures { Gives (λ m. (frames.new, m)) result (close_step frames.old tree) }
 {
     match frames.pop() {
-        Some(Frame::Parentheses) => {
-            let below = tree.height();
-            Ok(Mode::Operator(kept(alloc, Node::Parentheses(tree), below)?))
-        }
-        Some(Frame::Arguments(name, items)) => {
-            let mut items = items;
-            items.push(tree)?;
-            let below = items.height();
-            Ok(Mode::Operator(kept(alloc, Node::Call(name, items), below)?))
-        }
+        Some(Frame::Parentheses) => parentheses(alloc, tree),
+        Some(Frame::Arguments(name, items)) => call(alloc, name, items, tree),
         Some(Frame::Key(kind, table, keys, name)) => {
-            let mut keys = keys.into_keys();
-            keys.push(LookupKey { name, value: tree })?;
-            let below = keys.height();
-            Ok(Mode::Operator(kept(alloc, Node::Lookup(kind, table, keys), below)?))
+            lookup(alloc, kind, table, keys, LookupKey { name, value: tree })
         }
-        _ => Err(Stop::Syntax),
+        other => refused((other, tree)),
     }
 }
 
@@ -53,14 +87,22 @@ fn close_list(alloc: Global, frames: &mut Stack, tree: Formula) -> Result<Mode, 
     ensures { Gives (λ m. (frames.new, m)) result (close_list_step frames.old tree) }
 {
     match frames.pop() {
-        Some(Frame::Items(items)) => {
-            let mut items = items;
-            items.push(tree)?;
-            let below = items.height();
-            Ok(Mode::Operator(kept(alloc, Node::List(items), below)?))
-        }
-        _ => Err(Stop::Syntax),
+        Some(Frame::Items(items)) => list(alloc, items, tree),
+        other => refused((other, tree)),
     }
+}
+
+// A formula behind which a further argument is wanted.
+fn next_argument(
+    frames: &mut Stack,
+    name: Name,
+    items: ArgumentList,
+    tree: Formula,
+) -> Result<Mode, Stop>
+    ensures { Gives (λ m. (frames.new, m)) result (opened (frame.Arguments name (items ++ tree ∷ [])) frames.old) }
+{
+    let items = items.with(tree)?;
+    frames.open(Frame::Arguments(name, items))
 }
 
 // `,` behind a formula that nothing else closes.
@@ -68,23 +110,13 @@ fn comma(frames: &mut Stack, tree: Formula) -> Result<Mode, Stop>
     ensures { Gives (λ m. (frames.new, m)) result (comma_step frames.old tree) }
 {
     match frames.pop() {
-        Some(Frame::Items(items)) => {
-            let mut items = items;
-            items.push(tree)?;
-            frames.push(Frame::Items(items))?;
-            Ok(Mode::Operand)
-        }
-        Some(Frame::Arguments(name, items)) => {
-            let mut items = items;
-            items.push(tree)?;
-            frames.push(Frame::Arguments(name, items))?;
-            Ok(Mode::Operand)
-        }
+        Some(Frame::Items(items)) => frames.open(Frame::Items(items.with(tree)?)),
+        Some(Frame::Arguments(name, items)) => next_argument(frames, name, items, tree),
         Some(Frame::Key(kind, table, keys, name)) => {
             let keys = keys.with(LookupKey { name, value: tree })?;
             Ok(Mode::NextKey(kind, table, keys))
         }
-        _ => Err(Stop::Syntax),
+        other => refused((other, tree)),
     }
 }
 
@@ -99,15 +131,11 @@ fn word_operand(
 {
     match keyword {
         Keyword::Not => open_prefix(PrefixOp::Not, frames),
-        Keyword::Truth => Ok(Mode::Operator(kept(alloc, Node::Constant(Constant::Truth), 0)?)),
-        Keyword::Falsity => {
-            Ok(Mode::Operator(kept(alloc, Node::Constant(Constant::Falsity), 0)?))
-        }
-        Keyword::Nothing => {
-            Ok(Mode::Operator(kept(alloc, Node::Constant(Constant::Nothing), 0)?))
-        }
+        Keyword::Truth => operand_of(alloc, Node::Constant(Constant::Truth), 0),
+        Keyword::Falsity => { operand_of(alloc, Node::Constant(Constant::Falsity), 0) }
+        Keyword::Nothing => { operand_of(alloc, Node::Constant(Constant::Nothing), 0) }
         Keyword::Rec => match dialect {
-            Dialect::Formula => Ok(Mode::Operator(kept(alloc, Node::Constant(Constant::Rec), 0)?)),
+            Dialect::Formula => operand_of(alloc, Node::Constant(Constant::Rec), 0),
             Dialect::Rule => Ok(Mode::AfterSubject(Subject::Rec)),
         },
         _ => Err(Stop::Syntax),
@@ -120,10 +148,7 @@ fn sign_operand(alloc: Global, frames: &mut Stack, sign: Sign) -> Result<Mode, S
 {
     match sign {
         Sign::Minus => open_prefix(PrefixOp::Negate, frames),
-        Sign::Open => {
-            frames.push(Frame::Parentheses)?;
-            Ok(Mode::Operand)
-        }
+        Sign::Open => { frames.open(Frame::Parentheses) }
         Sign::OpenList => {
             frames.push(Frame::Items(ArgumentList::new(alloc)))?;
             Ok(Mode::FirstItem)
@@ -138,13 +163,13 @@ fn rule_name(alloc: Global, frames: &mut Stack, word: &str) -> Result<Mode, Stop
     ensures { Gives (λ m. (frames.new, m)) result (rule_name word.now frames.old) }
 {
     if word == "OWNER" {
-        return Ok(Mode::Operator(kept(alloc, Node::Rule(RuleAtom::Owner), 0)?));
+        return operand_of(alloc, Node::Rule(RuleAtom::Owner), 0);
     }
     if word == "EDITOR" {
-        return Ok(Mode::Operator(kept(alloc, Node::Rule(RuleAtom::Editor), 0)?));
+        return operand_of(alloc, Node::Rule(RuleAtom::Editor), 0);
     }
     if word == "VIEWER" {
-        return Ok(Mode::Operator(kept(alloc, Node::Rule(RuleAtom::Viewer), 0)?));
+        return operand_of(alloc, Node::Rule(RuleAtom::Viewer), 0);
     }
     if word == "user" {
         return Ok(Mode::AfterSubject(Subject::User));
@@ -185,10 +210,10 @@ fn operand(
     ensures { Gives (λ m. (frames.new, m)) result (operand_step dialect lexeme frames.old) }
 {
     match lexeme {
-        Lexeme::Number(n) => Ok(Mode::Operator(kept(alloc, Node::Number(n), 0)?)),
-        Lexeme::Text(text) => Ok(Mode::Operator(kept(alloc, Node::Text(text), 0)?)),
+        Lexeme::Number(n) => operand_of(alloc, Node::Number(n), 0),
+        Lexeme::Text(text) => operand_of(alloc, Node::Text(text), 0),
         Lexeme::Dollar(name) => match dialect {
-            Dialect::Formula => Ok(Mode::Operator(kept(alloc, Node::Dollar(name), 0)?)),
+            Dialect::Formula => operand_of(alloc, Node::Dollar(name), 0),
             Dialect::Rule => Err(Stop::Syntax),
         },
         Lexeme::Name(name) => name_operand(alloc, dialect, frames, name),
@@ -204,11 +229,11 @@ fn close_empty(alloc: Global, frames: &mut Stack) -> Result<Mode, Stop>
     match frames.pop() {
         Some(Frame::Arguments(name, items)) => {
             if items.is_empty() {
-                return Ok(Mode::Operator(kept(alloc, Node::Call(name, items), 0)?));
+                return operand_of(alloc, Node::Call(name, items), 0);
             }
-            Err(Stop::Syntax)
+            refused((name, items))
         }
-        _ => Err(Stop::Syntax),
+        other => refused(other),
     }
 }
 
@@ -219,11 +244,11 @@ fn close_empty_list(alloc: Global, frames: &mut Stack) -> Result<Mode, Stop>
     match frames.pop() {
         Some(Frame::Items(items)) => {
             if items.is_empty() {
-                return Ok(Mode::Operator(kept(alloc, Node::List(items), 0)?));
+                return operand_of(alloc, Node::List(items), 0);
             }
             Err(Stop::Syntax)
         }
-        _ => Err(Stop::Syntax),
+        other => refused(other),
     }
 }
 
@@ -340,6 +365,20 @@ fn after(
     }
 }
 
+// A token that begins what a formula is compared with by `is`.
+fn operand_behind_is(
+    alloc: Global,
+    dialect: Dialect,
+    frames: &mut Stack,
+    tree: Formula,
+    lexeme: Lexeme,
+) -> Result<Mode, Stop>
+    ensures { Gives (λ m. (frames.new, m)) result (compared_step dialect lexeme frames.old tree) }
+{
+    open_left(alloc, dialect, BinaryOp::Is, frames, tree)?;
+    operand(alloc, dialect, frames, lexeme)
+}
+
 // A token behind a formula and `is`.
 fn after_is(
     alloc: Global,
@@ -352,10 +391,7 @@ fn after_is(
 {
     match lexeme {
         Lexeme::Keyword(Keyword::Not) => infix(alloc, dialect, BinaryOp::IsNot, frames, tree),
-        _ => {
-            let _operand = infix(alloc, dialect, BinaryOp::Is, frames, tree)?;
-            operand(alloc, dialect, frames, lexeme)
-        }
+        _ => operand_behind_is(alloc, dialect, frames, tree, lexeme),
     }
 }
 
@@ -396,7 +432,7 @@ fn after_name(alloc: Global, frames: &mut Stack, name: Name, lexeme: Lexeme) -> 
             Ok(Mode::FirstItem)
         }
         Lexeme::Sign(Sign::Point) => Ok(Mode::AfterPoint(name)),
-        _ => Err(Stop::Syntax),
+        other => refused((other, name)),
     }
 }
 
@@ -406,7 +442,7 @@ fn after_point(alloc: Global, frames: &mut Stack, table: Name, word: &str) -> Re
     ensures { Gives (λ m. (frames.new, m)) result (table_step word.now frames.old table) }
 {
     if word == "all" {
-        return Ok(Mode::Operator(kept(alloc, Node::All(table), 0)?));
+        return operand_of(alloc, Node::All(table), 0);
     }
     if word == "lookupRecords" {
         return Ok(Mode::AfterLookup(LookupKind::Records, table));
@@ -430,10 +466,10 @@ fn first_key(
     match lexeme {
         Lexeme::Sign(Sign::Close) => {
             let keys = LookupKeyList::new(alloc);
-            Ok(Mode::Operator(kept(alloc, Node::Lookup(kind, table, keys), 0)?))
+            operand_of(alloc, Node::Lookup(kind, table, keys), 0)
         }
         Lexeme::Name(name) => Ok(Mode::AfterKey(kind, table, OpenKeys::new(alloc), name)),
-        _ => Err(Stop::Syntax),
+        other => refused((other, table)),
     }
 }
 
@@ -450,11 +486,11 @@ fn next_key(
     match lexeme {
         Lexeme::Name(name) => {
             if keys.has(&name) {
-                return Err(Stop::Syntax);
+                return refused((table, keys, name));
             }
             Ok(Mode::AfterKey(kind, table, keys, name))
         }
-        _ => Err(Stop::Syntax),
+        other => refused((other, table, keys)),
     }
 }
 
@@ -470,11 +506,8 @@ fn after_key(
     ensures { Gives (λ m. (frames.new, m)) result (key_step lexeme frames.old kind table keys name) }
 {
     match lexeme {
-        Lexeme::Sign(Sign::Assign) => {
-            frames.push(Frame::Key(kind, table, keys, name))?;
-            Ok(Mode::Operand)
-        }
-        _ => Err(Stop::Syntax),
+        Lexeme::Sign(Sign::Assign) => { frames.open(Frame::Key(kind, table, keys, name)) }
+        other => refused((other, table, keys, name)),
     }
 }
 
@@ -490,7 +523,7 @@ fn after_not(
 {
     match lexeme {
         Lexeme::Keyword(Keyword::In) => infix(alloc, dialect, BinaryOp::NotIn, frames, tree),
-        _ => Err(Stop::Syntax),
+        other => refused((other, tree)),
     }
 }
 
@@ -499,7 +532,7 @@ fn after_dot(alloc: Global, tree: Formula, lexeme: Lexeme) -> Result<Mode, Stop>
 {
     match lexeme {
         Lexeme::Name(name) => Ok(Mode::Operator(attribute(alloc, tree, name)?)),
-        _ => Err(Stop::Syntax),
+        other => refused((other, tree)),
     }
 }
 
@@ -514,7 +547,7 @@ fn after_table_point(
 {
     match lexeme {
         Lexeme::Name(name) => after_point(alloc, frames, table, name.as_str()),
-        _ => Err(Stop::Syntax),
+        other => refused((other, table)),
     }
 }
 
@@ -523,7 +556,7 @@ fn after_lookup(kind: LookupKind, table: Name, lexeme: Lexeme) -> Result<Mode, S
 {
     match lexeme {
         Lexeme::Sign(Sign::Open) => Ok(Mode::FirstKey(kind, table)),
-        _ => Err(Stop::Syntax),
+        other => refused((other, table)),
     }
 }
 
@@ -532,7 +565,7 @@ fn after_subject(subject: Subject, lexeme: Lexeme) -> Result<Mode, Stop>
 {
     match lexeme {
         Lexeme::Sign(Sign::Point) => Ok(Mode::SubjectPoint(subject)),
-        _ => Err(Stop::Syntax),
+        other => refused(other),
     }
 }
 
@@ -542,9 +575,9 @@ fn after_subject_point(alloc: Global, subject: Subject, lexeme: Lexeme) -> Resul
     match lexeme {
         Lexeme::Name(name) => {
             let atom = Node::Rule(asked(subject, name));
-            Ok(Mode::Operator(kept(alloc, atom, 0)?))
+            operand_of(alloc, atom, 0)
         }
-        _ => Err(Stop::Syntax),
+        other => refused(other),
     }
 }
 
@@ -554,9 +587,9 @@ fn after_user_point(alloc: Global, first: Name, lexeme: Lexeme) -> Result<Mode, 
     match lexeme {
         Lexeme::Name(name) => {
             let atom = Node::Rule(RuleAtom::UserAttribute(first, name));
-            Ok(Mode::Operator(kept(alloc, atom, 0)?))
+            operand_of(alloc, atom, 0)
         }
-        _ => Err(Stop::Syntax),
+        other => refused((other, first)),
     }
 }
 
@@ -592,6 +625,18 @@ pub(crate) fn step(
     }
 }
 
+// The formula that is left once all frames are closed.
+fn closed(alloc: Global, frames: &mut Stack, tree: Formula) -> Result<Formula, Stop>
+    ensures { Gives (λ t. t) result (closed frames.old tree) }
+{
+    let tree = reduce(alloc, 0, frames, tree)?;
+    if frames.is_empty() {
+        Ok(tree)
+    } else {
+        Err(Stop::Syntax)
+    }
+}
+
 /// What the end of the tokens makes of what is open.
 #[tactic(auto, unfolding(crate::specs::Runs::finish))]
 pub(crate) fn finish(alloc: Global, frames: &mut Stack, mode: Mode) -> Result<Formula, Stop>
@@ -600,9 +645,10 @@ pub(crate) fn finish(alloc: Global, frames: &mut Stack, mode: Mode) -> Result<Fo
     match mode {
         Mode::Operator(tree) => {
             let tree = reduce(alloc, 0, frames, tree)?;
-            match frames.pop() {
-                Some(_) => Err(Stop::Syntax),
-                None => Ok(tree),
+            if frames.is_empty() {
+                Ok(tree)
+            } else {
+                Err(Stop::Syntax)
             }
         }
         _ => Err(Stop::Syntax),

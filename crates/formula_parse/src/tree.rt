@@ -202,6 +202,15 @@ impl ArgumentList {
         self.items.push(formula)
     }
 
+    // The list with one more at its end.
+    pub(crate) fn with(self, formula: Formula) -> Result<Self, AllocError>
+        ensures { IfOk result (λ made. made ≡ self ++ formula ∷ []) }
+    {
+        let mut items = self.items;
+        items.push(formula)?;
+        Ok(ArgumentList { items })
+    }
+
     /// Whether there are no formulas.
     pub fn is_empty(&self) -> bool
         ensures { IsTrue result ↔ (self.now ≡ []) }

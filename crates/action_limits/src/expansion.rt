@@ -131,8 +131,10 @@ fn add_expansion<D: DocTables>(
     requires adds { AddsSo action.now count }
     ensures { IfOk result (λ e. IsExpansion (D.document tables.now) action.now e) }
 {
-    let table = name_of(alloc, table_of(action))?;
-    let added = extent_added(tables, &table, count);
+    let added = {
+        let table = name_of(alloc, table_of(action))?;
+        extent_added(tables, &table, count)
+    };
     let most = wider(peaks_before(tables, tally.within), added);
     let before = sums_of(tally);
     if let Some(kind) = first_of_peaks(before, most) {
@@ -218,8 +220,10 @@ fn schema_expansion<D: DocTables>(
     requires grows { grows_schema action.now ≡ true }
     ensures { IfOk result (λ e. IsExpansion (D.document tables.now) action.now e) }
 {
-    let table = name_of(alloc, table_of(action))?;
-    let grown = extent_grown(tables, &table, action);
+    let grown = {
+        let table = name_of(alloc, table_of(action))?;
+        extent_grown(tables, &table, action)
+    };
     let most = wider(peaks_before(tables, tally.within), grown);
     let Some(steps) = steps(alloc, tables, action)? else {
         let Some(kind) = first_of_peaks(with_new_tables(tally, action), most) else {

@@ -1,5 +1,5 @@
 use Rattle.session_gate.specs.Gate.{IsPassOf}
-use Rattle.session_gate.proofs.tests.call_each.Given as goal
+use Rattle.gate_tests.proofs.turns.call_each.Given as goal
 
 abbrev pub invariant-loop-event : goal.invariant-loop-event
 invariant-loop-event g l = IsPassOf l.gate l.pass

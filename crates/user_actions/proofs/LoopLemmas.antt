@@ -1,5 +1,5 @@
 -- One more turn of a loop over a list, and what is told of what is made.
-use Rattle.std.proofs.Common.{ℕ, suc, ◌+◌, ◌<◌, ◌≤◌, Bool, true, false, cond, List, [], ◌∷◌, ◌++◌, map, filter, take, drop, length, get_or, ◌≡◌, refl, sym, ap, subst, ◌∙◌, add-one, Option, Some, None, arith}
+use Rattle.std.proofs.Common.{ℕ, suc, ◌+◌, ◌<◌, ◌≤◌, Bool, true, false, cond, List, [], ◌∷◌, ◌++◌, map, filter, take, drop, length, min, get_or, ◌≡◌, refl, sym, ap, subst, ◌∙◌, add-one, Option, Some, None, arith}
 use Rattle.std.proofs.Math.Seq.{drop-cons}
 use Rattle.std.proofs.lemmas.Bool.{false≢true}
 use Rattle.std.proofs.lemmas.List.{append_assoc, append-nil, drop_all, map_more}
@@ -41,14 +41,23 @@ module _ (p : ℕ → Bool) (xs : List ℕ) (i : ℕ) (ys zs all : List ℕ) (b 
       ap (λ l. l ++ filter p (drop (i + 1) xs)) same
       ∙ sym (ap (λ c. cond c (ys ++ (get_or xs i 0 ∷ filter p (drop (i + 1) xs))) (ys ++ filter p (drop (i + 1) xs))) fails) ∙ step
 
+-- the row of the next column, up to the last row id
+pub next_row : (last i row next : ℕ) → next ≡ min (row + 1) 4294967295 → (last + i ≤ 4294967295 → row ≡ last + i) → last + (i + 1) ≤ 4294967295 → next ≡ last + (i + 1)
+next_row last i row next is before fits =
+    let at : row ≡ last + i = before (omega (arith, fits)) in
+    is ∙ omega (arith, at, fits)
+
+pub fits_next : (last i n : ℕ) → i < n → last + n ≤ 4294967295 → last + (i + 1) ≤ 4294967295
+fits_next last i n lt fits = omega (arith, lt, fits)
+
 module _ (cs : List UserCol) (i : ℕ) (c : UserCol) (taken taken' : List (List ℕ)) (lt : i < length cs) (is : c ≡ get_or cs i c) (more : taken' ≡ taken ++ free_name taken c.id ∷ []) where
   left : drop i cs ≡ c ∷ drop (i + 1) cs
   left = next_left cs i c lt ∙ ap (λ c. c ∷ drop (i + 1) cs) (sym is)
 
   -- one more column
-  pub columns_more : (last row : ℕ) (made made' all : List ColDef) → row ≡ last + i + 1 → made' ≡ made ++ new_column taken row c ∷ [] → made ++ new_columns taken (last + i) (drop i cs) ≡ all → made' ++ new_columns taken' (last + (i + 1)) (drop (i + 1) cs) ≡ all
-  columns_more last row made made' all at pushed so =
-      let next : row ≡ last + (i + 1) = omega (arith, at) in
+  pub columns_more : (last row : ℕ) (made made' all : List ColDef) → row ≡ last + (i + 1) → made' ≡ made ++ new_column taken row c ∷ [] → made ++ new_columns taken (last + i) (drop i cs) ≡ all → made' ++ new_columns taken' (last + (i + 1)) (drop (i + 1) cs) ≡ all
+  columns_more last row made made' all next pushed so =
+      let at : row ≡ last + i + 1 = omega (arith, next) in
       ap (λ l. l ++ new_columns taken' (last + (i + 1)) (drop (i + 1) cs)) pushed
       ∙ append_assoc made (new_column taken row c ∷ []) (new_columns taken' (last + (i + 1)) (drop (i + 1) cs))
       ∙ ap (λ r. made ++ (new_column taken r c ∷ new_columns taken' (last + (i + 1)) (drop (i + 1) cs))) at

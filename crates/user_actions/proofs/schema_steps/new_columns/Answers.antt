@@ -1,5 +1,6 @@
-use Rattle.std.proofs.Common.{◌≡◌, ◌+◌, ◌∙◌, length, arith}
-use Rattle.user_actions.proofs.LoopLemmas.{columns_more, fresh_more, columns_done, fresh_done}
+use Rattle.std.proofs.Common.{◌≡◌, ◌+◌, ◌≤◌, ◌∙◌, [], length}
+use Rattle.user_actions.specs.Steps.{new_columns}
+use Rattle.user_actions.proofs.LoopLemmas.{next_row, fits_next, columns_more, fresh_more, columns_done, fresh_done}
 use Rattle.user_actions.proofs.schema_steps.new_columns.Goals as goal
 
 pub loop-column-preserved : goal.loop-column-preserved
@@ -10,15 +11,12 @@ loop-column-preserved c =
     let taken = c.loop-column.taken.items in
     let taken' = c.add_column.new.taken.items in
     let invariant = c.loop-column.invariant in
+    let at : c.args.last + (i + 1) ≤ 4294967295 → c.saturating_add-row.result ≡ c.args.last + (i + 1) = next_row c.args.last i c.loop-column.row c.saturating_add-row.result c.saturating_add-row.ensures invariant.row in
     record {
-      row = λ fits.
-          let before : c.loop-column.row ≡ c.args.last + i = invariant.row (omega arith) in
-          omega (arith, c.saturating_add-row.ensures);
+      row = at;
       made = λ fits.
-          let before : c.loop-column.row ≡ c.args.last + i = invariant.row (omega arith) in
-          let at : c.saturating_add-row.result ≡ c.args.last + i + 1 = omega (arith, c.saturating_add-row.ensures) in
-          columns_more cs i item taken taken' c.loop-column-test.true c.column-item.is c.in_ok-add_column.ensures.taken
-          c.args.last c.saturating_add-row.result c.loop-column.made.items c.add_column.new.made.items _ at c.in_ok-add_column.ensures.made (invariant.made fits);
+        columns_more cs i item taken taken' c.loop-column-test.true c.column-item.is c.in_ok-add_column.ensures.taken
+        c.args.last c.saturating_add-row.result c.loop-column.made.items c.add_column.new.made.items (new_columns [] c.args.last cs) (at (fits_next c.args.last i (length cs) c.loop-column-test.true fits)) c.in_ok-add_column.ensures.made (invariant.made fits);
       fresh = λ rest. invariant.fresh (fresh_more cs i item taken taken' c.loop-column-test.true c.column-item.is c.in_ok-add_column.ensures.taken c.in_ok-add_column.ensures.fresh rest);
     }
 

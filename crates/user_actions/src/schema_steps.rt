@@ -136,7 +136,7 @@ fn add_column(
     Ok(())
 }
 
-// The columns of a new table, where their rows pass not the last row id. Their ids are found in
+// The columns of a new table, where their rows do not pass the last row id. Their ids are found in
 // any case, so that the action is known for a valid one.
 fn new_columns(alloc: Global, last: u32, columns: &[UserCol]) -> Result<ColDefList, AllocError>
     requires { list_all has_good_id columns.now ≡ true }
@@ -153,7 +153,7 @@ fn new_columns(alloc: Global, last: u32, columns: &[UserCol]) -> Result<ColDefLi
     Ok(ColDefList::from(made))
 }
 
-// The action that adds a table, where its rows pass not the last row id.
+// The action that adds a table, where its rows do not pass the last row id.
 fn table_said<D: DocTables>(
     alloc: Global,
     tables: &D,
@@ -224,6 +224,13 @@ fn unless_past(greatest: u64, steps: StepList) -> Option<StepList>
     Some(steps)
 }
 
+fn renamed_table(alloc: Global, table: &Name, new: Name) -> Result<StepList, AllocError>
+    ensures { IfOk result (λ l. l ≡ direct (RenameTable table.now new) ∷ []) }
+{
+    let table = table.clone()?;
+    direct(alloc, DocAction::RenameTable { table, new })
+}
+
 /// The steps that rename a table.
 pub(crate) fn rename_table_steps<D: DocTables>(
     alloc: Global,
@@ -240,8 +247,7 @@ pub(crate) fn rename_table_steps<D: DocTables>(
         return Ok(StepList::new(alloc));
     }
     let new = new_table_id(alloc, tables, new)?;
-    let table = table.clone()?;
-    let steps = direct(alloc, DocAction::RenameTable { table, new })?;
+    let steps = renamed_table(alloc, table, new)?;
     Ok(steps)
 }
 

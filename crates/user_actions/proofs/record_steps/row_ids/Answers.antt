@@ -1,4 +1,4 @@
-use Rattle.std.proofs.Common.{ℤ, ◌∙◌, pos, get_or, unwrap_or}
+use Rattle.std.proofs.Common.{ℤ, pos, unwrap_or}
 use Rattle.cell_types.specs.Reference.{row_number}
 use Rattle.user_actions.proofs.LoopLemmas.{mapped_more}
 use Rattle.user_actions.proofs.record_steps.row_ids.Goals as goal

@@ -1,7 +1,5 @@
-use Rattle.std.proofs.Common.{ℕ, List, [], ◌∷◌, ◌≡◌, ◌∙◌, ◌+◌, ◌<◌, ◌≤◌, ap, arith}
-use Rattle.doc_model.specs.declared.action.DocAction.{DocAction}
+use Rattle.std.proofs.Common.{[], ◌∷◌, ◌≡◌, ◌∙◌, ◌+◌, ◌<◌, ◌≤◌, ap, arith}
 use Rattle.doc_model.specs.declared.action.DocAction.TheVariants.{AddColumn}
-use Rattle.doc_model.specs.declared.action.Step.{Step}
 use Rattle.doc_model.specs.MetadataIds.{columns_id}
 use Rattle.user_actions.specs.Steps.{column_ids, column_said, direct, last_row, new_column}
 use Rattle.user_actions.proofs.LoopLemmas.{otherwise}

@@ -1,7 +1,5 @@
-use Rattle.std.proofs.Common.{ℕ, List, [], ◌∷◌, ◌≡◌, ◌∙◌, ◌+◌, ◌<◌, ◌≤◌, ap, length, arith}
-use Rattle.doc_model.specs.declared.action.DocAction.{DocAction}
+use Rattle.std.proofs.Common.{[], ◌∷◌, ◌≡◌, ◌∙◌, ◌+◌, ◌<◌, ◌≤◌, ap, length, arith}
 use Rattle.doc_model.specs.declared.action.DocAction.TheVariants.{AddTable}
-use Rattle.doc_model.specs.declared.action.Step.{Step}
 use Rattle.doc_model.specs.MetadataIds.{columns_id, tables_id}
 use Rattle.name_rules.specs.FreeName.{free_name}
 use Rattle.user_actions.specs.Steps.{direct, last_row, new_columns, table_ids, table_said}

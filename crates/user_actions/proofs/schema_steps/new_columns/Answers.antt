@@ -15,8 +15,8 @@ loop-column-preserved c =
     record {
       row = at;
       made = λ fits.
-        columns_more cs i item taken taken' c.loop-column-test.true c.column-item.is c.in_ok-add_column.ensures.taken
-        c.args.last c.saturating_add-row.result c.loop-column.made.items c.add_column.new.made.items (new_columns [] c.args.last cs) (at (fits_next c.args.last i (length cs) c.loop-column-test.true fits)) c.in_ok-add_column.ensures.made (invariant.made fits);
+          columns_more cs i item taken taken' c.loop-column-test.true c.column-item.is c.in_ok-add_column.ensures.taken
+          c.args.last c.saturating_add-row.result c.loop-column.made.items c.add_column.new.made.items (new_columns [] c.args.last cs) (at (fits_next c.args.last i (length cs) c.loop-column-test.true fits)) c.in_ok-add_column.ensures.made (invariant.made fits);
       fresh = λ rest. invariant.fresh (fresh_more cs i item taken taken' c.loop-column-test.true c.column-item.is c.in_ok-add_column.ensures.taken c.in_ok-add_column.ensures.fresh rest);
     }
 

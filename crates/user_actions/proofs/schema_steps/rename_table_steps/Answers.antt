@@ -1,4 +1,4 @@
-use Rattle.std.proofs.Common.{ℕ, List, [], ◌∷◌, ◌≡◌, ◌∙◌, sym, ap, false, cond, rules}
+use Rattle.std.proofs.Common.{ℕ, List, [], ◌∷◌, ◌≡◌, ◌∙◌, sym, ap, false, cond}
 use Rattle.std.specs.Str.{bytes_eq}
 use Rattle.doc_model.specs.declared.action.DocAction.TheVariants.{RenameTable}
 use Rattle.doc_model.specs.declared.action.Step.{Step}
@@ -11,8 +11,7 @@ returns-clause-fresh g c = λ _. c.in_ok-new.ensures.fresh
 
 pub returns-clause-made : goal.returns-clause-made
 returns-clause-made g c =
-    let named : List ℕ → List ℕ → List Step = λ table new. direct (RenameTable table new) ∷ [] in
+    let named : List ℕ → List Step = λ new. direct (RenameTable c.args.table.now new) ∷ [] in
     let differs : bytes_eq c.args.table.now c.args.new.now ≡ false = sym (ap (λ t. bytes_eq t c.args.new.now) c.as_str.ensures.value) ∙ sym c.if-eq.ensures in
-    let copied : c.in_ok-table.table ≡ c.args.table.now = search rules in
-    c.in_ok-steps.ensures ∙ ap (λ table. named table c.in_ok-new.new) copied ∙ ap (named c.args.table.now) c.in_ok-new.ensures.made
-    ∙ sym (ap (λ b. cond b [] (named c.args.table.now (free_name (table_ids (g.D.DocTables.document c.args.tables.now)) c.args.new.now))) differs)
+    c.in_ok-steps.ensures ∙ ap named c.in_ok-new.ensures.made
+    ∙ sym (ap (λ b. cond b [] (named (free_name (table_ids (g.D.DocTables.document c.args.tables.now)) c.args.new.now))) differs)

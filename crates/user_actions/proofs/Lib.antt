@@ -1,5 +1,6 @@
 pub mod AllowedLemmas
 mod FitLemmas
+mod LoopLemmas
 mod NumberLemmas
 mod ObjectionLemmas
 pub mod RecordStepLemmas

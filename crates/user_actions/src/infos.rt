@@ -1,10 +1,26 @@
 //! What a user says of a column.
 
-ghost use Rattle.std.specs.Prelude.{◌≡◌, Some, IfOk, is_some, unwrap_or};
-ghost use Rattle.user_actions.specs.Infos.{has_no_formula, has_type, is_plain, type_of};
+ghost use Rattle.std.specs.Prelude.{◌≡◌, Some, None, IfOk, codes, is_some, unwrap_or};
+ghost use Rattle.user_actions.specs.Infos.{has_no_formula, has_type, is_plain, named, type_of};
 
 use cell_types::ColType;
 use doc_model::UserCol;
+
+// The type of numbers, truths or dates that a text names.
+fn scalar_type_of(text: &str) -> Option<ColType>
+    ensures { result ≡ named text.now (codes "Int") ColType.Int (named text.now (codes "Bool") ColType.Bool (named text.now (codes "Date") ColType.Date None)) }
+{
+    if text == "Int" {
+        return Some(ColType::Int);
+    }
+    if text == "Bool" {
+        return Some(ColType::Bool);
+    }
+    if text == "Date" {
+        return Some(ColType::Date);
+    }
+    None
+}
 
 /// The type that a text names.
 pub(crate) fn type_of(text: &str) -> Option<ColType>
@@ -16,16 +32,7 @@ pub(crate) fn type_of(text: &str) -> Option<ColType>
     if text == "Text" {
         return Some(ColType::Text);
     }
-    if text == "Int" {
-        return Some(ColType::Int);
-    }
-    if text == "Bool" {
-        return Some(ColType::Bool);
-    }
-    if text == "Date" {
-        return Some(ColType::Date);
-    }
-    None
+    scalar_type_of(text)
 }
 
 fn has_type(column: &UserCol) -> bool

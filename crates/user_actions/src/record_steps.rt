@@ -1,6 +1,6 @@
 //! The steps of record actions.
 
-ghost use Rattle.std.specs.Prelude.{◌≡◌, ◌<◌, ◌+◌, [], ◌∷◌, true, map, IfOk, MatchOption, unwrap_or};
+ghost use Rattle.std.specs.Prelude.{◌≡◌, ◌<◌, ◌≤◌, ◌+◌, [], ◌∷◌, true, map, IfOk, MatchOption, unwrap_or};
 ghost use Rattle.std.specs.List.{list_all};
 ghost use Rattle.cell_types.specs.Conversion.{fit};
 ghost use Rattle.cell_types.specs.Reference.{row_number};
@@ -8,7 +8,7 @@ ghost use Rattle.doc_model.specs.DocumentLaws.{IsWhole};
 ghost use Rattle.doc_model.specs.ViewEdits.{if_any};
 ghost use Rattle.doc_readers.specs.Parts.{grid_at};
 ghost use Rattle.doc_model.specs.declared.action.DocAction.TheVariants.{BulkAdd, BulkRemove, BulkUpdate};
-ghost use Rattle.user_actions.specs.Steps.{all_fitted, direct, fitted, last_row, numbers_after, row_ids};
+ghost use Rattle.user_actions.specs.Steps.{all_fitted, direct, fitted, last_row, numbers_after, row_ids, type_in};
 ghost use Rattle.user_actions.specs.Allowed.{has_name};
 
 use crate::rows::row_number;
@@ -21,18 +21,16 @@ use doc_readers::find_column;
 use name_rules::name_of;
 use std::alloc::{AllocError, Global};
 
-// So many rows after the last one; nothing where they would pass the last row id.
-fn new_rows(alloc: Global, last: u32, count: u32) -> Result<Option<RowList>, AllocError>
-    ensures { IfOk result (λ o. MatchOption o (4294967295 < last + count) (λ rows. rows ≡ numbers_after last count)) }
+// So many rows after the last one.
+fn new_rows(alloc: Global, last: u32, count: u32) -> Result<RowList, AllocError>
+    requires { last + count ≤ 4294967295 }
+    ensures { IfOk result (λ rows. rows ≡ numbers_after last count) }
 {
-    if LAST_ROW_ID < last as u64 + count as u64 {
-        return Ok(None);
-    }
     let mut rows = Vec::with_capacity(alloc, count as usize)?;
     for place in 0..count {
         rows.push(last + place + 1)?;
     }
-    Ok(Some(RowList::from(rows)))
+    Ok(RowList::from(rows))
 }
 
 /// The rows that were written; a number that is no row id is 0, which no table has.
@@ -43,15 +41,15 @@ pub fn row_ids(alloc: Global, rows: &[i64]) -> Result<RowList, AllocError>
 {
     let mut ids = Vec::with_capacity(alloc, rows.len())?;
     for row in rows {
-        ids.push(row_id(*row))?;
+        ids.push(row_id(row))?;
     }
     Ok(RowList::from(ids))
 }
 
-fn row_id(number: i64) -> u32
-    ensures { result ≡ unwrap_or (row_number number) 0 }
+fn row_id(number: &i64) -> u32
+    ensures { result ≡ unwrap_or (row_number number.now) 0 }
 {
-    match row_number(number) {
+    match row_number(*number) {
         Some(row) => row,
         None => 0,
     }
@@ -68,6 +66,23 @@ fn fit_values(alloc: Global, ty: &ColType, values: &[CellValue]) -> Result<Value
     Ok(ValueList::from(made))
 }
 
+// The values as the column of that id holds them, or one of any type where there is none.
+fn fit_in<D: DocTables>(
+    alloc: Global,
+    tables: &D,
+    table: &Name,
+    id: &Name,
+    values: &[CellValue],
+) -> Result<ValueList, AllocError>
+    requires { IsWhole (D.document tables.now) }
+    ensures { IfOk result (λ l. l ≡ map (fit (type_in (grid_at (D.document tables.now) table.now) id.now)) values.now) }
+{
+    match find_column(tables, table, id) {
+        Some(known) => fit_values(alloc, &known.info.ty, values),
+        None => fit_values(alloc, &ColType::Any, values),
+    }
+}
+
 fn fitted<D: DocTables>(
     alloc: Global,
     tables: &D,
@@ -79,11 +94,7 @@ fn fitted<D: DocTables>(
     ensures { IfOk result (λ k. k ≡ fitted (grid_at (D.document tables.now) table.now) column.now) }
 {
     let id = name_of(alloc, column.id.as_str())?;
-    let given = column.values.as_slice();
-    let values = match find_column(tables, table, &id) {
-        Some(known) => fit_values(alloc, &known.info.ty, given)?,
-        None => fit_values(alloc, &ColType::Any, given)?,
-    };
+    let values = fit_in(alloc, tables, table, &id, column.values.as_slice())?;
     Ok(CellColumn { id, values })
 }
 
@@ -117,6 +128,27 @@ pub(crate) fn direct(alloc: Global, action: DocAction) -> Result<StepList, Alloc
     Ok(steps)
 }
 
+// The action that adds so many records after the last row.
+fn added<D: DocTables>(
+    alloc: Global,
+    tables: &D,
+    table: &Name,
+    last: u32,
+    count: u32,
+    columns: &[UserColumn],
+) -> Result<DocAction, AllocError>
+    requires whole { IsWhole (D.document tables.now) }
+    requires names { list_all has_name columns.now ≡ true }
+    requires fits { last + count ≤ 4294967295 }
+    ensures { IfOk result (λ a. a ≡ BulkAdd table.now (numbers_after last count) (all_fitted (D.document tables.now) table.now columns.now)) }
+{
+    Ok(DocAction::BulkAdd {
+        table: table.clone()?,
+        rows: new_rows(alloc, last, count)?,
+        columns: all_fitted(alloc, tables, table, columns)?,
+    })
+}
+
 /// The steps that add records; nothing where their rows would pass the last row id.
 pub(crate) fn add_steps<D: DocTables>(
     alloc: Global,
@@ -129,15 +161,13 @@ pub(crate) fn add_steps<D: DocTables>(
     requires names { list_all has_name columns.now ≡ true }
     ensures { IfOk result (λ o. MatchOption o (4294967295 < last_row (D.document tables.now) table.now + count) (λ l. l ≡ direct (BulkAdd table.now (numbers_after (last_row (D.document tables.now) table.now) count) (all_fitted (D.document tables.now) table.now columns.now)) ∷ [])) }
 {
-    let Some(rows) = new_rows(alloc, last_row(tables, table), count)? else {
+    let last = last_row(tables, table);
+    if LAST_ROW_ID < last as u64 + count as u64 {
         return Ok(None);
-    };
-    let action = DocAction::BulkAdd {
-        table: table.clone()?,
-        rows,
-        columns: all_fitted(alloc, tables, table, columns)?,
-    };
-    Ok(Some(direct(alloc, action)?))
+    }
+    let action = added(alloc, tables, table, last, count, columns)?;
+    let steps = direct(alloc, action)?;
+    Ok(Some(steps))
 }
 
 // The action that updates records.

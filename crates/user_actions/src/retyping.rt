@@ -1,6 +1,6 @@
 //! The steps that give a column another type.
 
-ghost use Rattle.std.specs.Prelude.{◌≡◌, ◌++◌, [], ◌∷◌, true, not, option_to_list, IfOk};
+ghost use Rattle.std.specs.Prelude.{◌≡◌, ◌++◌, [], ◌∷◌, true, not, IfOk};
 ghost use Rattle.cell_types.specs.Conversion.{fit};
 ghost use Rattle.cell_types.specs.NameRule.{is_name};
 ghost use Rattle.doc_model.specs.Column.{column_id};
@@ -10,14 +10,12 @@ ghost use Rattle.doc_model.specs.Same.{same_type, same_value};
 ghost use Rattle.doc_model.specs.ViewEdits.{if_any};
 ghost use Rattle.doc_model.specs.declared.action.DocAction.TheVariants.{BulkUpdate, ModifyColumn};
 ghost use Rattle.doc_readers.specs.Parts.{grid_at};
-ghost use Rattle.user_actions.specs.Steps.{column_refitted, direct, indirect, modified, retyped, rows_changed};
+ghost use Rattle.user_actions.specs.Steps.{column_refitted, direct, indirect, info_said, modified, retyped, rows_changed};
 
 use crate::record_steps::direct;
-use crate::schema_steps::info_said;
+use crate::schema_steps::{info_said, type_said};
 use cell_types::{CellValue, ColType, Name, RowList, Same, ValueList, convert};
-use doc_model::{
-    CellColumn, ColDef, ColInfo, ColumnList, DocAction, DocTables, Step, StepList, UserCol,
-};
+use doc_model::{CellColumn, ColDef, ColumnList, DocAction, DocTables, Step, StepList, UserCol};
 use doc_readers::{cell_in, find_column, rows_in};
 use name_rules::name_of;
 use std::alloc::{AllocError, Global};
@@ -34,6 +32,14 @@ fn is_same_type(left: &ColType, right: &ColType) -> bool
     left.same_as(right)
 }
 
+// Whether the value is another one in a column of the type.
+fn is_other(alloc: Global, ty: &ColType, value: &CellValue) -> Result<bool, AllocError>
+    ensures { IfOk result (λ b. b ≡ not (same_value value.now (fit ty.now value.now))) }
+{
+    let fitted = convert(alloc, ty, value)?;
+    Ok(!is_same_value(value, &fitted))
+}
+
 // Whether the cell is another one in a column of the type.
 fn is_changed<D: DocTables>(
     alloc: Global,
@@ -46,8 +52,7 @@ fn is_changed<D: DocTables>(
     ensures { IfOk result (λ b. b ≡ not (same_value (cell column_id (grid_at (D.document tables.now) table.now) column.now row) (fit ty.now (cell column_id (grid_at (D.document tables.now) table.now) column.now row)))) }
 {
     let cell = cell_in(tables, table, column, row)?;
-    let fitted = convert(alloc, ty, &cell)?;
-    Ok(!is_same_value(&cell, &fitted))
+    is_other(alloc, ty, &cell)
 }
 
 // The rows in which a cell of the column is another one in a column of the type.
@@ -131,107 +136,91 @@ fn update_changed<D: DocTables>(
     })
 }
 
-fn modify(table: &Name, column: &Name, info: ColInfo) -> Result<DocAction, AllocError>
-    ensures { IfOk result (λ a. a ≡ ModifyColumn table.now column.now info) }
+// What a column becomes as the user says.
+fn modify(
+    alloc: Global,
+    table: &Name,
+    known: &ColDef,
+    column: &UserCol,
+) -> Result<DocAction, AllocError>
+    ensures { IfOk result (λ a. a ≡ ModifyColumn table.now known.now.id (info_said known.now.info.ty column.now)) }
 {
     Ok(DocAction::ModifyColumn {
         table: table.clone()?,
-        column: column.clone()?,
-        info,
+        column: known.id.clone()?,
+        info: info_said(alloc, &known.info.ty, column)?,
     })
-}
-
-// The update of the cells that a type changes, where there are any.
-fn update_if_any<D: DocTables>(
-    alloc: Global,
-    tables: &D,
-    table: &Name,
-    column: &Name,
-    ty: &ColType,
-    rows: RowList,
-) -> Result<Option<Step>, AllocError>
-    ensures { IfOk result (λ o. option_to_list o ≡ if_any rows (indirect (BulkUpdate table.now rows (column_refitted (grid_at (D.document tables.now) table.now) column.now ty.now rows ∷ [])))) }
-{
-    if rows.is_empty() {
-        return Ok(None);
-    }
-    let update = update_changed(alloc, tables, table, column, ty, rows)?;
-    Ok(Some(update))
 }
 
 // The step that changes a column alone.
 fn modified_alone(
     alloc: Global,
     table: &Name,
-    column: &Name,
-    info: ColInfo,
+    known: &ColDef,
+    column: &UserCol,
 ) -> Result<StepList, AllocError>
-    ensures { IfOk result (λ l. l ≡ direct (ModifyColumn table.now column.now info) ∷ []) }
+    ensures { IfOk result (λ l. l ≡ direct (ModifyColumn table.now known.now.id (info_said known.now.info.ty column.now)) ∷ []) }
 {
-    let action = modify(table, column, info)?;
+    let action = modify(alloc, table, known, column)?;
     direct(alloc, action)
 }
 
-// The steps, and then another one where there is one.
-fn followed(steps: StepList, last: Option<Step>) -> Result<StepList, AllocError>
-    ensures { IfOk result (λ l. l ≡ steps ++ option_to_list last) }
-{
-    match last {
-        Some(step) => {
-            let mut steps = steps;
-            steps.push(step)?;
-            Ok(steps)
-        }
-        None => Ok(steps),
-    }
-}
-
-// The update of the cells that another type of a column changes, where there are any.
-fn update_of_type<D: DocTables>(
+// Adds the update of the cells that another type of a column changes, where there are any.
+fn add_update<D: DocTables>(
     alloc: Global,
     tables: &D,
     table: &Name,
     column: &Name,
     ty: &ColType,
-) -> Result<Option<Step>, AllocError>
+    steps: &mut StepList,
+) -> Result<(), AllocError>
     requires { IsWhole (D.document tables.now) }
-    ensures { IfOk result (λ o. option_to_list o ≡ if_any (rows_changed (grid_at (D.document tables.now) table.now) column.now ty.now) (indirect (BulkUpdate table.now (rows_changed (grid_at (D.document tables.now) table.now) column.now ty.now) (column_refitted (grid_at (D.document tables.now) table.now) column.now ty.now (rows_changed (grid_at (D.document tables.now) table.now) column.now ty.now) ∷ [])))) }
+    ensures { IfOk result (λ _. steps.new ≡ steps.old ++ if_any (rows_changed (grid_at (D.document tables.now) table.now) column.now ty.now) (indirect (BulkUpdate table.now (rows_changed (grid_at (D.document tables.now) table.now) column.now ty.now) (column_refitted (grid_at (D.document tables.now) table.now) column.now ty.now (rows_changed (grid_at (D.document tables.now) table.now) column.now ty.now) ∷ [])))) }
 {
     let rows = rows_changed(alloc, tables, table, column, ty)?;
-    update_if_any(alloc, tables, table, column, ty, rows)
+    if rows.is_empty() {
+        return Ok(());
+    }
+    let update = update_changed(alloc, tables, table, column, ty, rows)?;
+    steps.push(update)?;
+    Ok(())
 }
 
-// The step that changes a column, and then another one where there is one.
-fn modified_with(
-    alloc: Global,
-    table: &Name,
-    column: &Name,
-    info: ColInfo,
-    update: Option<Step>,
-) -> Result<StepList, AllocError>
-    ensures { IfOk result (λ l. l ≡ direct (ModifyColumn table.now column.now info) ∷ option_to_list update) }
-{
-    let steps = modified_alone(alloc, table, column, info)?;
-    followed(steps, update)
-}
-
-// A column of another type, and then the cells that this changes.
+// A column of another type, and then the cells that this changes. The type is given apart from the
+// action that says it, which holds its own.
 fn retyped<D: DocTables>(
     alloc: Global,
     tables: &D,
     table: &Name,
     known: &ColDef,
-    info: ColInfo,
+    ty: &ColType,
+    column: &UserCol,
 ) -> Result<StepList, AllocError>
-    requires { IsWhole (D.document tables.now) }
-    ensures { IfOk result (λ l. l ≡ retyped table.now (grid_at (D.document tables.now) table.now) known.now info) }
+    requires whole { IsWhole (D.document tables.now) }
+    requires said { ty.now ≡ (info_said known.now.info.ty column.now).ty }
+    ensures { IfOk result (λ l. l ≡ retyped table.now (grid_at (D.document tables.now) table.now) known.now (info_said known.now.info.ty column.now)) }
 {
-    if is_same_type(&known.info.ty, &info.ty) {
+    if is_same_type(&known.info.ty, ty) {
         return Ok(StepList::new(alloc));
     }
-    let update = update_of_type(alloc, tables, table, &known.id, &info.ty)?;
-    let steps = modified_with(alloc, table, &known.id, info, update)?;
+    let mut steps = modified_alone(alloc, table, known, column)?;
+    add_update(alloc, tables, table, &known.id, ty, &mut steps)?;
     Ok(steps)
+}
+
+// The steps that change what a column that is there is.
+fn modify_known<D: DocTables>(
+    alloc: Global,
+    tables: &D,
+    table: &Name,
+    known: &ColDef,
+    column: &UserCol,
+) -> Result<StepList, AllocError>
+    requires { IsWhole (D.document tables.now) }
+    ensures { IfOk result (λ l. l ≡ retyped table.now (grid_at (D.document tables.now) table.now) known.now (info_said known.now.info.ty column.now)) }
+{
+    let ty = type_said(&known.info.ty, column)?;
+    retyped(alloc, tables, table, known, &ty, column)
 }
 
 /// The steps that change what a column is.
@@ -247,10 +236,7 @@ pub(crate) fn modify_steps<D: DocTables>(
 {
     let id = name_of(alloc, column.id.as_str())?;
     match find_column(tables, table, &id) {
-        Some(known) => {
-            let info = info_said(alloc, &known.info.ty, column)?;
-            retyped(alloc, tables, table, known, info)
-        }
+        Some(known) => modify_known(alloc, tables, table, known, column),
         None => Ok(StepList::new(alloc)),
     }
 }

@@ -1,12 +1,12 @@
 //! The steps of schema actions.
 
-ghost use Rattle.std.specs.Prelude.{◌≡◌, ◌<◌, ◌+◌, ◌++◌, [], ◌∷◌, true, false, cond, length, max, bytes_eq, IfOk, MatchOption};
+ghost use Rattle.std.specs.Prelude.{◌≡◌, ◌<◌, ◌≤◌, ◌+◌, ◌++◌, [], ◌∷◌, true, false, cond, length, max, bytes_eq, IfOk, MatchOption};
 ghost use Rattle.std.specs.List.{list_all};
 ghost use Rattle.cell_types.specs.NameRule.{is_name};
 ghost use Rattle.cell_types.specs.declared.column_type.ColType.TheVariants.{Any};
 ghost use Rattle.doc_model.specs.DocumentLaws.{IsWhole};
 ghost use Rattle.doc_model.specs.MetadataIds.{columns_id, tables_id};
-ghost use Rattle.doc_model.specs.declared.action.DocAction.TheVariants.{AddColumn, RenameColumn, RenameTable};
+ghost use Rattle.doc_model.specs.declared.action.DocAction.TheVariants.{AddColumn, AddTable, RenameColumn, RenameTable};
 ghost use Rattle.name_rules.specs.FreeName.{free_name};
 ghost use Rattle.user_actions.specs.Objections.{has_good_id};
 ghost use Rattle.user_actions.specs.StepLaws.{AreFresh, IsFresh};
@@ -63,7 +63,8 @@ fn new_column_id<D: DocTables>(
     Ok(id)
 }
 
-fn type_said(other: &ColType, column: &UserCol) -> Result<ColType, AllocError>
+/// The type that a data column gets as the user says.
+pub(crate) fn type_said(other: &ColType, column: &UserCol) -> Result<ColType, AllocError>
     ensures { IfOk result (λ t. t ≡ (info_said other.now column.now).ty) }
 {
     match &column.ty {
@@ -108,6 +109,14 @@ fn new_column(
     })
 }
 
+// Adds an id to the taken ones.
+fn note_id(taken: &mut Vec<Name>, id: &Name) -> Result<(), AllocError>
+    ensures { IfOk result (λ _. taken.new.items ≡ taken.old.items ++ id.now ∷ []) }
+{
+    taken.push(id.clone()?)?;
+    Ok(())
+}
+
 // Adds a new column, and its id to the taken ones.
 fn add_column(
     alloc: Global,
@@ -122,63 +131,50 @@ fn add_column(
     ensures fresh { IfOk result (λ _. IsFresh taken.old.items column.now.id) }
 {
     let column = new_column(alloc, taken, row, column)?;
-    taken.push(column.id.clone()?)?;
+    note_id(taken, &column.id)?;
     made.push(column)?;
     Ok(())
 }
 
-// The columns of a new table; nothing where their rows would pass the last row id. Their ids are
-// found in any case, so that the action is known for a valid one.
-fn new_columns(
-    alloc: Global,
-    last: u32,
-    columns: &[UserCol],
-) -> Result<Option<ColDefList>, AllocError>
+// The columns of a new table, where their rows do not pass the last row id. Their ids are found in
+// any case, so that the action is known for a valid one.
+fn new_columns(alloc: Global, last: u32, columns: &[UserCol]) -> Result<ColDefList, AllocError>
     requires { list_all has_good_id columns.now ≡ true }
-    ensures made { IfOk result (λ o. MatchOption o (4294967295 < last + length columns.now) (λ l. l ≡ new_columns [] last columns.now)) }
+    ensures made { IfOk result (λ l. last + length columns.now ≤ 4294967295 → l ≡ new_columns [] last columns.now) }
     ensures fresh { IfOk result (λ _. AreFresh [] columns.now) }
 {
     let mut taken = Vec::new(alloc);
     let mut made = Vec::with_capacity(alloc, columns.len())?;
-    for place in 0..columns.len() {
-        let row = (last as u64 + 1)
-            .saturating_add(place as u64)
-            .min(LAST_ROW_ID) as u32;
-        add_column(alloc, &mut taken, &mut made, row, &columns[place])?;
+    let mut row = last;
+    for column in columns {
+        row = row.saturating_add(1);
+        add_column(alloc, &mut taken, &mut made, row, column)?;
     }
-    if LAST_ROW_ID - (last as u64) < columns.len() as u64 {
-        return Ok(None);
-    }
-    Ok(Some(ColDefList::from(made)))
+    Ok(ColDefList::from(made))
 }
 
-// The action that adds a table; nothing where a row would pass the last row id.
+// The action that adds a table, where its rows do not pass the last row id.
 fn table_said<D: DocTables>(
     alloc: Global,
     tables: &D,
     table: &str,
+    row: u32,
+    last: u32,
     columns: &[UserCol],
-) -> Result<Option<DocAction>, AllocError>
+) -> Result<DocAction, AllocError>
     requires whole { IsWhole (D.document tables.now) }
     requires name { is_name table.now ≡ true }
     requires names { list_all has_good_id columns.now ≡ true }
-    ensures made { IfOk result (λ o. MatchOption o (4294967295 < max (last_row (D.document tables.now) tables_id + 1) (last_row (D.document tables.now) columns_id + length columns.now)) (λ a. a ≡ table_said (D.document tables.now) table.now columns.now)) }
+    ensures made { IfOk result (λ a. last + length columns.now ≤ 4294967295 → a ≡ AddTable (free_name (table_ids (D.document tables.now)) table.now) row (new_columns [] last columns.now)) }
     ensures fresh { IfOk result (λ _. IsFresh (table_ids (D.document tables.now)) table.now × AreFresh [] columns.now) }
 {
-    let row = last_row(tables, tables_table(tables));
-    let last = last_row(tables, columns_table(tables));
     let table = new_table_id(alloc, tables, table)?;
-    let Some(columns) = new_columns(alloc, last, columns)? else {
-        return Ok(None);
-    };
-    if row == u32::MAX {
-        return Ok(None);
-    }
-    Ok(Some(DocAction::AddTable {
+    let columns = new_columns(alloc, last, columns)?;
+    Ok(DocAction::AddTable {
         table,
-        row: row + 1,
+        row,
         columns,
-    }))
+    })
 }
 
 // A new column beside those of a table, which that row describes.
@@ -199,25 +195,40 @@ fn column_beside<D: DocTables>(
     Ok(made)
 }
 
-// The action that adds a column; nothing where its row would pass the last row id.
+// The action that adds a column, which that row describes.
 fn column_said<D: DocTables>(
     alloc: Global,
     tables: &D,
     table: &Name,
+    row: u32,
     column: &UserCol,
-) -> Result<Option<DocAction>, AllocError>
+) -> Result<DocAction, AllocError>
     requires whole { IsWhole (D.document tables.now) }
     requires name { has_good_id column.now ≡ true }
-    ensures made { IfOk result (λ o. MatchOption o (4294967295 < last_row (D.document tables.now) columns_id + 1) (λ a. a ≡ AddColumn table.now (column_said (D.document tables.now) table.now column.now))) }
+    ensures made { IfOk result (λ a. a ≡ AddColumn table.now (new_column (column_ids (D.document tables.now) table.now) row column.now)) }
     ensures fresh { IfOk result (λ _. IsFresh (column_ids (D.document tables.now) table.now) column.now.id) }
 {
-    let last = last_row(tables, columns_table(tables));
-    let column = column_beside(alloc, tables, table, last.saturating_add(1), column)?;
-    if last == u32::MAX {
-        return Ok(None);
-    }
+    let column = column_beside(alloc, tables, table, row, column)?;
     let table = table.clone()?;
-    Ok(Some(DocAction::AddColumn { table, column }))
+    Ok(DocAction::AddColumn { table, column })
+}
+
+// The steps; nothing where the greatest of their rows would pass the last row id. They are made
+// before that is asked, since an action that is dropped alone has by far the dearer proof.
+fn unless_past(greatest: u64, steps: StepList) -> Option<StepList>
+    ensures { MatchOption result (4294967295 < greatest) (λ l. (greatest ≤ 4294967295) × (l ≡ steps)) }
+{
+    if LAST_ROW_ID < greatest {
+        return None;
+    }
+    Some(steps)
+}
+
+fn renamed_table(alloc: Global, table: &Name, new: Name) -> Result<StepList, AllocError>
+    ensures { IfOk result (λ l. l ≡ direct (RenameTable table.now new) ∷ []) }
+{
+    let table = table.clone()?;
+    direct(alloc, DocAction::RenameTable { table, new })
 }
 
 /// The steps that rename a table.
@@ -236,8 +247,7 @@ pub(crate) fn rename_table_steps<D: DocTables>(
         return Ok(StepList::new(alloc));
     }
     let new = new_table_id(alloc, tables, new)?;
-    let table = table.clone()?;
-    let steps = direct(alloc, DocAction::RenameTable { table, new })?;
+    let steps = renamed_table(alloc, table, new)?;
     Ok(steps)
 }
 
@@ -290,11 +300,12 @@ pub(crate) fn add_table_steps<D: DocTables>(
     ensures fresh { IfOk result (λ _. IsFresh (table_ids (D.document tables.now)) table.now × AreFresh [] columns.now) }
     ensures made { IfOk result (λ o. MatchOption o (4294967295 < max (last_row (D.document tables.now) tables_id + 1) (last_row (D.document tables.now) columns_id + length columns.now)) (λ l. l ≡ direct (table_said (D.document tables.now) table.now columns.now) ∷ [])) }
 {
-    let Some(action) = table_said(alloc, tables, table, columns)? else {
-        return Ok(None);
-    };
+    let row = last_row(tables, tables_table(tables));
+    let last = last_row(tables, columns_table(tables));
+    let greatest = (row as u64 + 1).max((last as u64).saturating_add(columns.len() as u64));
+    let action = table_said(alloc, tables, table, row.saturating_add(1), last, columns)?;
     let steps = direct(alloc, action)?;
-    Ok(Some(steps))
+    Ok(unless_past(greatest, steps))
 }
 
 /// The steps that add a column; nothing where its row would pass the last row id.
@@ -309,9 +320,8 @@ pub(crate) fn add_column_steps<D: DocTables>(
     ensures fresh { IfOk result (λ _. IsFresh (column_ids (D.document tables.now) table.now) column.now.id) }
     ensures made { IfOk result (λ o. MatchOption o (4294967295 < last_row (D.document tables.now) columns_id + 1) (λ l. l ≡ direct (AddColumn table.now (column_said (D.document tables.now) table.now column.now)) ∷ [])) }
 {
-    let Some(action) = column_said(alloc, tables, table, column)? else {
-        return Ok(None);
-    };
+    let last = last_row(tables, columns_table(tables));
+    let action = column_said(alloc, tables, table, last.saturating_add(1), column)?;
     let steps = direct(alloc, action)?;
-    Ok(Some(steps))
+    Ok(unless_past(last as u64 + 1, steps))
 }

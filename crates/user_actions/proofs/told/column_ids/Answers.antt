@@ -11,7 +11,7 @@ loop-column-smaller g c =
     let id = c.args.table.now in
     let counts : c.len.result ≡ length c.loop-column.ids.items = search rules in
     walk_fewer column_id (grid_at s id).columns c.loop-column.ids.items c.push.new.self.items c.len.result c.in-Some.column.now c.in_ok-clone.field-0 counts
-    (column_read s id c.len.result c.in-Some.column.now c.in-Some.ensures) (search rules) (search rules)
+    (column_read s id c.len.result c.in-Some.column.now c.in-Some.ensures) (search rules) c.in_ok-push.ensures.items
 
 pub loop-column-preserved : goal.loop-column-preserved
 loop-column-preserved g c =
@@ -19,7 +19,7 @@ loop-column-preserved g c =
     let id = c.args.table.now in
     let counts : c.len.result ≡ length c.loop-column.ids.items = search rules in
     walk_step column_id (grid_at s id).columns c.loop-column.ids.items c.push.new.self.items c.len.result c.in-Some.column.now c.in_ok-clone.field-0 counts
-    (column_read s id c.len.result c.in-Some.column.now c.in-Some.ensures) (search rules) (search rules) c.loop-column.invariant
+    (column_read s id c.len.result c.in-Some.column.now c.in-Some.ensures) (search rules) c.in_ok-push.ensures.items c.loop-column.invariant
 
 pub returns : goal.returns
 returns g c =

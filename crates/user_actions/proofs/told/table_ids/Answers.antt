@@ -9,7 +9,7 @@ loop-id-smaller g c =
     let counts : c.len.result ≡ length c.loop-id.ids.items = search rules in
     let named : c.in_ok-clone.field-0 ≡ c.in-Some.id.now = search rules in
     let t = table_read s c.len.result c.in-Some.id.now c.in-Some.ensures in
-    walk_fewer table_id s c.loop-id.ids.items c.push.new.self.items c.len.result t.0 c.in_ok-clone.field-0 counts t.1 (named ∙ t.2) (search rules)
+    walk_fewer table_id s c.loop-id.ids.items c.push.new.self.items c.len.result t.0 c.in_ok-clone.field-0 counts t.1 (named ∙ t.2) c.in_ok-push.ensures.items
 
 pub loop-id-preserved : goal.loop-id-preserved
 loop-id-preserved g c =
@@ -17,7 +17,7 @@ loop-id-preserved g c =
     let counts : c.len.result ≡ length c.loop-id.ids.items = search rules in
     let named : c.in_ok-clone.field-0 ≡ c.in-Some.id.now = search rules in
     let t = table_read s c.len.result c.in-Some.id.now c.in-Some.ensures in
-    walk_step table_id s c.loop-id.ids.items c.push.new.self.items c.len.result t.0 c.in_ok-clone.field-0 counts t.1 (named ∙ t.2) (search rules) c.loop-id.invariant
+    walk_step table_id s c.loop-id.ids.items c.push.new.self.items c.len.result t.0 c.in_ok-clone.field-0 counts t.1 (named ∙ t.2) c.in_ok-push.ensures.items c.loop-id.invariant
 
 pub returns : goal.returns
 returns g c =

@@ -1,18 +1,17 @@
 //! A whole document as plain tables.
 
-ghost use Rattle.std.specs.Prelude.{◌≡◌, ◌∷◌, [], IfOk, MatchOption, None, Some};
+ghost use Rattle.std.specs.Prelude.{◌≡◌, IfOk};
 ghost use Rattle.std.specs.Option.{option_copied};
 ghost use Rattle.doc_model.specs.ByIds.{find_id};
 ghost use Rattle.doc_model.specs.Document.{table_id};
-ghost use Rattle.doc_model.specs.MetadataIds.{resources_id, rules_id};
-ghost use Rattle.doc_model.specs.NewDocument.{first_table, new_document, no_rows};
-ghost use Rattle.doc_model.specs.Schema.{metadata_table, resources_columns, rules_columns};
+ghost use Rattle.doc_model.specs.NewDocument.{new_document};
 
 use crate::RowTable;
-use crate::known::{Known, name_of};
-use crate::metadata::{first_columns, metadata_table, resources_columns, rules_columns};
+use crate::known::Known;
+use crate::making::all_made;
+use crate::metadata::EmptyTables;
 use crate::put::{Replaced, put_back, schema_put};
-use crate::schema::with_schema;
+use crate::schema::{schema_tables, swap_schema};
 use crate::steps::{is_record, place_of_table, table_named};
 use cell_types::{CellValue, Name};
 use doc_model::{ColDef, DocAction, DocTables};
@@ -39,59 +38,23 @@ impl Model for RowTables {
     ghost invariant = { λ a. IsWhole a.tables.items };
 }
 
-fn empty_resources(alloc: Global) -> Result<RowTable, AllocError>
-    ensures { IfOk result (λ t. t ≡ metadata_table resources_id (no_rows resources_columns)) }
-{
-    let columns = resources_columns(alloc)?;
-    metadata_table(
-        alloc,
-        Known::Resources,
-        columns,
-        Vec::new(alloc),
-        Vec::new(alloc),
-    )
-}
-
-fn empty_rules(alloc: Global) -> Result<RowTable, AllocError>
-    ensures { IfOk result (λ t. t ≡ metadata_table rules_id (no_rows rules_columns)) }
-{
-    let columns = rules_columns(alloc)?;
-    metadata_table(
-        alloc,
-        Known::Rules,
-        columns,
-        Vec::new(alloc),
-        Vec::new(alloc),
-    )
-}
-
-fn first_table(alloc: Global) -> Result<RowTable, AllocError>
-    ensures { IfOk result (λ t. t ≡ first_table) }
-{
-    Ok(RowTable {
-        id: name_of(alloc, Known::Table1)?,
-        row: 1,
-        columns: first_columns(alloc)?,
-        rows: Vec::new(alloc),
-        cells: Vec::new(alloc),
-    })
-}
-
-// The plain tables of a new document.
-fn first_tables(alloc: Global) -> Result<Vec<RowTable>, AllocError>
-    ensures { IfOk result (λ v. v.items ≡ first_table ∷ []) }
-{
-    let mut plain = Vec::new(alloc);
-    plain.push(first_table(alloc)?)?;
-    Ok(plain)
-}
+// The tables of a new document, in order.
+const FIRST_TABLES: [Known; 5] = [
+    Known::Tables,
+    Known::Columns,
+    Known::Resources,
+    Known::Rules,
+    Known::Table1,
+];
 
 // The tables of a new document.
 fn new_tables(alloc: Global) -> Result<Vec<RowTable>, AllocError>
     ensures { IfOk result (λ v. v.items ≡ new_document) }
 {
-    let plain = first_tables(alloc)?;
-    with_schema(alloc, empty_resources(alloc)?, empty_rules(alloc)?, plain)
+    let mut tables = all_made(alloc, &FIRST_TABLES, &EmptyTables { alloc })?;
+    let schema = schema_tables(alloc, &tables[4..])?;
+    let _without_rows = swap_schema(&mut tables, schema);
+    Ok(tables)
 }
 
 // The table of this id.

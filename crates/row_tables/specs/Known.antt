@@ -4,6 +4,7 @@ use Rattle.cell_types.specs.declared.column_type.ColType.{ColType}
 use Rattle.cell_types.specs.declared.column_type.ColType.TheVariants as type
 use Rattle.cell_types.specs.declared.value.CellValue.{CellValue}
 use Rattle.doc_model.specs.declared.column.ColDef.{ColDef}
+use Rattle.doc_model.specs.declared.column.ColInfo.{ColInfo}
 use Rattle.doc_model.specs.Document.{Table}
 use Rattle.doc_model.specs.MetadataIds.{tables_id, columns_id, resources_id, rules_id}
 use Rattle.doc_model.specs.NewDocument.{first_columns}
@@ -44,12 +45,12 @@ known_type kind.Int = type.Int
 known_type kind.Bool = type.Bool
 known_type (kind.Ref table) = type.Ref (known_text table)
 
+-- what a data column of that type is
+abbrev pub known_info : KnownType → ColInfo
+known_info ty = record { ty = known_type ty; is_formula = false; formula = [] }
+
 abbrev pub known_column : KnownColumn → ColDef
-known_column k = record {
-  id = known_text k.0;
-  info = record { ty = known_type k.1; is_formula = false; formula = [] };
-  row = k.2;
-}
+known_column k = record { id = known_text k.0; info = known_info k.1; row = k.2 }
 
 -- the columns of a table
 abbrev pub known_columns : Known → List ColDef

@@ -172,9 +172,7 @@ impl RowTable {
     pub fn named(&self, new: &Name) -> Result<RowTable, AllocError>
         ensures { IfOk result (λ t. t ≡ renamed new.now self.now) }
     {
-        let mut table = self.copy()?;
-        table.id = copy_of_name(new)?;
-        Ok(table)
+        self.with_columns(new, self.columns_copy()?)
     }
 
     /// The table with the column in its place, whose cells are as new ones are.
@@ -203,7 +201,7 @@ impl RowTable {
     fn with_changed(&self, changed: &Changed) -> Result<RowTable, AllocError>
         ensures { IfOk result (λ t. t ≡ on_grid (with_column changed.now.id.now (told_column changed.now.told)) self.now) }
     {
-        self.with_columns(all_made(self.alloc(), &self.columns, changed)?)
+        self.with_columns(&self.id, all_made(self.alloc(), &self.columns, changed)?)
     }
 
     /// The table with the column of this id under another one.

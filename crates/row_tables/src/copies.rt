@@ -21,13 +21,6 @@ pub(crate) fn copy_of_column(column: &ColDef) -> Result<ColDef, AllocError>
     column.clone()
 }
 
-/// Copies of columns.
-pub(crate) fn copy_of_columns(alloc: Global, columns: &[ColDef]) -> Result<Vec<ColDef>, AllocError>
-    ensures { IfOk result (λ v. v.items ≡ columns.now) }
-{
-    Vec::from_clones(alloc, columns)
-}
-
 #[derive(Drop)]
 struct ValueCopies;
 

@@ -1,7 +1,7 @@
 //! The tables that every new document has, and their columns.
 
 ghost use Rattle.std.specs.Prelude.{◌≡◌, IfOk, [], map};
-ghost use Rattle.row_tables.specs.Known.{known_column, known_columns, known_row, known_table, known_text, known_type};
+ghost use Rattle.row_tables.specs.Known.{known_column, known_columns, known_info, known_row, known_table, known_text, known_type};
 
 use crate::RowTable;
 use crate::known::{Known, name_of};
@@ -70,6 +70,17 @@ fn type_of(alloc: Global, ty: KnownType) -> Result<ColType, AllocError>
     })
 }
 
+// What a data column of that type is.
+fn info_of(alloc: Global, ty: KnownType) -> Result<ColInfo, AllocError>
+    ensures { IfOk result (λ info. info ≡ known_info ty) }
+{
+    Ok(ColInfo {
+        ty: type_of(alloc, ty)?,
+        is_formula: false,
+        formula: CellText::empty(alloc),
+    })
+}
+
 #[derive(Drop)]
 struct KnownColumns {
     alloc: Global,
@@ -85,14 +96,8 @@ impl Maker<KnownColumn> for KnownColumns {
     fn make(&self, column: &KnownColumn) -> Result<ColDef, AllocError> {
         let alloc = self.alloc;
         let KnownColumn(known, ty, row) = *column;
-        let ty = type_of(alloc, ty)?;
+        let info = info_of(alloc, ty)?;
         let id = name_of(alloc, known)?;
-        let formula = CellText::empty(alloc);
-        let info = ColInfo {
-            ty,
-            is_formula: false,
-            formula,
-        };
         Ok(ColDef { id, info, row })
     }
 }

@@ -10,9 +10,8 @@ use crate::RowTable;
 use crate::known::Known;
 use crate::making::all_made;
 use crate::metadata::EmptyTables;
-use crate::put::{Replaced, put_back, schema_put};
+use crate::put::{Replaced, action_put, put_back};
 use crate::schema::{schema_tables, swap_schema};
-use crate::steps::{is_record, place_of_table, table_named};
 use cell_types::{CellValue, Name};
 use doc_model::{ColDef, DocAction, DocTables};
 use std::alloc::{AllocError, Global};
@@ -111,15 +110,7 @@ impl DocTables for RowTables {
     }
 
     fn put(&mut self, action: &DocAction) -> Result<RowBack, AllocError> {
-        if !is_record(action) {
-            let replaced = schema_put(&mut self.tables, action)?;
-            return Ok(RowBack { replaced });
-        }
-        let Some(place) = place_of_table(&self.tables, table_named(action)) else {
-            unreachable!()
-        };
-        let change = self.tables[place].put(action)?;
-        let replaced = Replaced::Changed { place, change };
+        let replaced = action_put(&mut self.tables, action)?;
         Ok(RowBack { replaced })
     }
 

@@ -1,11 +1,9 @@
--- A described column put into its place, and columns gathered table by table.
-use Rattle.std.proofs.Common.{ℕ, suc, Bool, true, false, cond, List, [], ◌∷◌, ◌++◌, ◌+◌, take, get_or, insert, set, length, ◌≡◌, ◌<◌, ◌≤◌, refl, sym, ap, ◌∙◌, eqb, leb, ltb, arith}
+-- Described columns put into their places.
+use Rattle.std.proofs.Common.{ℕ, suc, Bool, true, false, cond, List, [], ◌∷◌, ◌++◌, ◌+◌, insert, set, length, ◌≡◌, ◌<◌, ◌≤◌, refl, sym, ap, ◌∙◌, eqb, leb, ltb, arith}
 use Rattle.std.proofs.lemmas.Bool.{false≢true, eqb-true, eqb-false, eq-eqb, ne_eqb, leb-true, leb-false, lt-ltb, le-ltb}
-use Rattle.std.proofs.lemmas.List.{take_more, append_assoc}
-use Rattle.doc_model.specs.Document.{Table}
-use Rattle.doc_model.specs.Schema.{Described, described_row, all_columns, put_described, in_order}
+use Rattle.doc_model.specs.Schema.{Described, described_row, put_described, in_order}
 use Rattle.doc_model.proofs.Choices.{cond_true, cond_false}
-use Rattle.row_tables.specs.Spots.{described_place, stands_at, columns_of}
+use Rattle.row_tables.specs.Spots.{described_place, put_all, stands_at}
 
 pub spot_within : (row : ℕ) (es : List Described) → described_place row es ≤ length es
 spot_within row [] = omega arith
@@ -59,29 +57,8 @@ module _ (e : Described) (es : List Described) (place : ℕ) (is : place ≡ des
   pub insert_at : b ≡ false → insert es place e ≡ put_described e es
   insert_at h = ap (λ n. insert es n e) is ∙ insert_there e es (ap (λ n. stands_at e.column.row n es) (sym is) ∙ sym told ∙ h)
 
--- ---- gathered columns
-
-columns-append : (ts : List Table) (t : Table) → all_columns (ts ++ t ∷ []) ≡ all_columns ts ++ columns_of t.row t.grid.columns
-columns-append [] t = Rattle.std.proofs.lemmas.List.append-nil (columns_of t.row t.grid.columns)
-columns-append (u ∷ ts) t =
-    ap (λ es. columns_of u.row u.grid.columns ++ es) (columns-append ts t)
-    ∙ sym (append_assoc (columns_of u.row u.grid.columns) (all_columns ts) (columns_of t.row t.grid.columns))
-
-pub columns_step : (ts : List Table) (i : ℕ) (t : Table) → i < length ts → t ≡ get_or ts i t → all_columns (take i ts) ++ columns_of t.row t.grid.columns ≡ all_columns (take (i + 1) ts)
-columns_step ts i t l e =
-    sym (columns-append (take i ts) t) ∙ ap (λ u. all_columns (take i ts ++ u ∷ [])) e ∙ ap all_columns (sym (take_more ts i t l))
-
 -- ---- put in order from the last to the first
 
--- the columns put in before those that stand
-abbrev pub put_all : List Described → List Described → List Described
-put_all [] sorted = sorted
-put_all (e ∷ es) sorted = put_described e (put_all es sorted)
-
-pub put_all-in_order : (es : List Described) → put_all es [] ≡ in_order es
-put_all-in_order [] = refl
-put_all-in_order (e ∷ es) = ap (put_described e) (put_all-in_order es)
-
-pub put_all-append : (es : List Described) (e : Described) (sorted : List Described) → put_all (es ++ e ∷ []) sorted ≡ put_all es (put_described e sorted)
-put_all-append [] e sorted = refl
-put_all-append (x ∷ es) e sorted = ap (put_described x) (put_all-append es e sorted)
+pub put_all-in_order : (es later : List Described) → put_all es (in_order later) ≡ in_order (es ++ later)
+put_all-in_order [] later = refl
+put_all-in_order (e ∷ es) later = ap (put_described e) (put_all-in_order es later)

@@ -1,6 +1,6 @@
 -- One step of a walk over keys and the values beside them.
-use Rattle.std.proofs.Common.{ℕ, zero, suc, Bool, true, false, List, [], ◌∷◌, ◌+◌, map, filter, take, drop, ◌++◌, get_or, length, ◌≡◌, ◌<◌, refl, sym, ap, ◌∙◌, Option, Some, None, slice_get}
-use Rattle.std.proofs.lemmas.List.{drop_more, map_more, take_more, drop-drop}
+use Rattle.std.proofs.Common.{ℕ, zero, suc, Bool, true, false, List, [], ◌∷◌, ◌+◌, filter, take, drop, ◌++◌, get_or, length, ◌≡◌, ◌<◌, refl, sym, ap, ◌∙◌, Option, Some, None, slice_get}
+use Rattle.std.proofs.lemmas.List.{drop_more, take_more, drop-drop}
 use Rattle.std.proofs.lemmas.List.Elements.{filter-append}
 use Rattle.doc_model.specs.Grid.{beside}
 use Rattle.row_tables.specs.Kept.{found_beside}

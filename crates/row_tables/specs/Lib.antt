@@ -1,5 +1,6 @@
 pub mod TableCode
 pub mod Known
+pub mod Told
 pub mod Spots
 pub mod Kept
 pub mod RowPlaces

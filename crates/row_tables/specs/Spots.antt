@@ -1,7 +1,7 @@
--- Where the description of a column goes.
+-- Where the descriptions of columns go.
 use Rattle.std.specs.Prelude.{ℕ, Bool, false, ◌+◌, cond, nat_le, nat_eq, List, [], ◌∷◌, map, Some, None, slice_get}
 use Rattle.doc_model.specs.declared.column.ColDef.{ColDef}
-use Rattle.doc_model.specs.Schema.{Described, described_row}
+use Rattle.doc_model.specs.Schema.{Described, described_row, put_described}
 
 -- the first one whose row is not below, or the end
 abbrev pub described_place : ℕ → List Described → ℕ
@@ -17,3 +17,8 @@ stands_at row place es =
 abbrev pub columns_of : ℕ → List ColDef → List Described
 columns_of parent columns =
     map (λ (d : ColDef). let e : Described = record { parent = parent; column = d } in e) columns
+
+-- the columns put into their places among those that stand, the last one first
+abbrev pub put_all : List Described → List Described → List Described
+put_all [] sorted = sorted
+put_all (e ∷ es) sorted = put_described e (put_all es sorted)

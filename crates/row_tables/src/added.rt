@@ -12,6 +12,7 @@ ghost use Rattle.row_tables.specs.RowPlaces.{AreNew, AreWithin, given_at, new_pl
 use crate::RowTable;
 use crate::given::given_value;
 use crate::in_place::{insert_reserved, remove_at};
+use crate::making::{Maker, all_made};
 use crate::search::search_row;
 use cell_types::{CellValue, ValueList, copy_of, default_of};
 use doc_model::{CellColumn, ColDef};
@@ -30,34 +31,29 @@ pub(crate) fn start_of(alloc: Global, column: &ColDef) -> CellValue
     }
 }
 
-// A column's cell of the new row that is given at this place.
-fn new_cell(
+// The cells of the new row at this place among the rows of an action.
+#[derive(Drop)]
+struct NewRow<'a> {
     alloc: Global,
-    column: &ColDef,
-    values: &[CellColumn],
+    values: &'a [CellColumn],
     place: usize,
-) -> Result<CellValue, AllocError>
-    ensures { IfOk result (λ v. v ≡ unwrap_or (given_at values.now column.now.id place) (start_of column.now)) }
-{
-    match given_value(values, &column.id, place) {
-        Some(value) => copy_of(value),
-        None => Ok(start_of(alloc, column)),
-    }
 }
 
-fn new_cells(
-    alloc: Global,
-    columns: &[ColDef],
-    values: &[CellColumn],
-    place: usize,
-) -> Result<ValueList, AllocError>
-    ensures { IfOk result (λ l. l ≡ map (λ d. unwrap_or (given_at values.now d.id place) (start_of d)) columns.now) }
-{
-    let mut cells = Vec::with_capacity(alloc, columns.len())?;
-    for column in columns {
-        cells.push(new_cell(alloc, column, values, place)?)?;
+impl Maker<ColDef> for NewRow<'_> {
+    ghost use Rattle.std.specs.Prelude.{unwrap_or};
+    ghost use Rattle.doc_model.specs.Column.{start_of};
+    ghost use Rattle.row_tables.specs.RowPlaces.{given_at};
+
+    type Made = CellValue;
+
+    ghost made = { λ a d. unwrap_or (given_at a.values.now d.id a.place) (start_of d) };
+
+    fn make(&self, column: &ColDef) -> Result<CellValue, AllocError> {
+        match given_value(self.values, &column.id, self.place) {
+            Some(value) => copy_of(value),
+            None => Ok(start_of(self.alloc, column)),
+        }
     }
-    Ok(ValueList::from(cells))
 }
 
 // The cells of new rows.
@@ -72,7 +68,12 @@ fn cells_of_new(
 {
     let mut lists = Vec::with_capacity(alloc, rows.len())?;
     for (place, _row) in rows.iter().enumerate() {
-        lists.push(new_cells(alloc, columns, values, place)?)?;
+        let row = NewRow {
+            alloc,
+            values,
+            place,
+        };
+        lists.push(ValueList::from(all_made(alloc, columns, &row)?))?;
     }
     Ok(lists)
 }

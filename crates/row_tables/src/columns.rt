@@ -1,17 +1,18 @@
 //! What schema actions make of one table.
 
-ghost use Rattle.std.specs.Prelude.{◌≡◌, [], ◌∷◌, ◌++◌, IfOk, cond};
-ghost use Rattle.std.specs.Str.{bytes_eq};
+ghost use Rattle.std.specs.Prelude.{◌≡◌, [], ◌∷◌, ◌++◌, IfOk};
 ghost use Rattle.cell_types.specs.declared.value.CellValue.TheVariants.{Null};
 ghost use Rattle.doc_model.specs.Apply.{add_column, new_table, remove_column, with_column, with_info, with_name};
-ghost use Rattle.doc_model.specs.ByIds.{with_id, without_id};
+ghost use Rattle.doc_model.specs.ByIds.{without_id};
 ghost use Rattle.doc_model.specs.Column.{column_id, column_row};
 ghost use Rattle.doc_model.specs.Document.{by_row, on_grid, put_by_row, renamed};
+ghost use Rattle.row_tables.specs.Told.{told_column};
 
 use crate::RowTable;
 use crate::added::start_of;
 use crate::copies::{copy_of_column, copy_of_name};
 use crate::fill::{CellSource, Kept};
+use crate::making::{Maker, all_made};
 use cell_types::{CellValue, Name};
 use doc_model::{ColDef, ColInfo, place_of_column};
 use std::alloc::{AllocError, Global};
@@ -61,6 +62,13 @@ fn columns_without(alloc: Global, columns: &[ColDef], id: &Name) -> Result<Vec<C
     Ok(left)
 }
 
+// What is new of a column.
+#[derive(Drop)]
+pub(crate) enum Told<'a> {
+    Name(&'a Name),
+    Info(&'a ColInfo),
+}
+
 // The column under the new name.
 fn with_name(column: &ColDef, new: &Name) -> Result<ColDef, AllocError>
     ensures { IfOk result (λ d. d ≡ with_name new.now column.now) }
@@ -69,33 +77,6 @@ fn with_name(column: &ColDef, new: &Name) -> Result<ColDef, AllocError>
     let id = copy_of_name(new)?;
     let row = column.row;
     Ok(ColDef { id, info, row })
-}
-
-// The column, under the new name where it has this id.
-fn renamed_column(column: &ColDef, id: &Name, new: &Name) -> Result<ColDef, AllocError>
-    ensures { IfOk result (λ d. d ≡ cond (bytes_eq column.now.id id.now) (with_name new.now column.now) column.now) }
-{
-    if column.id.as_str() == id.as_str() {
-        with_name(column, new)
-    } else {
-        copy_of_column(column)
-    }
-}
-
-// The columns, and those of this id under the new one.
-fn columns_renamed(
-    alloc: Global,
-    columns: &[ColDef],
-    id: &Name,
-    new: &Name,
-) -> Result<Vec<ColDef>, AllocError>
-    ensures { IfOk result (λ v. v.items ≡ with_id column_id id.now (with_name new.now) columns.now) }
-{
-    let mut changed = Vec::with_capacity(alloc, columns.len())?;
-    for column in columns {
-        changed.push(renamed_column(column, id, new)?)?;
-    }
-    Ok(changed)
 }
 
 // The column with the new info.
@@ -108,31 +89,39 @@ fn with_info(column: &ColDef, info: &ColInfo) -> Result<ColDef, AllocError>
     Ok(ColDef { id, info, row })
 }
 
-// The column, with the new info where it has this id.
-fn modified_column(column: &ColDef, id: &Name, info: &ColInfo) -> Result<ColDef, AllocError>
-    ensures { IfOk result (λ d. d ≡ cond (bytes_eq column.now.id id.now) (with_info info.now column.now) column.now) }
+// The column with what is new.
+fn told_column(column: &ColDef, told: &Told) -> Result<ColDef, AllocError>
+    ensures { IfOk result (λ d. d ≡ told_column told.now column.now) }
 {
-    if column.id.as_str() == id.as_str() {
-        with_info(column, info)
-    } else {
-        copy_of_column(column)
+    match told {
+        Told::Name(new) => with_name(column, new),
+        Told::Info(info) => with_info(column, info),
     }
 }
 
-// The columns, and those of this id with the new info.
-fn columns_modified(
-    alloc: Global,
-    columns: &[ColDef],
-    id: &Name,
-    info: &ColInfo,
-) -> Result<Vec<ColDef>, AllocError>
-    ensures { IfOk result (λ v. v.items ≡ with_id column_id id.now (with_info info.now) columns.now) }
-{
-    let mut changed = Vec::with_capacity(alloc, columns.len())?;
-    for column in columns {
-        changed.push(modified_column(column, id, info)?)?;
+// The columns, and those of this id with what is new.
+#[derive(Drop)]
+struct Changed<'a> {
+    id: &'a Name,
+    told: Told<'a>,
+}
+
+impl Maker<ColDef> for Changed<'_> {
+    ghost use Rattle.std.specs.Prelude.{cond};
+    ghost use Rattle.std.specs.Str.{bytes_eq};
+    ghost use Rattle.row_tables.specs.Told.{told_column};
+
+    type Made = ColDef;
+
+    ghost made = { λ a d. cond (bytes_eq d.id a.id.now) (told_column a.told d) d };
+
+    fn make(&self, column: &ColDef) -> Result<ColDef, AllocError> {
+        if column.id.as_str() == self.id.as_str() {
+            told_column(column, &self.told)
+        } else {
+            copy_of_column(column)
+        }
     }
-    Ok(changed)
 }
 
 // A table with a new column.
@@ -183,9 +172,7 @@ impl RowTable {
     pub fn named(&self, new: &Name) -> Result<RowTable, AllocError>
         ensures { IfOk result (λ t. t ≡ renamed new.now self.now) }
     {
-        let mut table = self.copy()?;
-        table.id = copy_of_name(new)?;
-        Ok(table)
+        self.with_columns(new, self.columns_copy()?)
     }
 
     /// The table with the column in its place, whose cells are as new ones are.
@@ -210,19 +197,30 @@ impl RowTable {
         self.refilled(left, self.rows_copy()?, &Kept { table: self })
     }
 
+    // The table with changed columns.
+    fn with_changed(&self, changed: &Changed) -> Result<RowTable, AllocError>
+        ensures { IfOk result (λ t. t ≡ on_grid (with_column changed.now.id.now (told_column changed.now.told)) self.now) }
+    {
+        self.with_columns(&self.id, all_made(self.alloc(), &self.columns, changed)?)
+    }
+
     /// The table with the column of this id under another one.
     pub fn with_column_named(&self, id: &Name, new: &Name) -> Result<RowTable, AllocError>
         ensures { IfOk result (λ t. t ≡ on_grid (with_column id.now (with_name new.now)) self.now) }
     {
-        let columns = columns_renamed(self.alloc(), self.columns(), id, new)?;
-        self.with_columns(columns)
+        self.with_changed(&Changed {
+            id,
+            told: Told::Name(new),
+        })
     }
 
     /// The table with the column of this id of another type or formula.
     pub fn with_column_modified(&self, id: &Name, info: &ColInfo) -> Result<RowTable, AllocError>
         ensures { IfOk result (λ t. t ≡ on_grid (with_column id.now (with_info info.now)) self.now) }
     {
-        let columns = columns_modified(self.alloc(), self.columns(), id, info)?;
-        self.with_columns(columns)
+        self.with_changed(&Changed {
+            id,
+            told: Told::Info(info),
+        })
     }
 }

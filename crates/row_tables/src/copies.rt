@@ -2,6 +2,7 @@
 
 ghost use Rattle.std.specs.Prelude.{◌≡◌, IfOk};
 
+use crate::making::{Maker, all_made};
 use cell_types::{CellValue, Name, ValueList, copy_of};
 use doc_model::ColDef;
 use std::alloc::{AllocError, Global};
@@ -20,11 +21,33 @@ pub(crate) fn copy_of_column(column: &ColDef) -> Result<ColDef, AllocError>
     column.clone()
 }
 
-/// Copies of columns.
-pub(crate) fn copy_of_columns(alloc: Global, columns: &[ColDef]) -> Result<Vec<ColDef>, AllocError>
-    ensures { IfOk result (λ v. v.items ≡ columns.now) }
-{
-    Vec::from_clones(alloc, columns)
+#[derive(Drop)]
+struct ValueCopies;
+
+impl Maker<CellValue> for ValueCopies {
+    type Made = CellValue;
+
+    ghost made = { λ _ v. v };
+
+    fn make(&self, value: &CellValue) -> Result<CellValue, AllocError> {
+        copy_of(value)
+    }
+}
+
+#[derive(Drop)]
+struct RowCopies {
+    alloc: Global,
+}
+
+impl Maker<ValueList> for RowCopies {
+    type Made = ValueList;
+
+    ghost made = { λ _ l. l };
+
+    fn make(&self, values: &ValueList) -> Result<ValueList, AllocError> {
+        let copies = all_made(self.alloc, values.as_slice(), &ValueCopies)?;
+        Ok(ValueList::from(copies))
+    }
 }
 
 /// Copies of the cells of rows.
@@ -34,19 +57,5 @@ pub(crate) fn copy_of_cells(
 ) -> Result<Vec<ValueList>, AllocError>
     ensures { IfOk result (λ v. v.items ≡ cells.now) }
 {
-    let mut copies = Vec::with_capacity(alloc, cells.len())?;
-    for list in cells {
-        copies.push(copy_of_values(alloc, list.as_slice())?)?;
-    }
-    Ok(copies)
-}
-
-fn copy_of_values(alloc: Global, values: &[CellValue]) -> Result<ValueList, AllocError>
-    ensures { IfOk result (λ l. l ≡ values.now) }
-{
-    let mut copies = Vec::with_capacity(alloc, values.len())?;
-    for value in values {
-        copies.push(copy_of(value)?)?;
-    }
-    Ok(ValueList::from(copies))
+    all_made(alloc, cells, &RowCopies { alloc })
 }

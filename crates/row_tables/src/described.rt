@@ -1,9 +1,8 @@
 //! The columns of all tables, as the table of columns describes them.
 
-ghost use Rattle.std.specs.Prelude.{◌≡◌, ◌++◌, IfOk, OnOk, map};
-ghost use Rattle.doc_model.specs.declared.column.ColDef.{ColDef};
+ghost use Rattle.std.specs.Prelude.{◌≡◌, IfOk};
 ghost use Rattle.doc_model.specs.Schema.{all_columns, described_row, in_order, put_described};
-ghost use Rattle.row_tables.specs.Spots.{columns_of, described_place, stands_at};
+ghost use Rattle.row_tables.specs.Spots.{columns_of, described_place, put_all, stands_at};
 
 use crate::RowTable;
 use crate::copies::copy_of_column;
@@ -83,31 +82,17 @@ fn put_described(sorted: &mut Vec<Described>, one: Described) -> Result<(), Allo
     Ok(())
 }
 
-// Adds the columns of a table.
-fn add_columns_of(all: &mut Vec<Described>, table: &RowTable) -> Result<(), AllocError>
-    ensures { IfOk result (λ _. all.new.items ≡ all.old.items ++ columns_of table.now.row table.now.grid.columns) }
+// Puts the columns of a table into their places, the last one first.
+fn put_columns(sorted: &mut Vec<Described>, table: &RowTable) -> Result<(), AllocError>
+    ensures { IfOk result (λ _. sorted.new.items ≡ put_all (columns_of table.now.row table.now.grid.columns) sorted.old.items) }
 {
-    add_columns(all, table.row(), table.columns())
-}
-
-fn add_columns(all: &mut Vec<Described>, parent: u32, columns: &[ColDef]) -> Result<(), AllocError>
-    ensures { IfOk result (λ _. all.new.items ≡ all.old.items ++ columns_of parent columns.now) }
-{
-    for column in columns {
-        all.push(Described::of(parent, column)?)?;
+    let parent = table.row();
+    let columns = table.columns();
+    for passed in 0..columns.len() {
+        let column = &columns[columns.len() - 1 - passed];
+        put_described(sorted, Described::of(parent, column)?)?;
     }
     Ok(())
-}
-
-// The columns of all tables, table by table.
-fn all_columns(alloc: Global, plain: &[RowTable]) -> Result<Vec<Described>, AllocError>
-    ensures { IfOk result (λ v. v.items ≡ all_columns plain.now) }
-{
-    let mut all = Vec::new(alloc);
-    for table in plain {
-        add_columns_of(&mut all, table)?;
-    }
-    Ok(all)
 }
 
 /// The columns of all tables, in the order of their rows.
@@ -120,9 +105,8 @@ pub(crate) fn columns_in_order(
     ensures { IfOk result (λ v. v.items ≡ in_order (all_columns plain.now)) }
 {
     let mut sorted = Vec::new(alloc);
-    let mut all = all_columns(alloc, plain)?;
-    while let Some(last) = all.pop() {
-        put_described(&mut sorted, last)?;
+    for passed in 0..plain.len() {
+        put_columns(&mut sorted, &plain[plain.len() - 1 - passed])?;
     }
     Ok(sorted)
 }

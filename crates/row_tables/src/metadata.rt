@@ -1,130 +1,153 @@
-//! The columns of the metadata tables.
+//! The tables that every new document has, and their columns.
 
-ghost use Rattle.std.specs.Prelude.{◌≡◌, IfOk, [], ◌∷◌, ◌++◌, false};
-ghost use Rattle.cell_types.specs.declared.column_type.ColType.TheVariants.{Any, Ref};
-ghost use Rattle.doc_model.specs.NewDocument.{first_columns};
-ghost use Rattle.doc_model.specs.Schema.{columns_columns, metadata_column, metadata_table, resources_columns, rules_columns, tables_columns};
-ghost use Rattle.row_tables.specs.Known.{known_text};
+ghost use Rattle.std.specs.Prelude.{◌≡◌, IfOk, [], map};
+ghost use Rattle.row_tables.specs.Known.{known_column, known_columns, known_info, known_row, known_table, known_text, known_type};
 
 use crate::RowTable;
 use crate::known::{Known, name_of};
+use crate::making::{Maker, all_made};
 use cell_types::{CellText, ColType, ValueList};
 use doc_model::{ColDef, ColInfo};
 use std::alloc::{AllocError, Global};
 
-// A data column.
-fn data_column(alloc: Global, known: Known, ty: ColType, row: u32) -> Result<ColDef, AllocError>
-    ensures { IfOk result (λ d. d ≡ record { id = known_text known; info = record { ty = ty; is_formula = false; formula = [] }; row = row }) }
+/// The type of a column that every new document has.
+#[derive(Clone, Copy)]
+pub(crate) enum KnownType {
+    Any,
+    Text,
+    Int,
+    Bool,
+    Ref(Known),
+}
+
+/// A data column that every new document has: its id, its type, and the row that describes it.
+#[derive(Clone, Copy)]
+pub(crate) struct KnownColumn(Known, KnownType, u32);
+
+// The columns of a table.
+fn columns_told(table: Known) -> &'static [KnownColumn]
+    ensures { map known_column result.now ≡ known_columns table }
 {
-    Ok(ColDef {
-        id: name_of(alloc, known)?,
-        info: ColInfo {
-            ty,
-            is_formula: false,
-            formula: CellText::empty(alloc),
-        },
-        row,
+    match table {
+        Known::Tables => &[KnownColumn(Known::TableId, KnownType::Text, 0)],
+        Known::Columns => &[
+            KnownColumn(Known::ParentId, KnownType::Ref(Known::Tables), 0),
+            KnownColumn(Known::ColId, KnownType::Text, 0),
+            KnownColumn(Known::Type, KnownType::Text, 0),
+            KnownColumn(Known::IsFormula, KnownType::Bool, 0),
+            KnownColumn(Known::Formula, KnownType::Text, 0),
+        ],
+        Known::Resources => &[
+            KnownColumn(Known::TableId, KnownType::Text, 0),
+            KnownColumn(Known::ColIds, KnownType::Text, 0),
+        ],
+        Known::Rules => &[
+            KnownColumn(Known::Resource, KnownType::Ref(Known::Resources), 0),
+            KnownColumn(Known::AclFormula, KnownType::Text, 0),
+            KnownColumn(Known::PermissionsText, KnownType::Text, 0),
+            KnownColumn(Known::RulePos, KnownType::Int, 0),
+            KnownColumn(Known::UserAttributes, KnownType::Text, 0),
+            KnownColumn(Known::Memo, KnownType::Text, 0),
+        ],
+        Known::Table1 => &[
+            KnownColumn(Known::A, KnownType::Any, 1),
+            KnownColumn(Known::B, KnownType::Any, 2),
+            KnownColumn(Known::C, KnownType::Any, 3),
+        ],
+        _ => &[],
+    }
+}
+
+fn type_of(alloc: Global, ty: KnownType) -> Result<ColType, AllocError>
+    ensures { IfOk result (λ t. t ≡ known_type ty) }
+{
+    Ok(match ty {
+        KnownType::Any => ColType::Any,
+        KnownType::Text => ColType::Text,
+        KnownType::Int => ColType::Int,
+        KnownType::Bool => ColType::Bool,
+        KnownType::Ref(table) => ColType::Ref(name_of(alloc, table)?),
     })
 }
 
-// Adds a column of a metadata table.
-fn add(columns: &mut Vec<ColDef>, known: Known, ty: ColType) -> Result<(), AllocError>
-    ensures { IfOk result (λ _. columns.new.items ≡ columns.old.items ++ metadata_column (known_text known) ty ∷ []) }
+// What a data column of that type is.
+fn info_of(alloc: Global, ty: KnownType) -> Result<ColInfo, AllocError>
+    ensures { IfOk result (λ info. info ≡ known_info ty) }
 {
-    let column = data_column(*columns.allocator(), known, ty, 0)?;
-    columns.push(column)?;
-    Ok(())
+    Ok(ColInfo {
+        ty: type_of(alloc, ty)?,
+        is_formula: false,
+        formula: CellText::empty(alloc),
+    })
 }
 
-// Adds a column of the first table.
-fn add_any(columns: &mut Vec<ColDef>, known: Known, row: u32) -> Result<(), AllocError>
-    ensures { IfOk result (λ _. columns.new.items ≡ columns.old.items ++ record { id = known_text known; info = record { ty = Any; is_formula = false; formula = [] }; row = row } ∷ []) }
-{
-    let column = data_column(*columns.allocator(), known, ColType::Any, row)?;
-    columns.push(column)?;
-    Ok(())
+#[derive(Drop)]
+struct KnownColumns {
+    alloc: Global,
 }
 
-// Adds a column that refers to a table.
-fn add_ref(columns: &mut Vec<ColDef>, known: Known, table: Known) -> Result<(), AllocError>
-    ensures { IfOk result (λ _. columns.new.items ≡ columns.old.items ++ metadata_column (known_text known) (Ref (known_text table)) ∷ []) }
-{
-    let table = name_of(*columns.allocator(), table)?;
-    add(columns, known, ColType::Ref(table))
+impl Maker<KnownColumn> for KnownColumns {
+    ghost use Rattle.row_tables.specs.Known.{known_column};
+
+    type Made = ColDef;
+
+    ghost made = { λ _ column. known_column column };
+
+    fn make(&self, column: &KnownColumn) -> Result<ColDef, AllocError> {
+        let alloc = self.alloc;
+        let KnownColumn(known, ty, row) = *column;
+        let info = info_of(alloc, ty)?;
+        let id = name_of(alloc, known)?;
+        Ok(ColDef { id, info, row })
+    }
 }
 
-/// The column of the table of tables.
-pub(crate) fn tables_columns(alloc: Global) -> Result<Vec<ColDef>, AllocError>
-    ensures { IfOk result (λ v. v.items ≡ tables_columns) }
+// The row that describes a table.
+fn row_of(table: Known) -> u32
+    ensures { result ≡ known_row table }
 {
-    let mut columns = Vec::with_capacity(alloc, 1)?;
-    add(&mut columns, Known::TableId, ColType::Text)?;
-    Ok(columns)
+    u32::from(matches!(table, Known::Table1))
 }
 
-/// The columns of the table of columns.
-pub(crate) fn columns_columns(alloc: Global) -> Result<Vec<ColDef>, AllocError>
-    ensures { IfOk result (λ v. v.items ≡ columns_columns) }
-{
-    let mut columns = Vec::with_capacity(alloc, 5)?;
-    add_ref(&mut columns, Known::ParentId, Known::Tables)?;
-    add(&mut columns, Known::ColId, ColType::Text)?;
-    add(&mut columns, Known::Type, ColType::Text)?;
-    add(&mut columns, Known::IsFormula, ColType::Bool)?;
-    add(&mut columns, Known::Formula, ColType::Text)?;
-    Ok(columns)
-}
-
-/// The columns of the table of resources.
-pub(crate) fn resources_columns(alloc: Global) -> Result<Vec<ColDef>, AllocError>
-    ensures { IfOk result (λ v. v.items ≡ resources_columns) }
-{
-    let mut columns = Vec::with_capacity(alloc, 2)?;
-    add(&mut columns, Known::TableId, ColType::Text)?;
-    add(&mut columns, Known::ColIds, ColType::Text)?;
-    Ok(columns)
-}
-
-/// The columns of the table of rules.
-pub(crate) fn rules_columns(alloc: Global) -> Result<Vec<ColDef>, AllocError>
-    ensures { IfOk result (λ v. v.items ≡ rules_columns) }
-{
-    let mut columns = Vec::with_capacity(alloc, 6)?;
-    add_ref(&mut columns, Known::Resource, Known::Resources)?;
-    add(&mut columns, Known::AclFormula, ColType::Text)?;
-    add(&mut columns, Known::PermissionsText, ColType::Text)?;
-    add(&mut columns, Known::RulePos, ColType::Int)?;
-    add(&mut columns, Known::UserAttributes, ColType::Text)?;
-    add(&mut columns, Known::Memo, ColType::Text)?;
-    Ok(columns)
-}
-
-/// The columns of the first table.
-pub(crate) fn first_columns(alloc: Global) -> Result<Vec<ColDef>, AllocError>
-    ensures { IfOk result (λ v. v.items ≡ first_columns) }
-{
-    let mut columns = Vec::with_capacity(alloc, 3)?;
-    add_any(&mut columns, Known::A, 1)?;
-    add_any(&mut columns, Known::B, 2)?;
-    add_any(&mut columns, Known::C, 3)?;
-    Ok(columns)
-}
-
-/// The metadata table of these columns, rows and cells.
-pub(crate) fn metadata_table(
+/// A table that every new document has, with these rows and cells.
+pub(crate) fn known_table(
     alloc: Global,
     known: Known,
-    columns: Vec<ColDef>,
     rows: Vec<u32>,
     cells: Vec<ValueList>,
 ) -> Result<RowTable, AllocError>
-    ensures { IfOk result (λ t. t ≡ metadata_table (known_text known) (record { columns = columns.items; rows = rows.items; cells = cells.items })) }
+    ensures { IfOk result (λ t. t ≡ known_table known rows.items cells.items) }
 {
+    let columns = all_made(alloc, columns_told(known), &KnownColumns { alloc })?;
+    let id = name_of(alloc, known)?;
     Ok(RowTable {
-        id: name_of(alloc, known)?,
-        row: 0,
+        id,
+        row: row_of(known),
         columns,
         rows,
         cells,
     })
+}
+
+/// Such tables without rows.
+#[derive(Drop)]
+pub(crate) struct EmptyTables {
+    pub(crate) alloc: Global,
+}
+
+impl Maker<Known> for EmptyTables {
+    ghost use Rattle.row_tables.specs.Known.{empty_table};
+
+    type Made = RowTable;
+
+    ghost made = { λ _ known. empty_table known };
+
+    fn make(&self, known: &Known) -> Result<RowTable, AllocError> {
+        known_table(
+            self.alloc,
+            *known,
+            Vec::new(self.alloc),
+            Vec::new(self.alloc),
+        )
+    }
 }

@@ -11,6 +11,7 @@ use crate::RowTable;
 use crate::change::Change;
 use crate::plain_change::{PlainChange, change_plain, take_plain_back};
 use crate::schema::{SchemaTables, schema_tables, swap_schema};
+use crate::steps::{is_record, place_of_table, table_named};
 use doc_model::DocAction;
 use std::alloc::AllocError;
 
@@ -48,14 +49,9 @@ pub(crate) fn put_back(tables: &mut Vec<RowTable>, replaced: Replaced)
     }
 }
 
-/// Applies a schema action: changes the plain tables, and then makes the schema tables anew, which
-/// describe them; where memory is wanting, the plain tables are changed back.
-///
-/// Errors: want of memory; all tables are then as they were.
-pub(crate) fn schema_put(
-    tables: &mut Vec<RowTable>,
-    action: &DocAction,
-) -> Result<Replaced, AllocError>
+// Applies a schema action: changes the plain tables, and then makes the schema tables anew, which
+// describe them; where memory is wanting, the plain tables are changed back.
+fn schema_put(tables: &mut Vec<RowTable>, action: &DocAction) -> Result<Replaced, AllocError>
     requires whole { IsWhole tables.old.items }
     requires valid { valid tables.old.items action.now ≡ true }
     requires schema { is_record action.now ≡ false }
@@ -75,5 +71,43 @@ pub(crate) fn schema_put(
             take_plain_back(tables, change);
             Err(error)
         }
+    }
+}
+
+// Applies a record action, in place of the table that it names.
+fn record_put(tables: &mut Vec<RowTable>, action: &DocAction) -> Result<Replaced, AllocError>
+    requires whole { IsWhole tables.old.items }
+    requires valid { valid tables.old.items action.now ≡ true }
+    requires record { is_record action.now ≡ true }
+    ensures done { OnOk result (tables.new.items ≡ apply tables.old.items action.now) }
+    ensures back { IfOk result (λ replaced. put_back replaced tables.new.items ≡ tables.old.items) }
+    ensures fit { IfOk result (λ replaced. has_place replaced tables.new.items) }
+    ensures err { OnErr result (tables.new.items ≡ tables.old.items) }
+{
+    let Some(place) = place_of_table(tables, table_named(action)) else {
+        unreachable!()
+    };
+    let change = tables[place].put(action)?;
+    Ok(Replaced::Changed { place, change })
+}
+
+/// Applies an action.
+///
+/// Errors: want of memory; all tables are then as they were.
+pub(crate) fn action_put(
+    tables: &mut Vec<RowTable>,
+    action: &DocAction,
+) -> Result<Replaced, AllocError>
+    requires whole { IsWhole tables.old.items }
+    requires valid { valid tables.old.items action.now ≡ true }
+    ensures done { OnOk result (tables.new.items ≡ apply tables.old.items action.now) }
+    ensures back { IfOk result (λ replaced. put_back replaced tables.new.items ≡ tables.old.items) }
+    ensures fit { IfOk result (λ replaced. has_place replaced tables.new.items) }
+    ensures err { OnErr result (tables.new.items ≡ tables.old.items) }
+{
+    if is_record(action) {
+        record_put(tables, action)
+    } else {
+        schema_put(tables, action)
     }
 }

@@ -7,7 +7,7 @@ ghost use Rattle.doc_model.specs.Grid.{cell, grid_of};
 ghost use Rattle.doc_model.specs.Rows.{IsAscending};
 ghost use Rattle.row_tables.specs.Kept.{kept};
 
-use crate::copies::{copy_of_cells, copy_of_columns};
+use crate::copies::{copy_of_cells, copy_of_name};
 use crate::fill::{CellSource, filled};
 use crate::look::{cell_in_row, cells_of_row, search_cells};
 use cell_types::{CellValue, Name, ValueList, copy_of};
@@ -104,13 +104,17 @@ impl RowTable {
         &self.rows
     }
 
-    /// A copy of the table with these columns in place of its own.
-    pub(crate) fn with_columns(&self, columns: Vec<ColDef>) -> Result<RowTable, AllocError>
-        ensures { IfOk result (λ t. t ≡ record { id = self.now.id; row = self.now.row; grid = record { columns = columns.items; rows = self.now.grid.rows; cells = self.now.grid.cells } }) }
+    /// A copy of the table with this id and these columns in place of its own.
+    pub(crate) fn with_columns(
+        &self,
+        id: &Name,
+        columns: Vec<ColDef>,
+    ) -> Result<RowTable, AllocError>
+        ensures { IfOk result (λ t. t ≡ record { id = id.now; row = self.now.row; grid = record { columns = columns.items; rows = self.now.grid.rows; cells = self.now.grid.cells } }) }
     {
         let cells = copy_of_cells(self.alloc(), &self.cells)?;
         let rows = self.rows_copy()?;
-        let id = self.id.clone()?;
+        let id = copy_of_name(id)?;
         let row = self.row;
         Ok(RowTable {
             id,
@@ -125,13 +129,13 @@ impl RowTable {
     pub fn copy(&self) -> Result<RowTable, AllocError>
         ensures { IfOk result (λ t. t ≡ self.now) }
     {
-        self.with_columns(self.columns_copy()?)
+        self.with_columns(&self.id, self.columns_copy()?)
     }
 
     pub(crate) fn columns_copy(&self) -> Result<Vec<ColDef>, AllocError>
         ensures { IfOk result (λ v. v.items ≡ self.now.grid.columns) }
     {
-        copy_of_columns(self.alloc(), &self.columns)
+        Vec::from_clones(self.alloc(), &self.columns)
     }
 
     pub(crate) fn rows_copy(&self) -> Result<Vec<u32>, AllocError>

@@ -1,19 +1,17 @@
 //! A whole document as plain tables.
 
-ghost use Rattle.std.specs.Prelude.{◌≡◌, ◌∷◌, [], IfOk, MatchOption, None, Some};
+ghost use Rattle.std.specs.Prelude.{◌≡◌, IfOk};
 ghost use Rattle.std.specs.Option.{option_copied};
 ghost use Rattle.doc_model.specs.ByIds.{find_id};
 ghost use Rattle.doc_model.specs.Document.{table_id};
-ghost use Rattle.doc_model.specs.MetadataIds.{resources_id, rules_id};
-ghost use Rattle.doc_model.specs.NewDocument.{first_table, new_document, no_rows};
-ghost use Rattle.doc_model.specs.Schema.{metadata_table, resources_columns, rules_columns};
+ghost use Rattle.doc_model.specs.NewDocument.{new_document};
 
 use crate::RowTable;
-use crate::known::{Known, name_of};
-use crate::metadata::{first_columns, metadata_table, resources_columns, rules_columns};
-use crate::put::{Replaced, put_back, schema_put};
-use crate::schema::with_schema;
-use crate::steps::{is_record, place_of_table, table_named};
+use crate::known::Known;
+use crate::making::all_made;
+use crate::metadata::EmptyTables;
+use crate::put::{Replaced, action_put, put_back};
+use crate::schema::{schema_tables, swap_schema};
 use cell_types::{CellValue, Name};
 use doc_model::{ColDef, DocAction, DocTables};
 use std::alloc::{AllocError, Global};
@@ -39,59 +37,23 @@ impl Model for RowTables {
     ghost invariant = { λ a. IsWhole a.tables.items };
 }
 
-fn empty_resources(alloc: Global) -> Result<RowTable, AllocError>
-    ensures { IfOk result (λ t. t ≡ metadata_table resources_id (no_rows resources_columns)) }
-{
-    let columns = resources_columns(alloc)?;
-    metadata_table(
-        alloc,
-        Known::Resources,
-        columns,
-        Vec::new(alloc),
-        Vec::new(alloc),
-    )
-}
-
-fn empty_rules(alloc: Global) -> Result<RowTable, AllocError>
-    ensures { IfOk result (λ t. t ≡ metadata_table rules_id (no_rows rules_columns)) }
-{
-    let columns = rules_columns(alloc)?;
-    metadata_table(
-        alloc,
-        Known::Rules,
-        columns,
-        Vec::new(alloc),
-        Vec::new(alloc),
-    )
-}
-
-fn first_table(alloc: Global) -> Result<RowTable, AllocError>
-    ensures { IfOk result (λ t. t ≡ first_table) }
-{
-    Ok(RowTable {
-        id: name_of(alloc, Known::Table1)?,
-        row: 1,
-        columns: first_columns(alloc)?,
-        rows: Vec::new(alloc),
-        cells: Vec::new(alloc),
-    })
-}
-
-// The plain tables of a new document.
-fn first_tables(alloc: Global) -> Result<Vec<RowTable>, AllocError>
-    ensures { IfOk result (λ v. v.items ≡ first_table ∷ []) }
-{
-    let mut plain = Vec::new(alloc);
-    plain.push(first_table(alloc)?)?;
-    Ok(plain)
-}
+// The tables of a new document, in order.
+const FIRST_TABLES: [Known; 5] = [
+    Known::Tables,
+    Known::Columns,
+    Known::Resources,
+    Known::Rules,
+    Known::Table1,
+];
 
 // The tables of a new document.
 fn new_tables(alloc: Global) -> Result<Vec<RowTable>, AllocError>
     ensures { IfOk result (λ v. v.items ≡ new_document) }
 {
-    let plain = first_tables(alloc)?;
-    with_schema(alloc, empty_resources(alloc)?, empty_rules(alloc)?, plain)
+    let mut tables = all_made(alloc, &FIRST_TABLES, &EmptyTables { alloc })?;
+    let schema = schema_tables(alloc, &tables[4..])?;
+    let _without_rows = swap_schema(&mut tables, schema);
+    Ok(tables)
 }
 
 // The table of this id.
@@ -148,15 +110,7 @@ impl DocTables for RowTables {
     }
 
     fn put(&mut self, action: &DocAction) -> Result<RowBack, AllocError> {
-        if !is_record(action) {
-            let replaced = schema_put(&mut self.tables, action)?;
-            return Ok(RowBack { replaced });
-        }
-        let Some(place) = place_of_table(&self.tables, table_named(action)) else {
-            unreachable!()
-        };
-        let change = self.tables[place].put(action)?;
-        let replaced = Replaced::Changed { place, change };
+        let replaced = action_put(&mut self.tables, action)?;
         Ok(RowBack { replaced })
     }
 

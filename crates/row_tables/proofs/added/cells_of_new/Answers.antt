@@ -14,6 +14,6 @@ loop-place-preserved c =
     let i : ℕ = c.loop-place.place in
     let row : ℕ = get_or c.args.rows.now i 0 in
     map_step (λ r. map (λ (d : ColDef). unwrap_or (given c.args.rows.now c.args.values.now d.id r) (start_of d)) c.args.columns.now) c.args.rows.now i row
-    c.loop-place.lists.items c.push.new.self.items c.in_ok-new_cells.field-0 c.loop-place-test.true (get_or_default c.args.rows.now i 0 row c.loop-place-test.true) c.loop-place.invariant c.in_ok-push.ensures.items
-    (c.in_ok-new_cells.ensures ∙ map_same (λ (d : ColDef). unwrap_or (given_at c.args.values.now d.id i) (start_of d)) (λ (d : ColDef). unwrap_or (given c.args.rows.now c.args.values.now d.id row) (start_of d)) c.args.columns.now
+    c.loop-place.lists.items c.push.new.self.items c.from.result c.loop-place-test.true (get_or_default c.args.rows.now i 0 row c.loop-place-test.true) c.loop-place.invariant c.in_ok-push.ensures.items
+    (c.from.ensures ∙ c.in_ok-all_made.ensures ∙ map_same (λ (d : ColDef). unwrap_or (given_at c.args.values.now d.id i) (start_of d)) (λ (d : ColDef). unwrap_or (given c.args.rows.now c.args.values.now d.id row) (start_of d)) c.args.columns.now
     (λ d. ap (λ o. unwrap_or o (start_of d)) (sym (given_place c.args.rows.now c.args.values.now d.id i row c.requires c.loop-place-test.true (get_or_default c.args.rows.now i 0 row c.loop-place-test.true)))))

@@ -76,13 +76,12 @@ fn infos_value(alloc: Global, columns: &[ViewCol]) -> Result<Value, AllocError>
 fn columns_value(alloc: Global, columns: &[CellColumn]) -> Result<Value, AllocError>
     ensures { IfOk result (λ v. view v ≡ columns_data columns.now) }
 {
-    let mut map = Map::new(alloc);
+    let mut members = Map::new(alloc);
     for column in columns {
-        let id = String::from_str(alloc, column.id.as_str())?;
         let values = values_value(alloc, column.values.as_slice())?;
-        map.insert(id, values)?;
+        serde_json::put(&mut members, alloc, column.id.as_str(), values)?;
     }
-    Ok(Value::Object(map))
+    Ok(Value::Object(members))
 }
 
 // What is said of a column: [word,table,column,info].

@@ -5,3 +5,4 @@ pub mod FrameLemmas
 pub mod UserLemmas
 pub mod PlainLemmas
 pub mod PrintLemmas
+pub mod ShownLemmas

@@ -29,8 +29,11 @@ abbrev pub column_data : ViewCol → Data
 column_data c = object (member (codes "formula") (formula_data c.formula) (member (codes "id") (string c.id) (member (codes "isFormula") (boolean c.is_formula) (member (codes "type") (string (type_text c.ty)) no_members))))
 
 -- what a column is, without its id
+abbrev pub info_members : ViewCol → Members
+info_members c = member (codes "formula") (formula_data c.formula) (member (codes "isFormula") (boolean c.is_formula) (member (codes "type") (string (type_text c.ty)) no_members))
+
 abbrev pub info_data : ViewCol → Data
-info_data c = object (member (codes "formula") (formula_data c.formula) (member (codes "isFormula") (boolean c.is_formula) (member (codes "type") (string (type_text c.ty)) no_members)))
+info_data c = object (info_members c)
 
 abbrev pub infos_data : List ViewCol → Data
 infos_data cs = array_of column_data cs

@@ -1,6 +1,6 @@
 -- The JSON of replies.
 use Rattle.std.specs.Prelude.{ℕ, List, [], codes, Option, Some, None, if◌then◌else◌, ◌==◌}
-use Rattle.serde_json.specs.Data.{Data, null, number, unsigned, string, object, Members, no_members, member}
+use Rattle.serde_json.specs.Data.{Data, null, number, unsigned, string, object, Members, no_members, member, put}
 use Rattle.doc_model.specs.declared.limit.LimitKind.{LimitKind}
 use Rattle.doc_model.specs.declared.limit.LimitKind.TheVariants as limit
 use Rattle.grist_json.specs.declared.verdict.RetValue.{RetValue}
@@ -61,11 +61,24 @@ abbrev pub error_data : Option ℕ → Members → Data
 error_data None fields = object (member (codes "error") (object fields) no_members)
 error_data (Some action) fields = object (member (codes "error") (object (member (codes "action") (number_data action) fields)) no_members)
 
+-- the fields, with the action where there is one
+abbrev pub put_action : Option ℕ → Members → Members
+put_action None fields = fields
+put_action (Some action) fields = put (codes "action") (number_data action) fields
+
+-- the fields that each refusal has
+abbrev pub refusal_fields : ℕ → List ℕ → Members
+refusal_fields code name = member (codes "code") (number_data code) (member (codes "name") (string name) no_members)
+
 abbrev pub refused_data : ℕ → Option ℕ → Data
-refused_data code action = error_data action (member (codes "code") (number_data code) (member (codes "name") (string (refusal_name code)) no_members))
+refused_data code action = error_data action (refusal_fields code (refusal_name code))
+
+-- the fields of a refusal for a bound, without the action
+abbrev pub limited_fields : LimitKind → ℕ → Members
+limited_fields what bound = member (codes "bound") (number_data bound) (member (codes "code") (number_data 15) (member (codes "name") (string (codes "Limit")) (member (codes "what") (string (limit_name what)) no_members)))
 
 abbrev pub limited_data : LimitKind → ℕ → Option ℕ → Data
-limited_data what bound action = error_data action (member (codes "bound") (number_data bound) (member (codes "code") (number_data 15) (member (codes "name") (string (codes "Limit")) (member (codes "what") (string (limit_name what)) no_members))))
+limited_data what bound action = error_data action (limited_fields what bound)
 
 abbrev pub denied_data : ℕ → ℕ → List ℕ → Data
 denied_data action rule memo = error_data (Some action) (member (codes "code") (number_data 20) (member (codes "memo") (string memo) (member (codes "name") (string (codes "Denied")) (member (codes "rule") (number_data rule) no_members))))

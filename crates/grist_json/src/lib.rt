@@ -11,6 +11,7 @@
 #![tactic(auto)]
 
 mod frames;
+mod json_parts;
 mod json_text;
 mod laws;
 mod line;

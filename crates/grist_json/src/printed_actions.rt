@@ -1,15 +1,16 @@
 //! Changes of views as JSON.
 ghost use Rattle.std.specs.Prelude.{◌≡◌, IfOk, string_bytes};
-ghost use Rattle.doc_model.specs.declared.view.ViewAction.TheVariants.{AddTable, BulkRemove};
+ghost use Rattle.doc_model.specs.declared.view.ViewAction.TheVariants.{AddTable, RemoveTable, RemoveColumn, BulkRemove};
 ghost use Rattle.serde_json.specs.Data.{item, no_items, string};
-ghost use Rattle.serde_json.specs.View.{view};
-ghost use Rattle.grist_json.specs.Actions.{action_of, type_text, formula_data, column_data, info_data, infos_data, columns_data, action_data, actions_data};
+ghost use Rattle.serde_json.specs.View.{view, members_view};
+ghost use Rattle.grist_json.specs.Actions.{action_of, type_text, formula_data, column_data, info_members, info_data, infos_data, columns_data, action_data, actions_data};
 ghost use Rattle.grist_json.specs.Values.{rows_data};
 
+use crate::json_parts::{array_with, texts_of_two, with, with_member};
 use crate::printed_values::{rows_value, values_value};
 use cell_types::{CellText, ColType, Name, RowList};
 use doc_model::{CellColumn, ColumnList, ViewAction, ViewCol, ViewColList};
-use serde_json::{Map, Value, json};
+use serde_json::{Map, Value};
 use std::alloc::{AllocError, Global};
 
 fn type_text(alloc: Global, ty: &ColType) -> Result<String, AllocError>
@@ -30,30 +31,35 @@ fn formula_value(alloc: Global, formula: &Option<CellText>) -> Result<Value, All
     ensures { IfOk result (λ v. view v ≡ formula_data formula.now) }
 {
     match formula {
-        Some(formula) => json!(in alloc; (formula.as_str())),
+        Some(formula) => Value::try_from_str(alloc, formula.as_str()),
         None => Ok(Value::Null),
     }
+}
+
+// What a column is, without its id.
+fn info_members(alloc: Global, column: &ViewCol) -> Result<Map<String, Value>, AllocError>
+    ensures { IfOk result (λ m. members_view m.entries ≡ info_members column.now) }
+{
+    let formula = formula_value(alloc, &column.formula)?;
+    let info = with_member(alloc, Map::new(alloc), "formula", formula)?;
+    let info = with_member(alloc, info, "isFormula", Value::Bool(column.is_formula))?;
+    let ty = type_text(alloc, &column.ty)?;
+    with_member(alloc, info, "type", Value::String(ty))
+}
+
+fn info_value(alloc: Global, column: &ViewCol) -> Result<Value, AllocError>
+    ensures { IfOk result (λ v. view v ≡ info_data column.now) }
+{
+    Ok(Value::Object(info_members(alloc, column)?))
 }
 
 // What a column is, with its id.
 fn column_value(alloc: Global, column: &ViewCol) -> Result<Value, AllocError>
     ensures { IfOk result (λ v. view v ≡ column_data column.now) }
 {
-    let ty = type_text(alloc, &column.ty)?;
-    let formula = formula_value(alloc, &column.formula)?;
-    let id = column.id.as_str();
-    let is_formula = column.is_formula;
-    json!(in alloc; {"formula": (formula), "id": id, "isFormula": is_formula, "type": (ty.as_str())})
-}
-
-// What a column is, without its id.
-fn info_value(alloc: Global, column: &ViewCol) -> Result<Value, AllocError>
-    ensures { IfOk result (λ v. view v ≡ info_data column.now) }
-{
-    let ty = type_text(alloc, &column.ty)?;
-    let formula = formula_value(alloc, &column.formula)?;
-    let is_formula = column.is_formula;
-    json!(in alloc; {"formula": (formula), "isFormula": is_formula, "type": (ty.as_str())})
+    let info = info_members(alloc, column)?;
+    let id = Value::try_from_str(alloc, column.id.as_str())?;
+    Ok(Value::Object(with_member(alloc, info, "id", id)?))
 }
 
 fn infos_value(alloc: Global, columns: &[ViewCol]) -> Result<Value, AllocError>
@@ -70,21 +76,28 @@ fn infos_value(alloc: Global, columns: &[ViewCol]) -> Result<Value, AllocError>
 fn columns_value(alloc: Global, columns: &[CellColumn]) -> Result<Value, AllocError>
     ensures { IfOk result (λ v. view v ≡ columns_data columns.now) }
 {
-    let mut map = Map::new(alloc);
+    let mut members = Map::new(alloc);
     for column in columns {
-        let id = String::from_str(alloc, column.id.as_str())?;
         let values = values_value(alloc, column.values.as_slice())?;
-        map.insert(id, values)?;
+        serde_json::put(&mut members, alloc, column.id.as_str(), values)?;
     }
-    Ok(Value::Object(map))
+    Ok(Value::Object(members))
 }
 
 // What is said of a column: [word,table,column,info].
 fn of_column(alloc: Global, word: &str, table: &Name, column: &ViewCol) -> Result<Value, AllocError>
     ensures { IfOk result (λ v. view v ≡ action_of word.now table.now (item (string column.now.id) (item (info_data column.now) no_items))) }
 {
-    let info = info_value(alloc, column)?;
-    json!(in alloc; [word, (table.as_str()), (column.id.as_str()), (info)])
+    let head = texts_of_two(alloc, word, table.as_str())?;
+    let head = with(head, Value::try_from_str(alloc, column.id.as_str())?)?;
+    array_with(head, info_value(alloc, column)?)
+}
+
+fn of_removed_column(alloc: Global, table: &Name, column: &Name) -> Result<Value, AllocError>
+    ensures { IfOk result (λ v. view v ≡ action_data (RemoveColumn table.now column.now)) }
+{
+    let head = texts_of_two(alloc, "RemoveColumn", table.as_str())?;
+    array_with(head, Value::try_from_str(alloc, column.as_str())?)
 }
 
 // Rows with the values of columns: [word,table,rows,columns].
@@ -97,23 +110,29 @@ fn of_cells(
 ) -> Result<Value, AllocError>
     ensures { IfOk result (λ v. view v ≡ action_of word.now table.now (item (rows_data rows.now) (item (columns_data columns.now) no_items))) }
 {
-    let rows = rows_value(alloc, rows.as_slice())?;
-    let columns = columns_value(alloc, columns.as_slice())?;
-    json!(in alloc; [word, (table.as_str()), (rows), (columns)])
+    let head = texts_of_two(alloc, word, table.as_str())?;
+    let head = with(head, rows_value(alloc, rows.as_slice())?)?;
+    array_with(head, columns_value(alloc, columns.as_slice())?)
 }
 
 fn of_new_table(alloc: Global, table: &Name, columns: &ViewColList) -> Result<Value, AllocError>
     ensures { IfOk result (λ v. view v ≡ action_data (AddTable table.now columns.now)) }
 {
-    let columns = infos_value(alloc, columns.as_slice())?;
-    json!(in alloc; ["AddTable", (table.as_str()), (columns)])
+    let head = texts_of_two(alloc, "AddTable", table.as_str())?;
+    array_with(head, infos_value(alloc, columns.as_slice())?)
+}
+
+fn of_removed_table(alloc: Global, table: &Name) -> Result<Value, AllocError>
+    ensures { IfOk result (λ v. view v ≡ action_data (RemoveTable table.now)) }
+{
+    Ok(Value::Array(texts_of_two(alloc, "RemoveTable", table.as_str())?))
 }
 
 fn of_removed_rows(alloc: Global, table: &Name, rows: &RowList) -> Result<Value, AllocError>
     ensures { IfOk result (λ v. view v ≡ action_data (BulkRemove table.now rows.now)) }
 {
-    let rows = rows_value(alloc, rows.as_slice())?;
-    json!(in alloc; ["BulkRemoveRecord", (table.as_str()), (rows)])
+    let head = texts_of_two(alloc, "BulkRemoveRecord", table.as_str())?;
+    array_with(head, rows_value(alloc, rows.as_slice())?)
 }
 
 fn action_value(alloc: Global, action: &ViewAction) -> Result<Value, AllocError>
@@ -121,11 +140,9 @@ fn action_value(alloc: Global, action: &ViewAction) -> Result<Value, AllocError>
 {
     match action {
         ViewAction::AddTable { table, columns } => of_new_table(alloc, table, columns),
-        ViewAction::RemoveTable { table } => json!(in alloc; ["RemoveTable", (table.as_str())]),
+        ViewAction::RemoveTable { table } => of_removed_table(alloc, table),
         ViewAction::AddColumn { table, column } => of_column(alloc, "AddColumn", table, column),
-        ViewAction::RemoveColumn { table, column } => {
-            json!(in alloc; ["RemoveColumn", (table.as_str()), (column.as_str())])
-        }
+        ViewAction::RemoveColumn { table, column } => of_removed_column(alloc, table, column),
         ViewAction::ModifyColumn { table, column } => {
             of_column(alloc, "ModifyColumn", table, column)
         }

@@ -1,12 +1,15 @@
 //! Verdicts as JSON.
-ghost use Rattle.std.specs.Prelude.{◌≡◌, IfOk};
-ghost use Rattle.serde_json.specs.View.{view};
-ghost use Rattle.grist_json.specs.Replies.{refusal_name, limit_name, id_data, ids_data, ret_data, rets_data, verdict_data, refused_data, limited_data};
+ghost use Rattle.std.specs.Prelude.{◌≡◌, IfOk, codes};
+ghost use Rattle.serde_json.specs.Data.{object, no_members, member};
+ghost use Rattle.serde_json.specs.View.{view, members_view};
+ghost use Rattle.grist_json.specs.Actions.{actions_data};
+ghost use Rattle.grist_json.specs.Replies.{refusal_name, limit_name, number_data, id_data, ids_data, ret_data, rets_data, refusal_fields, put_action, refused_data, limited_fields, limited_data, denied_data, verdict_data};
 
+use crate::json_parts::{object_of_one, with_member};
 use crate::printed_actions::actions_value;
 use crate::verdict::{RetValue, Verdict};
-use doc_model::LimitKind;
-use serde_json::{Value, json};
+use doc_model::{LimitKind, RuleRef, ViewAction};
+use serde_json::{Map, Value};
 use std::alloc::{AllocError, Global};
 
 fn refusal_name(code: u8) -> &'static str
@@ -77,7 +80,7 @@ fn ret_value(alloc: Global, value: &RetValue) -> Result<Value, AllocError>
         RetValue::Null => Ok(Value::Null),
         RetValue::Id(id) => Ok(Value::from(*id)),
         RetValue::Ids(ids) => ids_value(alloc, ids.as_slice()),
-        RetValue::Name(name) => json!(in alloc; (name.as_str())),
+        RetValue::Name(name) => Value::try_from_str(alloc, name.as_str()),
     }
 }
 
@@ -91,17 +94,50 @@ fn rets_value(alloc: Global, values: &[RetValue]) -> Result<Value, AllocError>
     Ok(Value::Array(shown))
 }
 
+// The fields that each refusal has: {"code":code,"name":name}.
+fn refusal_fields(alloc: Global, code: u8, name: &str) -> Result<Map<String, Value>, AllocError>
+    ensures { IfOk result (λ m. members_view m.entries ≡ refusal_fields code name.now) }
+{
+    let name = Value::try_from_str(alloc, name)?;
+    let fields = with_member(alloc, Map::new(alloc), "name", name)?;
+    with_member(alloc, fields, "code", Value::from(code))
+}
+
+// The fields, with the action where there is one.
+fn with_action(
+    alloc: Global,
+    fields: Map<String, Value>,
+    action: Option<u32>,
+) -> Result<Map<String, Value>, AllocError>
+    ensures { IfOk result (λ m. members_view m.entries ≡ put_action action (members_view fields.entries)) }
+{
+    match action {
+        Some(action) => with_member(alloc, fields, "action", Value::from(action)),
+        None => Ok(fields),
+    }
+}
+
 // A refusal without more fields.
 fn refused_value(alloc: Global, code: u8, action: Option<u32>) -> Result<Value, AllocError>
     ensures { IfOk result (λ v. view v ≡ refused_data code action) }
 {
-    let name = refusal_name(code);
-    match action {
-        Some(action) => {
-            json!(in alloc; {"error": {"action": action, "code": code, "name": name}})
-        }
-        None => json!(in alloc; {"error": {"code": code, "name": name}}),
-    }
+    let fields = refusal_fields(alloc, code, refusal_name(code))?;
+    let fields = with_action(alloc, fields, action)?;
+    object_of_one(alloc, "error", Value::Object(fields))
+}
+
+// The fields of a refusal for a bound, without the action.
+fn limited_fields(
+    alloc: Global,
+    what: LimitKind,
+    bound: u64,
+) -> Result<Map<String, Value>, AllocError>
+    ensures { IfOk result (λ m. members_view m.entries ≡ limited_fields what bound) }
+{
+    let what = Value::try_from_str(alloc, limit_name(what))?;
+    let fields = refusal_fields(alloc, 15, "Limit")?;
+    let fields = with_member(alloc, fields, "what", what)?;
+    with_member(alloc, fields, "bound", Value::from(bound))
 }
 
 // A refusal for a bound.
@@ -113,43 +149,66 @@ fn limited_value(
 ) -> Result<Value, AllocError>
     ensures { IfOk result (λ v. view v ≡ limited_data what bound action) }
 {
-    let what = limit_name(what);
-    match action {
-        Some(action) =>
-            json!(in alloc; {"error": {"action": action, "bound": bound, "code": 15, "name": "Limit", "what": what}}),
-        None =>
-            json!(in alloc; {"error": {"bound": bound, "code": 15, "name": "Limit", "what": what}}),
-    }
+    let fields = limited_fields(alloc, what, bound)?;
+    let fields = with_action(alloc, fields, action)?;
+    object_of_one(alloc, "error", Value::Object(fields))
+}
+
+// A refusal by a rule.
+fn denied_value(alloc: Global, action: u32, rule: &RuleRef) -> Result<Value, AllocError>
+    ensures { IfOk result (λ v. view v ≡ denied_data action rule.now.row rule.now.memo) }
+{
+    let memo = Value::try_from_str(alloc, rule.memo.as_str())?;
+    let fields = refusal_fields(alloc, 20, "Denied")?;
+    let fields = with_member(alloc, fields, "memo", memo)?;
+    let fields = with_member(alloc, fields, "rule", Value::from(rule.row))?;
+    let fields = with_member(alloc, fields, "action", Value::from(action))?;
+    object_of_one(alloc, "error", Value::Object(fields))
+}
+
+fn changes_value(alloc: Global, actions: &[ViewAction]) -> Result<Value, AllocError>
+    ensures { IfOk result (λ v. view v ≡ object (member (codes "actions") (actions_data actions.now) no_members)) }
+{
+    object_of_one(alloc, "actions", actions_value(alloc, actions)?)
+}
+
+fn undone_value(alloc: Global, number: u64) -> Result<Value, AllocError>
+    ensures { IfOk result (λ v. view v ≡ object (member (codes "bundle") (number_data number) no_members)) }
+{
+    object_of_one(alloc, "bundle", Value::from(number))
+}
+
+fn bundle_value(alloc: Global, number: u64, values: &[RetValue]) -> Result<Value, AllocError>
+    ensures { IfOk result (λ v. view v ≡ object (member (codes "bundle") (number_data number) (member (codes "retValues") (rets_data values.now) no_members))) }
+{
+    let values = rets_value(alloc, values)?;
+    let members = with_member(alloc, Map::new(alloc), "retValues", values)?;
+    let number = Value::from(number);
+    Ok(Value::Object(with_member(alloc, members, "bundle", number)?))
 }
 
 pub(crate) fn verdict_value(alloc: Global, verdict: &Verdict) -> Result<Value, AllocError>
     ensures { IfOk result (λ v. view v ≡ verdict_data verdict.now) }
 {
     match verdict {
-        Verdict::Done => json!(in alloc; {"ok": null}),
+        Verdict::Done => object_of_one(alloc, "ok", Value::Null),
         Verdict::Changes(actions) => {
-            let actions = actions_value(alloc, actions.as_slice())?;
-            json!(in alloc; {"ok": {"actions": (actions)}})
+            object_of_one(alloc, "ok", changes_value(alloc, actions.as_slice())?)
         }
         Verdict::Bundle { number, values } => {
-            let number = *number;
-            let values = rets_value(alloc, values.as_slice())?;
-            json!(in alloc; {"ok": {"bundle": number, "retValues": (values)}})
+            object_of_one(
+                alloc,
+                "ok",
+                bundle_value(alloc, *number, values.as_slice())?,
+            )
         }
-        Verdict::Undone { number } => {
-            let number = *number;
-            json!(in alloc; {"ok": {"bundle": number}})
-        }
+        Verdict::Undone { number } => object_of_one(alloc, "ok", undone_value(alloc, *number)?),
         Verdict::Refused { code, action } => refused_value(alloc, *code, *action),
         Verdict::Limited {
             what,
             bound,
             action,
         } => limited_value(alloc, *what, *bound, *action),
-        Verdict::Denied { action, rule } => {
-            let action = *action;
-            let row = rule.row;
-            json!(in alloc; {"error": {"action": action, "code": 20, "memo": (rule.memo.as_str()), "name": "Denied", "rule": row}})
-        }
+        Verdict::Denied { action, rule } => denied_value(alloc, *action, rule),
     }
 }

@@ -2,10 +2,11 @@
 ghost use Rattle.std.specs.Prelude.{◌≡◌, IfOk};
 ghost use Rattle.serde_json.specs.View.{view};
 ghost use Rattle.action_lines.specs.Marks.{error_name};
-ghost use Rattle.grist_json.specs.Values.{error_data, item_data, value_data, list_data, rows_data, values_data};
+ghost use Rattle.grist_json.specs.Values.{date_data, ref_data, set_data, error_data, item_data, value_data, list_data, rows_data, values_data};
 
-use cell_types::{CellItem, CellValue, ErrKind};
-use serde_json::{Value, json};
+use crate::json_parts::{array_with, texts_of_one, texts_of_two};
+use cell_types::{CellItem, CellValue, ErrKind, RowRef, RowSet};
+use serde_json::Value;
 use std::alloc::{AllocError, Global};
 
 fn error_name(kind: ErrKind) -> &'static str
@@ -23,10 +24,35 @@ fn error_name(kind: ErrKind) -> &'static str
     }
 }
 
-fn error_value(alloc: Global, name: &str) -> Result<Value, AllocError>
-    ensures { IfOk result (λ v. view v ≡ error_data name.now) }
+// An error: ["E",name].
+fn error_value(alloc: Global, kind: ErrKind) -> Result<Value, AllocError>
+    ensures { IfOk result (λ v. view v ≡ error_data (error_name kind)) }
 {
-    json!(in alloc; ["E", name])
+    let mark = texts_of_one(alloc, "E")?;
+    array_with(mark, Value::try_from_str(alloc, error_name(kind))?)
+}
+
+// A date: ["d",seconds].
+fn date_value(alloc: Global, seconds: i64) -> Result<Value, AllocError>
+    ensures { IfOk result (λ v. view v ≡ date_data seconds) }
+{
+    array_with(texts_of_one(alloc, "d")?, Value::from(seconds))
+}
+
+// A record: ["R",table,row].
+fn ref_value(alloc: Global, at: &RowRef) -> Result<Value, AllocError>
+    ensures { IfOk result (λ v. view v ≡ ref_data at.now) }
+{
+    let head = texts_of_two(alloc, "R", at.table.as_str())?;
+    array_with(head, Value::from(at.row))
+}
+
+// A set of rows: ["r",table,[row,..]].
+fn set_value(alloc: Global, set: &RowSet) -> Result<Value, AllocError>
+    ensures { IfOk result (λ v. view v ≡ set_data set.now) }
+{
+    let head = texts_of_two(alloc, "r", set.table.as_str())?;
+    array_with(head, rows_value(alloc, set.rows.as_slice())?)
 }
 
 // Row ids as an array.
@@ -47,15 +73,9 @@ fn item_value(alloc: Global, item: &CellItem) -> Result<Value, AllocError>
         CellItem::Null => Ok(Value::Null),
         CellItem::Int(number) => Ok(Value::from(*number)),
         CellItem::Bool(truth) => Ok(Value::Bool(*truth)),
-        CellItem::Text(text) => json!(in alloc; (text.as_str())),
-        CellItem::Date(seconds) => {
-            let seconds = *seconds;
-            json!(in alloc; ["d", seconds])
-        }
-        CellItem::Rec(at) => {
-            let row = at.row;
-            json!(in alloc; ["R", (at.table.as_str()), row])
-        }
+        CellItem::Text(text) => Value::try_from_str(alloc, text.as_str()),
+        CellItem::Date(seconds) => date_value(alloc, *seconds),
+        CellItem::Rec(at) => ref_value(alloc, at),
     }
 }
 
@@ -63,8 +83,7 @@ fn item_value(alloc: Global, item: &CellItem) -> Result<Value, AllocError>
 fn list_value(alloc: Global, items: &[CellItem]) -> Result<Value, AllocError>
     ensures { IfOk result (λ v. view v ≡ list_data items.now) }
 {
-    let mut values = Vec::new(alloc);
-    values.push(json!(in alloc; "L")?)?;
+    let mut values = texts_of_one(alloc, "L")?;
     for item in items {
         values.push(item_value(alloc, item)?)?;
     }
@@ -78,22 +97,13 @@ fn value_value(alloc: Global, value: &CellValue) -> Result<Value, AllocError>
         CellValue::Null => Ok(Value::Null),
         CellValue::Int(number) => Ok(Value::from(*number)),
         CellValue::Bool(truth) => Ok(Value::Bool(*truth)),
-        CellValue::Text(text) => json!(in alloc; (text.as_str())),
-        CellValue::Date(seconds) => {
-            let seconds = *seconds;
-            json!(in alloc; ["d", seconds])
-        }
-        CellValue::Rec(at) => {
-            let row = at.row;
-            json!(in alloc; ["R", (at.table.as_str()), row])
-        }
-        CellValue::RecSet(set) => {
-            let rows = rows_value(alloc, set.rows.as_slice())?;
-            json!(in alloc; ["r", (set.table.as_str()), (rows)])
-        }
+        CellValue::Text(text) => Value::try_from_str(alloc, text.as_str()),
+        CellValue::Date(seconds) => date_value(alloc, *seconds),
+        CellValue::Rec(at) => ref_value(alloc, at),
+        CellValue::RecSet(set) => set_value(alloc, set),
         CellValue::List(items) => list_value(alloc, items.as_slice()),
-        CellValue::Err(kind) => error_value(alloc, error_name(*kind)),
-        CellValue::Censored => json!(in alloc; ["C"]),
+        CellValue::Err(kind) => error_value(alloc, *kind),
+        CellValue::Censored => Ok(Value::Array(texts_of_one(alloc, "C")?)),
     }
 }
 

@@ -6,12 +6,13 @@ ghost use Rattle.grist_json.specs.Replies.{verdict_data};
 ghost use Rattle.grist_json.specs.Lines.{stream_data, reply_text, stream_text, frame_text};
 
 use crate::Line;
+use crate::json_parts::with_member;
 use crate::printed_actions::actions_value;
 use crate::printed_replies::verdict_value;
 use crate::verdict::Verdict;
 use cell_types::Name;
 use doc_model::ViewActionList;
-use serde_json::{Value, json};
+use serde_json::{Map, Value};
 use std::alloc::{AllocError, Global};
 
 /// Prints the reply that tells a verdict: the compact text of its JSON, keys sorted.
@@ -29,7 +30,9 @@ fn stream_value(alloc: Global, number: u64, actions: &ViewActionList) -> Result<
     ensures { IfOk result (λ v. view v ≡ stream_data number actions.now) }
 {
     let actions = actions_value(alloc, actions.as_slice())?;
-    json!(in alloc; {"actions": (actions), "seq": number})
+    let members = with_member(alloc, Map::new(alloc), "actions", actions)?;
+    let number = Value::from(number);
+    Ok(Value::Object(with_member(alloc, members, "seq", number)?))
 }
 
 /// Prints the stream line that tells the changes of a view, under the session's own count.

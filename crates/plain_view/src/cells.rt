@@ -8,24 +8,14 @@ ghost use Rattle.doc_model.specs.Grid.{beside, cell};
 ghost use Rattle.doc_model.specs.Records.{column_of};
 ghost use Rattle.doc_model.specs.Same.{same_value};
 ghost use Rattle.doc_model.specs.ViewEdits.{IsShown, shown_id};
-ghost use Rattle.plain_view.specs.Cells.{column_place, row_cells, value_in};
+ghost use Rattle.plain_view.specs.Cells.{row_cells, value_in};
 
 use crate::copies::name_copy;
+use crate::named::place_of;
 use crate::rows::row_place;
 use cell_types::{CellValue, Name, Same, ValueList, copy_of};
-use doc_model::{CellColumn, ViewCol, ViewTable};
+use doc_model::{CellColumn, ViewTable};
 use std::alloc::{AllocError, Global};
-
-/// The place of the column of an id.
-///
-/// Memory: none. Cost: linear in the columns.
-pub(crate) fn column_place(columns: &[ViewCol], id: &Name) -> Option<usize>
-    ensures { result ≡ column_place columns.now id.now }
-{
-    columns
-        .iter()
-        .position(|column| column.id.as_str() == id.as_str())
-}
 
 /// The cells of a row; none where the row is not there.
 ///
@@ -97,7 +87,7 @@ pub(crate) fn column_of(
     requires { IsShown (grid table.now) }
     ensures { IfOk result (λ k. k ≡ column_of shown_id (grid table.now) rows.now id.now) }
 {
-    let place = column_place(table.columns.as_slice(), id);
+    let place = place_of(table.columns.as_slice(), id);
     let values = values_at(alloc, table, rows, place)?;
     let id = name_copy(id)?;
     Ok(CellColumn { id, values })

@@ -1,38 +1,15 @@
 //! The changes of a table's columns: those that are gone, the new ones, and those that are another.
 
-ghost use Rattle.std.specs.Prelude.{◌≡◌, ◌++◌, ◌↔◌, bytes_eq, find, IsTrue, OnOk};
-ghost use Rattle.std.specs.Option.{option_copied};
-ghost use Rattle.doc_model.specs.ByIds.{find_id, has_id};
+ghost use Rattle.std.specs.Prelude.{◌≡◌, ◌++◌, ◌↔◌, IsTrue, OnOk};
 ghost use Rattle.doc_model.specs.Changes.{for_each};
-ghost use Rattle.doc_model.specs.ViewEdits.{differs, shown_id};
+ghost use Rattle.doc_model.specs.ViewEdits.{differs};
 ghost use Rattle.plain_view.specs.Steps.{added_column, modified_column, removed_column};
 
 use crate::copies::{column_copy, name_copy};
+use crate::named::{find_id, is_there};
 use cell_types::{CellText, Name, Same};
 use doc_model::{ViewAction, ViewCol};
 use std::alloc::AllocError;
-
-/// The column of an id.
-///
-/// Memory: none. Cost: linear in the columns.
-fn find_column<'a>(columns: &'a [ViewCol], id: &Name) -> Option<&'a ViewCol>
-    ensures { option_copied result ≡ find_id shown_id id.now columns.now }
-{
-    columns
-        .iter()
-        .find(|column| column.id.as_str() == id.as_str())
-}
-
-/// Whether there is a column of that id.
-///
-/// Memory: none. Cost: linear in the columns.
-pub(crate) fn has_column(columns: &[ViewCol], id: &Name) -> bool
-    ensures { result ≡ has_id shown_id columns.now id.now }
-{
-    columns
-        .iter()
-        .any(|column| column.id.as_str() == id.as_str())
-}
 
 fn is_same_formula(left: &Option<CellText>, right: &Option<CellText>) -> bool
     ensures { IsTrue result ↔ (left.now ≡ right.now) }
@@ -59,7 +36,7 @@ fn is_same_column(left: &ViewCol, right: &ViewCol) -> bool
 fn differs(before: &[ViewCol], column: &ViewCol) -> bool
     ensures { result ≡ differs before.now column.now }
 {
-    match find_column(before, &column.id) {
+    match find_id(before, &column.id) {
         Some(old) => !is_same_column(old, column),
         None => false,
     }
@@ -73,7 +50,7 @@ fn tell_removed(
 ) -> Result<(), AllocError>
     ensures { OnOk result (actions.new.items ≡ actions.old.items ++ removed_column table.now after.now column.now) }
 {
-    if !has_column(after, &column.id) {
+    if !is_there(after, &column.id) {
         actions.push(ViewAction::RemoveColumn {
             table: name_copy(table)?,
             column: name_copy(&column.id)?,
@@ -90,7 +67,7 @@ fn tell_added(
 ) -> Result<(), AllocError>
     ensures { OnOk result (actions.new.items ≡ actions.old.items ++ added_column table.now before.now column.now) }
 {
-    if !has_column(before, &column.id) {
+    if !is_there(before, &column.id) {
         actions.push(ViewAction::AddColumn {
             table: name_copy(table)?,
             column: column_copy(column)?,

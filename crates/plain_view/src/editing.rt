@@ -9,25 +9,20 @@ ghost use Rattle.doc_model.specs.ViewEdits.{IsShown, add, edited, remove, remove
 ghost use Rattle.plain_view.specs.Given.{AreFull, new_cell};
 
 use crate::copies::{column_copy, columns_copy, rows_copy};
-use crate::placing::place_column;
+use crate::named::has_id;
+use crate::placing::put_by_id;
 use crate::rebuilding::rebuilt;
 use crate::rows::{rows_left, rows_with};
 use cell_types::Name;
 use doc_model::{CellColumn, ViewCol, ViewColList, ViewTable};
 use std::alloc::{AllocError, Global};
 
-fn is_named(column: &ViewCol, id: &Name) -> bool
-    ensures { result ≡ bytes_eq column.now.id id.now }
-{
-    column.id.as_str() == id.as_str()
-}
-
 fn columns_without(alloc: Global, columns: &[ViewCol], id: &Name) -> Result<ViewColList, AllocError>
     ensures { IfOk result (λ l. l ≡ without_id shown_id id.now columns.now) }
 {
     let mut kept = Vec::new(alloc);
     for column in columns {
-        if !is_named(column, id) {
+        if !has_id(column, id) {
             kept.push(column_copy(column)?)?;
         }
     }
@@ -38,7 +33,7 @@ fn columns_with(columns: &ViewColList, column: &ViewCol) -> Result<ViewColList, 
     ensures { IfOk result (λ l. l ≡ place shown_id column.now columns.now) }
 {
     let mut all = columns_copy(columns)?.into_vec();
-    place_column(&mut all, column_copy(column)?)?;
+    put_by_id(&mut all, column_copy(column)?)?;
     Ok(ViewColList::from(all))
 }
 

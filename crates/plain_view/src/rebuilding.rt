@@ -8,9 +8,10 @@ ghost use Rattle.plain_view.specs.Cells.{column_place, row_cells, value_in};
 ghost use Rattle.plain_view.specs.Given.{AreFull, column_at, given_at, last_row, last_named, new_cell};
 ghost use Rattle.plain_view.specs.Sources.{sourced_cell, source_of};
 
-use crate::cells::{column_place, row_cells, value_in};
+use crate::cells::{row_cells, value_in};
 use crate::copies::name_copy;
 use crate::given::{column_at, last_place, named_place};
+use crate::named::place_of;
 use crate::rows::is_ascending;
 use cell_types::{CellValue, RowList, ValueList, copy_of, default_of};
 use doc_model::{CellColumn, CellRowList, ViewCol, ViewColList, ViewTable};
@@ -29,7 +30,7 @@ fn source_of(alloc: Global, before: &[ViewCol], given: &[CellColumn], column: &V
     ensures { result ≡ source_of before.now given.now column.now }
 {
     Source {
-        before: column_place(before, &column.id),
+        before: place_of(before, &column.id),
         given: named_place(given, &column.id),
         start: default_of(alloc, &column.ty),
     }

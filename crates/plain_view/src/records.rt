@@ -10,8 +10,9 @@ ghost use Rattle.plain_view.specs.Cells.{column_place};
 ghost use Rattle.plain_view.specs.Told.{is_told_at};
 ghost use Rattle.plain_view.specs.Steps.{is_told, updated_column};
 
-use crate::cells::{column_of, column_place, is_same_value, row_cells, value_in};
+use crate::cells::{column_of, is_same_value, row_cells, value_in};
 use crate::copies::name_copy;
+use crate::named::place_of;
 use crate::rows::{has_row, push_if, rows_without};
 use cell_types::{CellValue, Name, RowList, default_of};
 use doc_model::{ColumnList, ViewAction, ViewCol, ViewTable};
@@ -31,8 +32,8 @@ fn places_of(alloc: Global, before: &ViewTable, after: &ViewTable, column: &View
     ensures start { result.start ≡ shown_start column.now }
 {
     Places {
-        before: column_place(before.columns.as_slice(), &column.id),
-        after: column_place(after.columns.as_slice(), &column.id),
+        before: place_of(before.columns.as_slice(), &column.id),
+        after: place_of(after.columns.as_slice(), &column.id),
         start: default_of(alloc, &column.ty),
     }
 }

@@ -19,6 +19,7 @@ mod editing;
 mod fitting;
 mod full;
 mod given;
+mod makers;
 mod named;
 mod patching;
 mod placing;

@@ -12,10 +12,11 @@ ghost use Rattle.plain_view.specs.Steps.{is_told, updated_column};
 
 use crate::cells::{column_of, is_same_value, row_cells, value_in};
 use crate::copies::name_copy;
+use crate::makers::{Maker, all_made};
 use crate::named::place_of;
 use crate::rows::{has_row, push_if, rows_without};
 use cell_types::{CellValue, Name, RowList, default_of};
-use doc_model::{ColumnList, ViewAction, ViewCol, ViewTable};
+use doc_model::{CellColumn, ColumnList, ViewAction, ViewCol, ViewTable};
 use std::alloc::{AllocError, Global};
 
 /// A column's place before and after, and what its cells start with.
@@ -212,13 +213,36 @@ fn addition(alloc: Global, table: &ViewTable, rows: RowList) -> Result<ViewActio
     })
 }
 
+/// The cells of columns in these rows.
+#[derive(Drop)]
+struct Columns<'a> {
+    alloc: Global,
+    table: &'a ViewTable,
+    rows: &'a [u32],
+}
+
+impl Maker for Columns<'_> {
+    ghost use Rattle.doc_model.specs.declared.view.ViewCol.{ViewCol};
+    ghost use Rattle.doc_model.specs.Changes.{grid};
+    ghost use Rattle.doc_model.specs.Records.{column_of};
+    ghost use Rattle.doc_model.specs.ViewEdits.{IsShown, shown_id};
+
+    type Of = ViewCol;
+    type Made = CellColumn;
+
+    ghost made = { λ m (d : ViewCol). column_of shown_id (grid m.table.now) m.rows.now d.id };
+
+    ghost is_ready = { λ m. IsShown (grid m.table.now) };
+
+    fn make(&self, of: &ViewCol) -> Result<CellColumn, AllocError> {
+        column_of(self.alloc, self.table, self.rows, &of.id)
+    }
+}
+
 fn whole(alloc: Global, table: &ViewTable, rows: &[u32]) -> Result<ColumnList, AllocError>
     requires { IsShown (grid table.now) }
     ensures { IfOk result (λ l. l ≡ whole (grid table.now) rows.now) }
 {
-    let mut columns = Vec::with_capacity(alloc, table.columns.len())?;
-    for column in table.columns.as_slice() {
-        columns.push(column_of(alloc, table, rows, &column.id)?)?;
-    }
-    Ok(ColumnList::from(columns))
+    let columns = Columns { alloc, table, rows };
+    all_made(alloc, &columns, table.columns.as_slice())
 }

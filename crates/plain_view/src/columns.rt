@@ -1,10 +1,12 @@
 //! The changes of a table's columns: those that are gone, the new ones, and those that are another.
 
-ghost use Rattle.std.specs.Prelude.{◌≡◌, ◌++◌, ◌↔◌, IsTrue, OnOk};
+ghost use Rattle.std.specs.Prelude.{◌≡◌, ◌++◌, ◌↔◌, IfOk, IsTrue, OnOk};
+ghost use Rattle.doc_model.specs.declared.view.ViewAction.TheVariants.{RemoveColumn};
 ghost use Rattle.doc_model.specs.Changes.{for_each};
 ghost use Rattle.doc_model.specs.ViewEdits.{differs};
 ghost use Rattle.plain_view.specs.Steps.{added_column, modified_column, removed_column};
 
+use crate::actions::add;
 use crate::copies::{column_copy, name_copy};
 use crate::named::{find_id, is_there};
 use cell_types::{CellText, Name, Same};
@@ -42,6 +44,21 @@ fn differs(before: &[ViewCol], column: &ViewCol) -> bool
     }
 }
 
+fn removal(table: &Name, column: &Name) -> Result<ViewAction, AllocError>
+    ensures { IfOk result (λ a. a ≡ RemoveColumn table.now column.now) }
+{
+    let table = name_copy(table)?;
+    let column = name_copy(column)?;
+    Ok(ViewAction::RemoveColumn { table, column })
+}
+
+fn column_told(table: &Name, column: &ViewCol) -> Result<(Name, ViewCol), AllocError>
+    ensures { IfOk result (λ t. t ≡ (table.now, column.now)) }
+{
+    let table = name_copy(table)?;
+    Ok((table, column_copy(column)?))
+}
+
 fn tell_removed(
     table: &Name,
     after: &[ViewCol],
@@ -51,10 +68,7 @@ fn tell_removed(
     ensures { OnOk result (actions.new.items ≡ actions.old.items ++ removed_column table.now after.now column.now) }
 {
     if !is_there(after, &column.id) {
-        actions.push(ViewAction::RemoveColumn {
-            table: name_copy(table)?,
-            column: name_copy(&column.id)?,
-        })?;
+        add(actions, removal(table, &column.id)?)?;
     }
     Ok(())
 }
@@ -68,10 +82,8 @@ fn tell_added(
     ensures { OnOk result (actions.new.items ≡ actions.old.items ++ added_column table.now before.now column.now) }
 {
     if !is_there(before, &column.id) {
-        actions.push(ViewAction::AddColumn {
-            table: name_copy(table)?,
-            column: column_copy(column)?,
-        })?;
+        let (table, column) = column_told(table, column)?;
+        add(actions, ViewAction::AddColumn { table, column })?;
     }
     Ok(())
 }
@@ -85,10 +97,8 @@ fn tell_modified(
     ensures { OnOk result (actions.new.items ≡ actions.old.items ++ modified_column table.now before.now column.now) }
 {
     if differs(before, column) {
-        actions.push(ViewAction::ModifyColumn {
-            table: name_copy(table)?,
-            column: column_copy(column)?,
-        })?;
+        let (table, column) = column_told(table, column)?;
+        add(actions, ViewAction::ModifyColumn { table, column })?;
     }
     Ok(())
 }

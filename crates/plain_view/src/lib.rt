@@ -12,6 +12,7 @@
 //! Read first: view_changes.rt and revision.rt, then patching.rt and rebuilding.rt.
 #![tactic(auto)]
 
+mod actions;
 mod cells;
 mod columns;
 mod copies;

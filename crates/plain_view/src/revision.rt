@@ -28,7 +28,7 @@ pub(crate) fn tell_revision(
 {
     tell_columns(before, after, actions)?;
     tell_rows(alloc, before, after, actions)?;
-    tell_updated_cells(alloc, &after.id, before, after, actions)
+    tell_updated_cells(alloc, before, after, actions)
 }
 
 fn tell_columns(

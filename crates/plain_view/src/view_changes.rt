@@ -6,6 +6,7 @@ ghost use Rattle.doc_model.specs.Changes.{IsView, changes, for_each, grid, intro
 ghost use Rattle.doc_model.specs.ViewEdits.{IsShown};
 ghost use Rattle.plain_view.specs.Steps.{new_table, removed_table};
 
+use crate::actions::add;
 use crate::copies::{head_copy, name_copy, rows_copy};
 use crate::named::{find_id, is_there};
 use crate::records::tell_added_rows;
@@ -40,9 +41,8 @@ fn tell_removed(
     ensures { OnOk result (actions.new.items ≡ actions.old.items ++ removed_table after.now table.now) }
 {
     if !is_there(after, &table.id) {
-        actions.push(ViewAction::RemoveTable {
-            table: name_copy(&table.id)?,
-        })?;
+        let table = name_copy(&table.id)?;
+        add(actions, ViewAction::RemoveTable { table })?;
     }
     Ok(())
 }
@@ -56,7 +56,7 @@ fn introduce(
     ensures { OnOk result (actions.new.items ≡ actions.old.items ++ introduced table.now) }
 {
     let (id, columns) = head_copy(table)?;
-    actions.push(ViewAction::AddTable { table: id, columns })?;
+    add(actions, ViewAction::AddTable { table: id, columns })?;
     tell_added_rows(alloc, table, rows_copy(&table.rows)?, actions)
 }
 

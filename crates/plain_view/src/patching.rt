@@ -15,7 +15,7 @@ use crate::copies::{Copied, name_copy};
 use crate::editing::{with_column, with_rows, with_values, without_column, without_rows};
 use crate::fitting::fits;
 use crate::named::place_of;
-use crate::placing::{columns_by_id, put_by_id};
+use crate::placing::{columns_by_id, put_by_id, remove_by_id};
 use cell_types::{Name, RowList};
 use doc_model::{CellRowList, View, ViewAction, ViewActionList, ViewCol, ViewTable, ViewTableList};
 use std::alloc::{AllocError, Global};
@@ -96,7 +96,7 @@ fn apply(alloc: Global, tables: &mut Vec<ViewTable>, action: &ViewAction) -> Res
             add_table(alloc, tables, table, columns.as_slice())
         }
         ViewAction::RemoveTable { table } => {
-            remove_table(tables, table);
+            remove_by_id(tables, table);
             Ok(())
         }
         ViewAction::AddColumn { table, .. } => edit_table(alloc, tables, table, action),
@@ -125,18 +125,6 @@ fn add_table(
     put_by_id(tables, table)
 }
 
-fn remove_table(tables: &mut Vec<ViewTable>, id: &Name)
-    requires { IsView tables.old.items }
-    ensures { tables.new.items ≡ without_id shown_table_id id.now tables.old.items }
-{
-    match place_of(tables, id) {
-        Some(place) => {
-            tables.remove(place);
-        }
-        None => {}
-    }
-}
-
 fn edit_table(
     alloc: Global,
     tables: &mut Vec<ViewTable>,
@@ -150,8 +138,7 @@ fn edit_table(
 {
     match place_of(tables, id) {
         Some(place) => {
-            let table = edited(alloc, &tables[place], action)?;
-            tables[place] = table;
+            tables[place] = edited(alloc, &tables[place], action)?;
         }
         None => {}
     }

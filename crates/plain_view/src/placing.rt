@@ -1,12 +1,12 @@
-//! Things put in their places by id.
+//! Things put in their places by id, and removed.
 
 ghost use Rattle.std.specs.Prelude.{◌≡◌, IfOk, MatchResult, OnOk};
-ghost use Rattle.doc_model.specs.ByIds.{by_id, place};
+ghost use Rattle.doc_model.specs.ByIds.{AreDistinct, by_id, place, without_id};
 ghost use Rattle.doc_model.specs.ViewEdits.{shown_id};
 ghost use Rattle.plain_view.specs.Placed.{GoesBefore, GoesOver};
 
 use crate::copies::column_copy;
-use crate::named::Named;
+use crate::named::{Named, place_of};
 use cell_types::Name;
 use doc_model::{ViewCol, ViewColList};
 use std::alloc::{AllocError, Global};
@@ -37,6 +37,21 @@ pub(crate) fn put_by_id<T: Named>(things: &mut Vec<T>, thing: T) -> Result<(), A
         Err(place) => things.insert(place, thing)?,
     }
     Ok(())
+}
+
+/// Removes the thing of an id, where it is there.
+///
+/// Memory: none. Cost: linear in the things.
+pub(crate) fn remove_by_id<T: Named>(things: &mut Vec<T>, id: &Name)
+    requires { AreDistinct T.id_of things.old.items }
+    ensures { things.new.items ≡ without_id T.id_of id.now things.old.items }
+{
+    match place_of(things, id) {
+        Some(place) => {
+            things.remove(place);
+        }
+        None => {}
+    }
 }
 
 /// Columns in the order of their ids.

@@ -189,7 +189,7 @@ pub(crate) fn tell_removed_rows(
     requires { IsAscending after.now }
     ensures { OnOk result (actions.new.items ≡ actions.old.items ++ if_any (without after.now before.now) (BulkRemove table.now (without after.now before.now))) }
 {
-    let rows = rows_without(alloc, after, before)?;
+    let rows = rows_without(alloc, after, true, before)?;
     if rows.is_empty() {
         return Ok(());
     }

@@ -58,5 +58,5 @@ fn tell_rows(
     let old = before.rows.as_slice();
     let new = after.rows.as_slice();
     tell_removed_rows(alloc, &after.id, old, new, actions)?;
-    tell_added_rows(alloc, after, rows_without(alloc, old, new)?, actions)
+    tell_added_rows(alloc, after, rows_without(alloc, old, true, new)?, actions)
 }

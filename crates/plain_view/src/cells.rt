@@ -73,6 +73,7 @@ impl Maker for RowValues<'_> {
     ghost use Rattle.plain_view.specs.Cells.{row_cells, value_in};
 
     type Of = u32;
+
     type Made = CellValue;
 
     ghost made = { λ m r. value_in (row_cells (grid m.table.now) r) m.place Null };

@@ -38,6 +38,7 @@ impl Maker for Sourcing<'_> {
     ghost use Rattle.plain_view.specs.Sources.{source_of};
 
     type Of = ViewCol;
+
     type Made = Source;
 
     ghost made = { λ m d. source_of m.before.now m.given.now d };
@@ -67,6 +68,7 @@ impl Maker for RowCells<'_> {
     ghost use Rattle.plain_view.specs.Sources.{sourced_cell};
 
     type Of = Source;
+
     type Made = CellValue;
 
     ghost made = { λ m source. sourced_cell m.row.now m.given.now m.place source };
@@ -107,6 +109,7 @@ impl Maker for Rows<'_> {
     ghost use Rattle.plain_view.specs.Sources.{sourced_cell};
 
     type Of = u32;
+
     type Made = ValueList;
 
     ghost made = { λ m r. map (sourced_cell (row_cells (grid m.table.now) r) m.given.now (last_row m.given_rows.now r)) m.sources.now };
@@ -137,7 +140,11 @@ fn cells_of(
     ensures { IfOk result (λ l. l ≡ (grid_of columns.now rows.now (new_cell (grid table.now) given_rows.now given.now)).cells) }
 {
     let before = table.columns.as_slice();
-    let sourcing = Sourcing { alloc, before, given };
+    let sourcing = Sourcing {
+        alloc,
+        before,
+        given,
+    };
     let sources = all_made(alloc, &sourcing, columns)?;
     let made = Rows {
         alloc,
@@ -167,7 +174,14 @@ pub(crate) fn rebuilt(
     requires given { AreFull given_rows.now given.now }
     ensures { IfOk result (λ t. t ≡ table_of table.now.id (grid_of columns rows (new_cell (grid table.now) given_rows.now given.now))) }
 {
-    let cells = cells_of(alloc, table, columns.as_slice(), rows.as_slice(), given_rows, given)?;
+    let cells = cells_of(
+        alloc,
+        table,
+        columns.as_slice(),
+        rows.as_slice(),
+        given_rows,
+        given,
+    )?;
     Ok(ViewTable {
         id: name_copy(&table.id)?,
         columns,

@@ -104,6 +104,7 @@ impl Maker for Columns<'_> {
     ghost use Rattle.doc_model.specs.ViewEdits.{IsShown, shown_id};
 
     type Of = ViewCol;
+
     type Made = CellColumn;
 
     ghost made = { λ m (d : ViewCol). column_of shown_id (grid m.table.now) m.rows.now d.id };

@@ -4,12 +4,8 @@ use Rattle.std.proofs.Common.{◌||◌, drop, drop-cons, Option, Some, ℕ, zero
 use Rattle.std.proofs.lemmas.List.Elements.{filter_more}
 use Rattle.std.specs.List.{AllByRecursion, list_any}
 use Rattle.doc_model.specs.ViewEdits.{if_any}
-use Rattle.std.proofs.lemmas.List.{take_more, map_more}
+use Rattle.std.proofs.lemmas.List.{take_more}
 use Rattle.doc_model.specs.Changes.{for_each}
-
-pub map_next : {X Y : Type 0} (f : X → Y) (xs : List X) (i : ℕ) (x : X) (y : Y) (ys zs : List Y) → i < length xs → x ≡ get_or xs i x → ys ≡ map f (take i xs) → y ≡ f x → zs ≡ ys ++ y ∷ [] → zs ≡ map f (take (i + 1) xs)
-map_next f xs i x y ys zs lt is before here next =
-    next ∙ ap (λ l. l ++ y ∷ []) before ∙ ap (λ z. map f (take i xs) ++ z ∷ []) (here ∙ ap f is) ∙ sym (map_more f xs i x lt)
 
 pub take_next : {X : Type 0} (xs : List X) (i : ℕ) (x y : X) (ys zs : List X) → i < length xs → x ≡ get_or xs i x → ys ≡ take i xs → y ≡ x → zs ≡ ys ++ y ∷ [] → zs ≡ take (i + 1) xs
 take_next xs i x y ys zs lt is before same next =

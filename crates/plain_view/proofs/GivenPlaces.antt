@@ -1,5 +1,5 @@
 -- What an action gives, by the last places of rows and columns.
-use Rattle.std.proofs.Common.{ℕ, zero, suc, ◌+◌, Bool, true, false, cond, ◌||◌, List, [], ◌∷◌, ◌++◌, map, take, ◌≡◌, ◌<◌, length, get_or, refl, sym, ap, subst, ◌∙◌, Option, Some, None, unwrap_or, is_some, option_map, slice_get, eqb, arith, MatchOption}
+use Rattle.std.proofs.Common.{Result, Ok, Err, IfOk, ℕ, zero, suc, ◌+◌, Bool, true, false, cond, ◌||◌, List, [], ◌∷◌, ◌++◌, map, take, ◌≡◌, ◌<◌, length, get_or, refl, sym, ap, subst, ◌∙◌, Option, Some, None, unwrap_or, is_some, option_map, slice_get, eqb, arith, MatchOption}
 use Rattle.std.proofs.lemmas.Bool.{false≢true, true≢false, eq-eqb}
 use Rattle.std.proofs.lemmas.List.{take_more}
 use Rattle.std.specs.List.{AllByRecursion, list_any}
@@ -135,14 +135,19 @@ rebuilt_cells g given_rows ks columns rows h =
     ∙ map_each (λ d. sourced_cell (row_cells g r) ks (last_row given_rows r) (source_of g.columns ks d)) (λ d. new_cell g given_rows ks d r) columns
     (everywhere (λ d. sourced_cell (row_cells g r) ks (last_row given_rows r) (source_of g.columns ks d) ≡ new_cell g given_rows ks d r) columns (λ d. sourced g given_rows ks d r h))))
 
-pub rebuilt_table : (g : Grid ViewCol) (name id : List ℕ) (columns : List ViewCol) (rows given_rows : List ℕ) (ks : List CellColumn) (old seen : List ViewCol) (walked : List ℕ) (made used : List Source) (cells : List (List CellValue))
-    → AreFull given_rows ks → id ≡ name → old ≡ g.columns → seen ≡ columns → walked ≡ rows → made ≡ map (source_of old ks) seen → used ≡ made → cells ≡ map (λ r. map (sourced_cell (row_cells g r) ks (last_row given_rows r)) used) walked
+-- the cells made of the sources of the columns
+pub cells_made : {E : Type 0} (r : Result (List (List CellValue)) E) (g : Grid ViewCol) (columns : List ViewCol) (rows given_rows : List ℕ) (ks : List CellColumn) (old : List ViewCol) (made used : List Source)
+    → AreFull given_rows ks → old ≡ g.columns → made ≡ map (source_of old ks) columns → used ≡ made → IfOk r (λ l. l ≡ map (λ r. map (sourced_cell (row_cells g r) ks (last_row given_rows r)) used) rows)
+    → IfOk r (λ l. l ≡ map (λ r. map (λ d. new_cell g given_rows ks d r) columns) rows)
+cells_made (Ok l) g columns rows given_rows ks old made used h eo em eu e =
+    e ∙ ap (λ l. map (λ r. map (sourced_cell (row_cells g r) ks (last_row given_rows r)) l) rows) (eu ∙ em ∙ ap (λ l. map (source_of l ks) columns) eo)
+    ∙ rebuilt_cells g given_rows ks columns rows h
+cells_made (Err x) g columns rows given_rows ks old made used h eo em eu e = tt
+
+pub rebuilt_table : (g : Grid ViewCol) (name id : List ℕ) (columns seen : List ViewCol) (rows walked given_rows : List ℕ) (ks : List CellColumn) (cells : List (List CellValue))
+    → id ≡ name → seen ≡ columns → walked ≡ rows → cells ≡ (grid_of seen walked (new_cell g given_rows ks)).cells
     → (let t : ViewTable = record { id = id; columns = columns; rows = rows; cells = cells } in t) ≡ table name (grid_of columns rows (new_cell g given_rows ks))
-rebuilt_table g name id columns rows given_rows ks old seen walked made used cells h named eo es ew em eu ec =
-    let made_is : used ≡ map (source_of g.columns ks) columns = eu ∙ em ∙ ap (λ l. map (source_of l ks) seen) eo ∙ ap (map (source_of g.columns ks)) es in
-    let cells_are : cells ≡ map (λ r. map (λ d. new_cell g given_rows ks d r) columns) rows =
-    ec ∙ ap (λ l. map (λ r. map (sourced_cell (row_cells g r) ks (last_row given_rows r)) l) walked) made_is
-    ∙ ap (map (λ r. map (sourced_cell (row_cells g r) ks (last_row given_rows r)) (map (source_of g.columns ks) columns))) ew
-    ∙ rebuilt_cells g given_rows ks columns rows h in
+rebuilt_table g name id columns seen rows walked given_rows ks cells named es ew ec =
     ap (λ n. let t : ViewTable = record { id = n; columns = columns; rows = rows; cells = cells } in t) named
-    ∙ ap (λ l. let t : ViewTable = record { id = name; columns = columns; rows = rows; cells = l } in t) cells_are
+    ∙ ap (λ l. let t : ViewTable = record { id = name; columns = columns; rows = rows; cells = l } in t)
+    (ec ∙ ap (λ l. (grid_of l walked (new_cell g given_rows ks)).cells) es ∙ ap (λ l. (grid_of columns l (new_cell g given_rows ks)).cells) ew)

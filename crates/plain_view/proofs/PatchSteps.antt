@@ -1,5 +1,9 @@
 -- A patch of a view, action by action.
-use Rattle.std.proofs.Common.{ℕ, zero, suc, ◌+◌, Bool, true, false, cond, not, ◌&&◌, List, [], ◌∷◌, ◌++◌, map, filter, take, drop, set, length, get_or, ◌≡◌, ◌<◌, refl, sym, ap, subst, ◌∙◌, Option, Some, None, option_map, arith, ltb, drop-cons}
+use Rattle.std.proofs.Common.{Result, Ok, Err, ℕ, zero, suc, ◌+◌, Bool, true, false, cond, not, ◌&&◌, List, [], ◌∷◌, ◌++◌, map, filter, take, drop, set, length, get_or, ◌≡◌, ◌<◌, refl, sym, ap, subst, ◌∙◌, Option, Some, None, option_map, arith, ltb, drop-cons}
+use Rattle.std.specs.Result.{IfErr, IsErrAnd}
+use Rattle.plain_view.specs.declared.patching.PatchFault.{PatchFault}
+use Rattle.plain_view.specs.declared.patching.PatchFault.TheVariants.{NoMemory, Unfit}
+use Rattle.plain_view.specs.Faults.{tells, tells_here}
 use Rattle.std.proofs.lemmas.Bool.{ltb-true, ltb-false, lt-ltb, le-ltb}
 use Rattle.std.proofs.lemmas.Slice.Eq.{bytes_eq-Decides}
 use Rattle.std.specs.List.{AllByRecursion, position, position_or_len}
@@ -170,3 +174,10 @@ pub leads_all : (v now : List ViewTable) (actions : List ViewAction) (index : �
 leads_all v now actions index h e =
     let none : drop index actions ≡ [] = Rattle.std.proofs.lemmas.List.drop_all index actions (omega (arith, e)) in
     (h.unfit ∙ ap (λ l. option_map (λ p. index + p) (unfit_at now l)) none, sym (h.patch ∙ ap (patch now) none), h.view)
+
+-- a fault of an action tells where the whole stops
+pub told_unfit : {T : Type 0} (r : Result T PatchFault) (fault : PatchFault) (v now : List ViewTable) (actions : List ViewAction) (index : ℕ) (a : ViewAction) → Leads v actions now index → index < length actions → a ≡ get_or actions index a
+    → tells_here fault (fits a now) index → IsErrAnd r (λ e. e ≡ fault) → IfErr r (λ fault. tells fault (unfit_at v actions))
+told_unfit (Ok x) fault v now actions index a h lt is here same = tt
+told_unfit (Err e) (Unfit i) v now actions index a h lt is here same = subst (λ f. tells f (unfit_at v actions)) (sym same) (leads_nowhere v now actions index a h lt is here.0 ∙ ap (λ k. Some k) (sym here.1))
+told_unfit (Err e) NoMemory v now actions index a h lt is here same = subst (λ f. tells f (unfit_at v actions)) (sym same) tt

@@ -1,14 +1,11 @@
 -- One step of a loop that goes over a list.
-use Rattle.std.proofs.Common.{ℕ, zero, suc, Bool, true, false, cond, not, List, [], ◌∷◌, ◌++◌, map, filter, take, ◌≡◌, ◌<◌, ◌+◌, length, get_or, refl, sym, ap, subst, ◌∙◌, append_assoc, arith}
+use Rattle.std.specs.Prelude.{find}
+use Rattle.std.proofs.Common.{◌||◌, drop, drop-cons, Option, Some, ℕ, zero, suc, Bool, true, false, cond, not, List, [], ◌∷◌, ◌++◌, map, filter, take, ◌≡◌, ◌<◌, ◌+◌, length, get_or, refl, sym, ap, subst, ◌∙◌, append_assoc, arith}
 use Rattle.std.proofs.lemmas.List.Elements.{filter_more}
-use Rattle.std.specs.List.{AllByRecursion}
+use Rattle.std.specs.List.{AllByRecursion, list_any}
 use Rattle.doc_model.specs.ViewEdits.{if_any}
-use Rattle.std.proofs.lemmas.List.{take_more, map_more}
+use Rattle.std.proofs.lemmas.List.{take_more}
 use Rattle.doc_model.specs.Changes.{for_each}
-
-pub map_next : {X Y : Type 0} (f : X → Y) (xs : List X) (i : ℕ) (x : X) (y : Y) (ys zs : List Y) → i < length xs → x ≡ get_or xs i x → ys ≡ map f (take i xs) → y ≡ f x → zs ≡ ys ++ y ∷ [] → zs ≡ map f (take (i + 1) xs)
-map_next f xs i x y ys zs lt is before here next =
-    next ∙ ap (λ l. l ++ y ∷ []) before ∙ ap (λ z. map f (take i xs) ++ z ∷ []) (here ∙ ap f is) ∙ sym (map_more f xs i x lt)
 
 pub take_next : {X : Type 0} (xs : List X) (i : ℕ) (x y : X) (ys zs : List X) → i < length xs → x ≡ get_or xs i x → ys ≡ take i xs → y ≡ x → zs ≡ ys ++ y ∷ [] → zs ≡ take (i + 1) xs
 take_next xs i x y ys zs lt is before same next =
@@ -78,3 +75,26 @@ pub each_item : {X : Type 0} (P : X → Type 0) (xs : List X) (i : ℕ) (x : X) 
 each_item P [] i x h lt is = absurd (omega arith)
 each_item P (y ∷ xs) zero x h lt is = subst P (sym is) h.0
 each_item P (y ∷ xs) (suc i) x h lt is = each_item P xs i x h.1 (omega arith) is
+
+-- the rest begins with the thing at the place
+rest_at : {X : Type 0} (xs : List X) (i : ℕ) (x : X) → i < length xs → x ≡ get_or xs i x → drop i xs ≡ x ∷ drop (suc i) xs
+rest_at xs i x lt is = drop-cons xs i x lt ∙ ap (λ z. z ∷ drop (suc i) xs) (sym is)
+
+-- a thing that passes decides whether one does
+pub any_here : {X : Type 0} (test : X → Bool) (xs : List X) (i : ℕ) (x : X) (b : Bool) → i < length xs → x ≡ get_or xs i x → list_any test (drop i xs) ≡ b → true ≡ test x → true ≡ b
+any_here test xs i x b lt is e t = ap (λ v. v || list_any test (drop (suc i) xs)) t ∙ sym (ap (list_any test) (rest_at xs i x lt is)) ∙ e
+
+-- and one that does not leaves it to the rest
+pub any_later : {X : Type 0} (test : X → Bool) (xs : List X) (i : ℕ) (x : X) (b : Bool) → i < length xs → x ≡ get_or xs i x → list_any test (drop i xs) ≡ b → false ≡ test x → list_any test (drop (i + 1) xs) ≡ b
+any_later test xs i x b lt is e f =
+    let one : i + 1 ≡ suc i = omega arith in
+    ap (λ k. list_any test (drop k xs)) one ∙ ap (λ v. v || list_any test (drop (suc i) xs)) f ∙ sym (ap (list_any test) (rest_at xs i x lt is)) ∙ e
+
+-- the first thing that passes is the one found
+pub find_here : {X : Type 0} (test : X → Bool) (xs : List X) (i : ℕ) (x : X) (o : Option X) → i < length xs → x ≡ get_or xs i x → find test (drop i xs) ≡ o → true ≡ test x → Some x ≡ o
+find_here test xs i x o lt is e t = ap (λ v. cond v (Some x) (find test (drop (suc i) xs))) t ∙ sym (ap (find test) (rest_at xs i x lt is)) ∙ e
+
+pub find_later : {X : Type 0} (test : X → Bool) (xs : List X) (i : ℕ) (x : X) (o : Option X) → i < length xs → x ≡ get_or xs i x → find test (drop i xs) ≡ o → false ≡ test x → find test (drop (i + 1) xs) ≡ o
+find_later test xs i x o lt is e f =
+    let one : i + 1 ≡ suc i = omega arith in
+    ap (λ k. find test (drop k xs)) one ∙ ap (λ v. cond v (Some x) (find test (drop (suc i) xs))) f ∙ sym (ap (find test) (rest_at xs i x lt is)) ∙ e

@@ -8,24 +8,15 @@ ghost use Rattle.doc_model.specs.Grid.{beside, cell};
 ghost use Rattle.doc_model.specs.Records.{column_of};
 ghost use Rattle.doc_model.specs.Same.{same_value};
 ghost use Rattle.doc_model.specs.ViewEdits.{IsShown, shown_id};
-ghost use Rattle.plain_view.specs.Cells.{column_place, row_cells, value_in};
+ghost use Rattle.plain_view.specs.Cells.{row_cells, value_in};
 
 use crate::copies::name_copy;
+use crate::makers::{Maker, all_made};
+use crate::named::place_of;
 use crate::rows::row_place;
-use cell_types::{CellValue, Name, Same, ValueList, copy_of};
-use doc_model::{CellColumn, ViewCol, ViewTable};
+use cell_types::{CellValue, Name, Same, copy_of};
+use doc_model::{CellColumn, ViewTable};
 use std::alloc::{AllocError, Global};
-
-/// The place of the column of an id.
-///
-/// Memory: none. Cost: linear in the columns.
-pub(crate) fn column_place(columns: &[ViewCol], id: &Name) -> Option<usize>
-    ensures { result ≡ column_place columns.now id.now }
-{
-    columns
-        .iter()
-        .position(|column| column.id.as_str() == id.as_str())
-}
 
 /// The cells of a row; none where the row is not there.
 ///
@@ -68,21 +59,30 @@ pub(crate) fn is_same_value(left: &CellValue, right: &CellValue) -> bool
     left.same_as(right)
 }
 
-// The values at a place of these rows; Null where there is none.
-fn values_at(
-    alloc: Global,
-    table: &ViewTable,
-    rows: &[u32],
+/// The values at a place of rows; Null where there is none.
+#[derive(Drop)]
+struct RowValues<'a> {
+    table: &'a ViewTable,
     place: Option<usize>,
-) -> Result<ValueList, AllocError>
-    requires { IsShown (grid table.now) }
-    ensures { IfOk result (λ l. l ≡ map (λ r. value_in (row_cells (grid table.now) r) place Null) rows.now) }
-{
-    let mut values = Vec::with_capacity(alloc, rows.len())?;
-    for row in rows {
-        values.push(copy_of(value_in(row_cells(table, *row), place, &CellValue::Null))?)?;
+}
+
+impl Maker for RowValues<'_> {
+    ghost use Rattle.doc_model.specs.Changes.{grid};
+    ghost use Rattle.doc_model.specs.ViewEdits.{IsShown};
+    ghost use Rattle.cell_types.specs.declared.value.CellValue.TheVariants.{Null};
+    ghost use Rattle.plain_view.specs.Cells.{row_cells, value_in};
+
+    type Of = u32;
+
+    type Made = CellValue;
+
+    ghost made = { λ m r. value_in (row_cells (grid m.table.now) r) m.place Null };
+
+    ghost is_ready = { λ m. IsShown (grid m.table.now) };
+
+    fn make(&self, of: &u32) -> Result<CellValue, AllocError> {
+        copy_of(value_in(row_cells(self.table, *of), self.place, &CellValue::Null))
     }
-    Ok(ValueList::from(values))
 }
 
 /// The cells of the column of an id in these rows; Null where there is none.
@@ -97,8 +97,8 @@ pub(crate) fn column_of(
     requires { IsShown (grid table.now) }
     ensures { IfOk result (λ k. k ≡ column_of shown_id (grid table.now) rows.now id.now) }
 {
-    let place = column_place(table.columns.as_slice(), id);
-    let values = values_at(alloc, table, rows, place)?;
+    let place = place_of(table.columns.as_slice(), id);
+    let values = all_made(alloc, &RowValues { table, place }, rows)?;
     let id = name_copy(id)?;
     Ok(CellColumn { id, values })
 }

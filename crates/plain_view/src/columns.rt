@@ -1,38 +1,17 @@
 //! The changes of a table's columns: those that are gone, the new ones, and those that are another.
 
-ghost use Rattle.std.specs.Prelude.{◌≡◌, ◌++◌, ◌↔◌, bytes_eq, find, IsTrue, OnOk};
-ghost use Rattle.std.specs.Option.{option_copied};
-ghost use Rattle.doc_model.specs.ByIds.{find_id, has_id};
+ghost use Rattle.std.specs.Prelude.{◌≡◌, ◌++◌, ◌↔◌, IfOk, IsTrue, OnOk};
+ghost use Rattle.doc_model.specs.declared.view.ViewAction.TheVariants.{RemoveColumn};
 ghost use Rattle.doc_model.specs.Changes.{for_each};
-ghost use Rattle.doc_model.specs.ViewEdits.{differs, shown_id};
+ghost use Rattle.doc_model.specs.ViewEdits.{differs};
 ghost use Rattle.plain_view.specs.Steps.{added_column, modified_column, removed_column};
 
+use crate::actions::add;
 use crate::copies::{column_copy, name_copy};
+use crate::named::{find_id, is_there};
 use cell_types::{CellText, Name, Same};
 use doc_model::{ViewAction, ViewCol};
 use std::alloc::AllocError;
-
-/// The column of an id.
-///
-/// Memory: none. Cost: linear in the columns.
-fn find_column<'a>(columns: &'a [ViewCol], id: &Name) -> Option<&'a ViewCol>
-    ensures { option_copied result ≡ find_id shown_id id.now columns.now }
-{
-    columns
-        .iter()
-        .find(|column| column.id.as_str() == id.as_str())
-}
-
-/// Whether there is a column of that id.
-///
-/// Memory: none. Cost: linear in the columns.
-pub(crate) fn has_column(columns: &[ViewCol], id: &Name) -> bool
-    ensures { result ≡ has_id shown_id columns.now id.now }
-{
-    columns
-        .iter()
-        .any(|column| column.id.as_str() == id.as_str())
-}
 
 fn is_same_formula(left: &Option<CellText>, right: &Option<CellText>) -> bool
     ensures { IsTrue result ↔ (left.now ≡ right.now) }
@@ -59,10 +38,25 @@ fn is_same_column(left: &ViewCol, right: &ViewCol) -> bool
 fn differs(before: &[ViewCol], column: &ViewCol) -> bool
     ensures { result ≡ differs before.now column.now }
 {
-    match find_column(before, &column.id) {
+    match find_id(before, &column.id) {
         Some(old) => !is_same_column(old, column),
         None => false,
     }
+}
+
+fn removal(table: &Name, column: &Name) -> Result<ViewAction, AllocError>
+    ensures { IfOk result (λ a. a ≡ RemoveColumn table.now column.now) }
+{
+    let table = name_copy(table)?;
+    let column = name_copy(column)?;
+    Ok(ViewAction::RemoveColumn { table, column })
+}
+
+fn column_told(table: &Name, column: &ViewCol) -> Result<(Name, ViewCol), AllocError>
+    ensures { IfOk result (λ t. t ≡ (table.now, column.now)) }
+{
+    let table = name_copy(table)?;
+    Ok((table, column_copy(column)?))
 }
 
 fn tell_removed(
@@ -73,11 +67,8 @@ fn tell_removed(
 ) -> Result<(), AllocError>
     ensures { OnOk result (actions.new.items ≡ actions.old.items ++ removed_column table.now after.now column.now) }
 {
-    if !has_column(after, &column.id) {
-        actions.push(ViewAction::RemoveColumn {
-            table: name_copy(table)?,
-            column: name_copy(&column.id)?,
-        })?;
+    if !is_there(after, &column.id) {
+        add(actions, removal(table, &column.id)?)?;
     }
     Ok(())
 }
@@ -90,11 +81,9 @@ fn tell_added(
 ) -> Result<(), AllocError>
     ensures { OnOk result (actions.new.items ≡ actions.old.items ++ added_column table.now before.now column.now) }
 {
-    if !has_column(before, &column.id) {
-        actions.push(ViewAction::AddColumn {
-            table: name_copy(table)?,
-            column: column_copy(column)?,
-        })?;
+    if !is_there(before, &column.id) {
+        let (table, column) = column_told(table, column)?;
+        add(actions, ViewAction::AddColumn { table, column })?;
     }
     Ok(())
 }
@@ -108,10 +97,8 @@ fn tell_modified(
     ensures { OnOk result (actions.new.items ≡ actions.old.items ++ modified_column table.now before.now column.now) }
 {
     if differs(before, column) {
-        actions.push(ViewAction::ModifyColumn {
-            table: name_copy(table)?,
-            column: column_copy(column)?,
-        })?;
+        let (table, column) = column_told(table, column)?;
+        add(actions, ViewAction::ModifyColumn { table, column })?;
     }
     Ok(())
 }

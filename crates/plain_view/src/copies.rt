@@ -2,7 +2,7 @@
 
 ghost use Rattle.std.specs.Prelude.{◌≡◌, IfOk};
 
-use cell_types::{CellValue, Name, RowList, ValueList, copy_of};
+use cell_types::{CellValue, Name, RowList, Sequence, copy_of};
 use doc_model::{CellRowList, ViewCol, ViewColList, ViewTable};
 use std::alloc::{AllocError, Global};
 
@@ -34,26 +34,6 @@ pub(crate) fn rows_copy(rows: &RowList) -> Result<RowList, AllocError>
     rows.clone()
 }
 
-fn values_copy(alloc: Global, values: &[CellValue]) -> Result<ValueList, AllocError>
-    ensures { IfOk result (λ l. l ≡ values.now) }
-{
-    let mut copies = Vec::with_capacity(alloc, values.len())?;
-    for value in values {
-        copies.push(copy_of(value)?)?;
-    }
-    Ok(ValueList::from(copies))
-}
-
-fn cells_copy(alloc: Global, cells: &[ValueList]) -> Result<CellRowList, AllocError>
-    ensures { IfOk result (λ l. l ≡ cells.now) }
-{
-    let mut copies = Vec::with_capacity(alloc, cells.len())?;
-    for row in cells {
-        copies.push(values_copy(alloc, row.as_slice())?)?;
-    }
-    Ok(CellRowList::from(copies))
-}
-
 /// Copies of a table's id and columns.
 pub(crate) fn head_copy(table: &ViewTable) -> Result<(Name, ViewColList), AllocError>
     ensures { IfOk result (λ h. h ≡ (table.now.id, table.now.columns)) }
@@ -67,30 +47,41 @@ fn body_copy(alloc: Global, table: &ViewTable) -> Result<(RowList, CellRowList),
     ensures { IfOk result (λ b. b ≡ (table.now.rows, table.now.cells)) }
 {
     let rows = rows_copy(&table.rows)?;
-    Ok((rows, cells_copy(alloc, table.cells.as_slice())?))
+    Ok((rows, table.cells.copied(alloc)?))
 }
 
-/// A copy of a table.
-pub(crate) fn table_copy(alloc: Global, table: &ViewTable) -> Result<ViewTable, AllocError>
-    ensures { IfOk result (λ t. t ≡ table.now) }
-{
-    let (id, columns) = head_copy(table)?;
-    let (rows, cells) = body_copy(alloc, table)?;
-    Ok(ViewTable {
-        id,
-        columns,
-        rows,
-        cells,
-    })
+/// What is copied in lists.
+pub(crate) trait Copied: Drop + Sized {
+    /// A copy.
+    fn copied(&self, alloc: Global) -> Result<Self, AllocError>
+        ensures { IfOk result (λ c. c ≡ self.now) };
 }
 
-/// A copy of tables.
-pub(crate) fn tables_copy(alloc: Global, tables: &[ViewTable]) -> Result<Vec<ViewTable>, AllocError>
-    ensures { IfOk result (λ l. l.items ≡ tables.now) }
-{
-    let mut copies = Vec::with_capacity(alloc, tables.len())?;
-    for table in tables {
-        copies.push(table_copy(alloc, table)?)?;
+impl Copied for CellValue {
+    fn copied(&self, _alloc: Global) -> Result<CellValue, AllocError> {
+        copy_of(self)
     }
-    Ok(copies)
+}
+
+impl Copied for ViewTable {
+    fn copied(&self, alloc: Global) -> Result<ViewTable, AllocError> {
+        let (id, columns) = head_copy(self)?;
+        let (rows, cells) = body_copy(alloc, self)?;
+        Ok(ViewTable {
+            id,
+            columns,
+            rows,
+            cells,
+        })
+    }
+}
+
+impl<T: Copied> Copied for Sequence<T> {
+    fn copied(&self, alloc: Global) -> Result<Sequence<T>, AllocError> {
+        let mut copies = Vec::with_capacity(alloc, self.len())?;
+        for thing in self.as_slice() {
+            copies.push(thing.copied(alloc)?)?;
+        }
+        Ok(Sequence::from(copies))
+    }
 }

@@ -1,7 +1,7 @@
 //! A table after an edit, as a new table.
 
 ghost use Rattle.std.specs.Prelude.{◌≡◌, [], bytes_eq, false, true, IfOk};
-ghost use Rattle.doc_model.specs.ByIds.{has_id, place, without_id};
+ghost use Rattle.doc_model.specs.ByIds.{AreDistinct, place, without_id};
 ghost use Rattle.doc_model.specs.Changes.{grid, table as table_of};
 ghost use Rattle.doc_model.specs.Grid.{grid_of};
 ghost use Rattle.doc_model.specs.Rows.{none_in};
@@ -9,36 +9,27 @@ ghost use Rattle.doc_model.specs.ViewEdits.{IsShown, add, edited, remove, remove
 ghost use Rattle.plain_view.specs.Given.{AreFull, new_cell};
 
 use crate::copies::{column_copy, columns_copy, rows_copy};
-use crate::placing::place_column;
+use crate::placing::{put_by_id, remove_by_id};
 use crate::rebuilding::rebuilt;
-use crate::rows::{rows_left, rows_with};
+use crate::rows::{is_ascending, rows_with, rows_without};
 use cell_types::Name;
 use doc_model::{CellColumn, ViewCol, ViewColList, ViewTable};
 use std::alloc::{AllocError, Global};
 
-fn is_named(column: &ViewCol, id: &Name) -> bool
-    ensures { result ≡ bytes_eq column.now.id id.now }
-{
-    column.id.as_str() == id.as_str()
-}
-
-fn columns_without(alloc: Global, columns: &[ViewCol], id: &Name) -> Result<ViewColList, AllocError>
+fn columns_without(columns: &ViewColList, id: &Name) -> Result<ViewColList, AllocError>
+    requires { AreDistinct shown_id columns.now }
     ensures { IfOk result (λ l. l ≡ without_id shown_id id.now columns.now) }
 {
-    let mut kept = Vec::new(alloc);
-    for column in columns {
-        if !is_named(column, id) {
-            kept.push(column_copy(column)?)?;
-        }
-    }
-    Ok(ViewColList::from(kept))
+    let mut all = columns_copy(columns)?.into_vec();
+    remove_by_id(&mut all, id);
+    Ok(ViewColList::from(all))
 }
 
 fn columns_with(columns: &ViewColList, column: &ViewCol) -> Result<ViewColList, AllocError>
     ensures { IfOk result (λ l. l ≡ place shown_id column.now columns.now) }
 {
     let mut all = columns_copy(columns)?.into_vec();
-    place_column(&mut all, column_copy(column)?)?;
+    put_by_id(&mut all, column_copy(column)?)?;
     Ok(ViewColList::from(all))
 }
 
@@ -53,7 +44,7 @@ pub(crate) fn without_column(
     requires { IsShown (grid table.now) }
     ensures { IfOk result (λ t. t ≡ table_of table.now.id (edited (remove_column id.now) (grid table.now))) }
 {
-    let columns = columns_without(alloc, table.columns.as_slice(), id)?;
+    let columns = columns_without(&table.columns, id)?;
     rebuilt(alloc, table, columns, rows_copy(&table.rows)?, &[], &[])
 }
 
@@ -84,7 +75,7 @@ pub(crate) fn without_rows(
     requires { IsShown (grid table.now) }
     ensures { IfOk result (λ t. t ≡ table_of table.now.id (edited (remove rows.now) (grid table.now))) }
 {
-    let left = rows_left(alloc, rows, table.rows.as_slice())?;
+    let left = rows_without(alloc, rows, is_ascending(rows), table.rows.as_slice())?;
     rebuilt(alloc, table, columns_copy(&table.columns)?, left, &[], &[])
 }
 

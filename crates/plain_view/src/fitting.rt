@@ -1,58 +1,26 @@
 //! Whether an action fits a view: it names what is there, and adds what is not.
 
-ghost use Rattle.std.specs.Prelude.{◌≡◌, ◌&&◌, bytes_eq};
+ghost use Rattle.std.specs.Prelude.{◌≡◌};
 ghost use Rattle.std.specs.List.{AllByRecursion, list_all};
 ghost use Rattle.doc_model.specs.declared.column.CellColumn.{CellColumn};
-ghost use Rattle.doc_model.specs.ByIds.{are_distinct, has_id};
+ghost use Rattle.doc_model.specs.ByIds.{has_id};
 ghost use Rattle.doc_model.specs.Changes.{IsView, grid};
 ghost use Rattle.doc_model.specs.Patch.{edit_fits, fits};
-ghost use Rattle.doc_model.specs.Records.{given_id};
 ghost use Rattle.doc_model.specs.Rows.{IsAscending, all_in};
 ghost use Rattle.doc_model.specs.ViewEdits.{IsShown, add, shown_id};
 ghost use Rattle.plain_view.specs.Acts.{act_fits, fits_there};
 
-use crate::columns::has_column;
+use crate::named::{are_distinct, find_id, is_there};
 use crate::rows::{are_all_in, are_none_in, are_once};
-use crate::view_changes::{find_table, has_table};
 use cell_types::Name;
-use doc_model::{CellColumn, ViewAction, ViewCol, ViewTable};
-
-fn are_columns_distinct(columns: &[ViewCol]) -> bool
-    ensures { result ≡ are_distinct shown_id columns.now }
-{
-    for place in 0..columns.len() {
-        if has_column(&columns[place + 1..], &columns[place].id) {
-            return false;
-        }
-    }
-    true
-}
-
-fn has_given(columns: &[CellColumn], id: &Name) -> bool
-    ensures { result ≡ has_id given_id columns.now id.now }
-{
-    columns
-        .iter()
-        .any(|column| column.id.as_str() == id.as_str())
-}
-
-fn are_given_distinct(columns: &[CellColumn]) -> bool
-    ensures { result ≡ are_distinct given_id columns.now }
-{
-    for place in 0..columns.len() {
-        if has_given(&columns[place + 1..], &columns[place].id) {
-            return false;
-        }
-    }
-    true
-}
+use doc_model::{CellColumn, ViewAction, ViewTable};
 
 // Whether the table has each of the columns.
 fn has_each(table: &ViewTable, columns: &[CellColumn]) -> bool
     ensures { result ≡ list_all (λ (k : CellColumn). has_id shown_id table.now.columns k.id) columns.now }
 {
     let known = table.columns.as_slice();
-    columns.iter().all(|column| has_column(known, &column.id))
+    columns.iter().all(|column| is_there(known, &column.id))
 }
 
 fn takes_rows(table: &ViewTable, rows: &[u32], columns: &[CellColumn]) -> bool
@@ -61,7 +29,7 @@ fn takes_rows(table: &ViewTable, rows: &[u32], columns: &[CellColumn]) -> bool
 {
     are_once(rows)
         && are_none_in(rows, table.rows.as_slice())
-        && are_given_distinct(columns)
+        && are_distinct(columns)
         && has_each(table, columns)
 }
 
@@ -76,9 +44,9 @@ pub(crate) fn fits_in(table: &ViewTable, action: &ViewAction) -> bool
     let known = table.columns.as_slice();
     let there = table.rows.as_slice();
     match action {
-        ViewAction::AddColumn { column, .. } => !has_column(known, &column.id),
-        ViewAction::RemoveColumn { column, .. } => has_column(known, column),
-        ViewAction::ModifyColumn { column, .. } => has_column(known, &column.id),
+        ViewAction::AddColumn { column, .. } => !is_there(known, &column.id),
+        ViewAction::RemoveColumn { column, .. } => is_there(known, column),
+        ViewAction::ModifyColumn { column, .. } => is_there(known, &column.id),
         ViewAction::BulkRemove { rows, .. } => are_all_in(rows.as_slice(), there),
         ViewAction::BulkAdd { rows, columns, .. } => {
             takes_rows(table, rows.as_slice(), columns.as_slice())
@@ -94,7 +62,7 @@ fn fits_there(tables: &[ViewTable], table: &Name, action: &ViewAction) -> bool
     requires { AllByRecursion (λ t. IsShown (grid t)) tables.now }
     ensures { result ≡ fits_there table.now action.now tables.now }
 {
-    match find_table(tables, table) {
+    match find_id(tables, table) {
         Some(found) => fits_in(found, action),
         None => false,
     }
@@ -109,9 +77,9 @@ pub(crate) fn fits(tables: &[ViewTable], action: &ViewAction) -> bool
 {
     match action {
         ViewAction::AddTable { table, columns } => {
-            !has_table(tables, table) && are_columns_distinct(columns.as_slice())
+            !is_there(tables, table) && are_distinct(columns.as_slice())
         }
-        ViewAction::RemoveTable { table } => has_table(tables, table),
+        ViewAction::RemoveTable { table } => is_there(tables, table),
         ViewAction::AddColumn { table, .. } => fits_there(tables, table, action),
         ViewAction::RemoveColumn { table, .. } => fits_there(tables, table, action),
         ViewAction::ModifyColumn { table, .. } => fits_there(tables, table, action),

@@ -6,6 +6,7 @@ ghost use Rattle.std.specs.Option.{option_copied};
 ghost use Rattle.doc_model.specs.Rows.{IsAscending};
 ghost use Rattle.plain_view.specs.Given.{column_at, last_row, last_named};
 
+use crate::named::has_id;
 use crate::rows::row_place;
 use cell_types::Name;
 use doc_model::CellColumn;
@@ -29,12 +30,6 @@ pub(crate) fn last_place(rows: &[u32], ascending: bool, row: u32) -> Option<usiz
     found
 }
 
-fn is_named(column: &CellColumn, id: &Name) -> bool
-    ensures { result ≡ bytes_eq column.now.id id.now }
-{
-    column.id.as_str() == id.as_str()
-}
-
 /// The last place of a column of an id.
 ///
 /// Memory: none. Cost: linear in the columns.
@@ -43,7 +38,7 @@ pub(crate) fn named_place(columns: &[CellColumn], id: &Name) -> Option<usize>
 {
     let mut found = None;
     for (place, column) in columns.iter().enumerate() {
-        if is_named(column, id) {
+        if has_id(column, id) {
             found = Some(place);
         }
     }

@@ -12,6 +12,7 @@
 //! Read first: view_changes.rt and revision.rt, then patching.rt and rebuilding.rt.
 #![tactic(auto)]
 
+mod actions;
 mod cells;
 mod columns;
 mod copies;
@@ -19,6 +20,8 @@ mod editing;
 mod fitting;
 mod full;
 mod given;
+mod makers;
+mod named;
 mod patching;
 mod placing;
 mod rebuilding;

@@ -1,8 +1,7 @@
 //! A view after changes.
 
-ghost use Rattle.std.specs.Prelude.{◌≡◌, ◌<◌, ◌^◌, bytes_eq, length, true, IfErr, IfOk, None, OnOk};
-ghost use Rattle.std.specs.List.{AllByRecursion, position};
-ghost use Rattle.doc_model.specs.declared.view.ViewTable.{ViewTable};
+ghost use Rattle.std.specs.Prelude.{◌≡◌, ◌<◌, ◌^◌, length, true, IfErr, IfOk, None, OnOk};
+ghost use Rattle.std.specs.List.{AllByRecursion};
 ghost use Rattle.doc_model.specs.declared.view.ViewAction.TheVariants.{AddTable};
 ghost use Rattle.doc_model.specs.ByIds.{with_id, without_id};
 ghost use Rattle.doc_model.specs.Changes.{IsView, grid, shown_table_id};
@@ -12,10 +11,11 @@ ghost use Rattle.plain_view.specs.Acts.{act, act_fits, fits_there};
 ghost use Rattle.plain_view.specs.Faults.{tells, tells_here};
 ghost use Rattle.plain_view.specs.Given.{IsFull};
 
-use crate::copies::{name_copy, table_copy, tables_copy};
+use crate::copies::{Copied, name_copy};
 use crate::editing::{with_column, with_rows, with_values, without_column, without_rows};
 use crate::fitting::fits;
-use crate::placing::{columns_by_id, place_table};
+use crate::named::place_of;
+use crate::placing::{columns_by_id, put_by_id, remove_by_id};
 use cell_types::{Name, RowList};
 use doc_model::{CellRowList, View, ViewAction, ViewActionList, ViewCol, ViewTable, ViewTableList};
 use std::alloc::{AllocError, Global};
@@ -54,7 +54,7 @@ pub fn patch(alloc: Global, view: &View, actions: &ViewActionList) -> Result<Vie
     ensures err { IfErr result (λ fault. tells fault (unfit_at view.now.tables actions.now)) }
     ensures kept { IfOk result (λ after. IsView after.tables) }
 {
-    let mut tables = tables_copy(alloc, view.tables.as_slice())?;
+    let mut tables = view.tables.copied(alloc)?.into_vec();
     for (index, action) in actions.as_slice().iter().enumerate() {
         step(alloc, &mut tables, index, action)?;
     }
@@ -96,7 +96,7 @@ fn apply(alloc: Global, tables: &mut Vec<ViewTable>, action: &ViewAction) -> Res
             add_table(alloc, tables, table, columns.as_slice())
         }
         ViewAction::RemoveTable { table } => {
-            remove_table(tables, table);
+            remove_by_id(tables, table);
             Ok(())
         }
         ViewAction::AddColumn { table, .. } => edit_table(alloc, tables, table, action),
@@ -122,27 +122,7 @@ fn add_table(
         rows: RowList::new(alloc),
         cells: CellRowList::new(alloc),
     };
-    place_table(tables, table)
-}
-
-fn table_place(tables: &[ViewTable], id: &Name) -> Option<usize>
-    ensures { result ≡ position (λ (t : ViewTable). bytes_eq t.id id.now) tables.now }
-{
-    tables
-        .iter()
-        .position(|table| table.id.as_str() == id.as_str())
-}
-
-fn remove_table(tables: &mut Vec<ViewTable>, id: &Name)
-    requires { IsView tables.old.items }
-    ensures { tables.new.items ≡ without_id shown_table_id id.now tables.old.items }
-{
-    match table_place(tables, id) {
-        Some(place) => {
-            tables.remove(place);
-        }
-        None => {}
-    }
+    put_by_id(tables, table)
 }
 
 fn edit_table(
@@ -156,10 +136,9 @@ fn edit_table(
     requires full { IsFull action.now }
     ensures { OnOk result (tables.new.items ≡ with_id shown_table_id id.now (act action.now) tables.old.items) }
 {
-    match table_place(tables, id) {
+    match place_of(tables, id) {
         Some(place) => {
-            let table = edited(alloc, &tables[place], action)?;
-            tables[place] = table;
+            tables[place] = edited(alloc, &tables[place], action)?;
         }
         None => {}
     }
@@ -183,6 +162,6 @@ fn edited(alloc: Global, table: &ViewTable, action: &ViewAction) -> Result<ViewT
             with_values(alloc, table, rows.as_slice(), columns.as_slice())
         }
         ViewAction::BulkRemove { rows, .. } => without_rows(alloc, table, rows.as_slice()),
-        ViewAction::AddTable { .. } | ViewAction::RemoveTable { .. } => table_copy(alloc, table),
+        ViewAction::AddTable { .. } | ViewAction::RemoveTable { .. } => table.copied(alloc),
     }
 }

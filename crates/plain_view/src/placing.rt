@@ -1,69 +1,57 @@
-//! Columns and tables put in their places by id.
+//! Things put in their places by id, and removed.
 
 ghost use Rattle.std.specs.Prelude.{◌≡◌, IfOk, MatchResult, OnOk};
-ghost use Rattle.doc_model.specs.ByIds.{by_id, place};
-ghost use Rattle.doc_model.specs.Changes.{shown_table_id};
+ghost use Rattle.doc_model.specs.ByIds.{AreDistinct, by_id, place, without_id};
 ghost use Rattle.doc_model.specs.ViewEdits.{shown_id};
 ghost use Rattle.plain_view.specs.Placed.{GoesBefore, GoesOver};
 
 use crate::copies::column_copy;
+use crate::named::{Named, place_of};
 use cell_types::Name;
-use doc_model::{ViewCol, ViewColList, ViewTable};
+use doc_model::{ViewCol, ViewColList};
 use std::alloc::{AllocError, Global};
 use std::cmp::Ordering;
 
-fn column_spot(columns: &[ViewCol], id: &Name) -> Result<usize, usize>
-    ensures { MatchResult result (GoesOver shown_id id.now columns.now) (GoesBefore shown_id id.now columns.now) }
+// The place of the thing of an id, or else where one of that id goes.
+fn spot<T: Named>(things: &[T], id: &Name) -> Result<usize, usize>
+    ensures { MatchResult result (GoesOver T.id_of id.now things.now) (GoesBefore T.id_of id.now things.now) }
 {
-    for place in 0..columns.len() {
-        let column = &columns[place];
-        match id.cmp(&column.id) {
+    for place in 0..things.len() {
+        match id.cmp(things[place].id()) {
             Ordering::Less => return Err(place),
             Ordering::Equal => return Ok(place),
             Ordering::Greater => {}
         }
     }
-    Err(columns.len())
+    Err(things.len())
 }
 
-fn table_spot(tables: &[ViewTable], id: &Name) -> Result<usize, usize>
-    ensures { MatchResult result (GoesOver shown_table_id id.now tables.now) (GoesBefore shown_table_id id.now tables.now) }
+/// Puts a thing in its place by id, instead of one of its id.
+///
+/// Errors: want of memory; what the things are then is not said. Cost: linear in the things.
+pub(crate) fn put_by_id<T: Named>(things: &mut Vec<T>, thing: T) -> Result<(), AllocError>
+    ensures { OnOk result (things.new.items ≡ place T.id_of thing things.old.items) }
 {
-    for place in 0..tables.len() {
-        let table = &tables[place];
-        match id.cmp(&table.id) {
-            Ordering::Less => return Err(place),
-            Ordering::Equal => return Ok(place),
-            Ordering::Greater => {}
+    match spot(things, thing.id()) {
+        Ok(place) => things[place] = thing,
+        Err(place) => things.insert(place, thing)?,
+    }
+    Ok(())
+}
+
+/// Removes the thing of an id, where it is there.
+///
+/// Memory: none. Cost: linear in the things.
+pub(crate) fn remove_by_id<T: Named>(things: &mut Vec<T>, id: &Name)
+    requires { AreDistinct T.id_of things.old.items }
+    ensures { things.new.items ≡ without_id T.id_of id.now things.old.items }
+{
+    match place_of(things, id) {
+        Some(place) => {
+            things.remove(place);
         }
+        None => {}
     }
-    Err(tables.len())
-}
-
-/// Puts a column in its place by id, instead of one of its id.
-///
-/// Errors: want of memory; what the columns are then is not said. Cost: linear in the columns.
-pub(crate) fn place_column(columns: &mut Vec<ViewCol>, column: ViewCol) -> Result<(), AllocError>
-    ensures { OnOk result (columns.new.items ≡ place shown_id column columns.old.items) }
-{
-    match column_spot(columns, &column.id) {
-        Ok(place) => columns[place] = column,
-        Err(place) => columns.insert(place, column)?,
-    }
-    Ok(())
-}
-
-/// Puts a table in its place by id, instead of one of its id.
-///
-/// Errors: want of memory; what the tables are then is not said. Cost: linear in the tables.
-pub(crate) fn place_table(tables: &mut Vec<ViewTable>, table: ViewTable) -> Result<(), AllocError>
-    ensures { OnOk result (tables.new.items ≡ place shown_table_id table tables.old.items) }
-{
-    match table_spot(tables, &table.id) {
-        Ok(place) => tables[place] = table,
-        Err(place) => tables.insert(place, table)?,
-    }
-    Ok(())
 }
 
 /// Columns in the order of their ids.
@@ -75,7 +63,7 @@ pub(crate) fn columns_by_id(alloc: Global, columns: &[ViewCol]) -> Result<ViewCo
     let mut sorted = Vec::with_capacity(alloc, columns.len())?;
     for taken in 0..columns.len() {
         let column = &columns[columns.len() - 1 - taken];
-        place_column(&mut sorted, column_copy(column)?)?;
+        put_by_id(&mut sorted, column_copy(column)?)?;
     }
     Ok(ViewColList::from(sorted))
 }

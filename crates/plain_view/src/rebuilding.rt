@@ -1,16 +1,16 @@
 //! A table built anew: with other columns and rows, and the values that an action gives.
 
-ghost use Rattle.std.specs.Prelude.{◌≡◌, IfOk, map, true, unwrap_or};
+ghost use Rattle.std.specs.Prelude.{◌≡◌, IfOk};
 ghost use Rattle.doc_model.specs.Changes.{grid, table as table_of};
 ghost use Rattle.doc_model.specs.Grid.{grid_of};
-ghost use Rattle.doc_model.specs.ViewEdits.{IsShown, shown_start};
-ghost use Rattle.plain_view.specs.Cells.{column_place, row_cells, value_in};
-ghost use Rattle.plain_view.specs.Given.{AreFull, column_at, given_at, last_row, last_named, new_cell};
-ghost use Rattle.plain_view.specs.Sources.{sourced_cell, source_of};
+ghost use Rattle.doc_model.specs.ViewEdits.{IsShown};
+ghost use Rattle.plain_view.specs.Given.{AreFull, new_cell};
 
-use crate::cells::{column_place, row_cells, value_in};
+use crate::cells::{row_cells, value_in};
 use crate::copies::name_copy;
 use crate::given::{column_at, last_place, named_place};
+use crate::makers::{Maker, all_made};
+use crate::named::place_of;
 use crate::rows::is_ascending;
 use cell_types::{CellValue, RowList, ValueList, copy_of, default_of};
 use doc_model::{CellColumn, CellRowList, ViewCol, ViewColList, ViewTable};
@@ -25,84 +25,136 @@ struct Source {
     start: CellValue,
 }
 
-fn source_of(alloc: Global, before: &[ViewCol], given: &[CellColumn], column: &ViewCol) -> Source
-    ensures { result ≡ source_of before.now given.now column.now }
-{
-    Source {
-        before: column_place(before, &column.id),
-        given: named_place(given, &column.id),
-        start: default_of(alloc, &column.ty),
-    }
-}
-
-fn sources(
+/// Where the cells of columns come from.
+#[derive(Drop)]
+struct Sourcing<'a> {
     alloc: Global,
-    before: &[ViewCol],
-    given: &[CellColumn],
-    columns: &[ViewCol],
-) -> Result<Vec<Source>, AllocError>
-    ensures { IfOk result (λ l. l.items ≡ map (source_of before.now given.now) columns.now) }
-{
-    let mut sources = Vec::with_capacity(alloc, columns.len())?;
-    for column in columns {
-        sources.push(source_of(alloc, before, given, column))?;
-    }
-    Ok(sources)
+    before: &'a [ViewCol],
+    given: &'a [CellColumn],
 }
 
-// The cell of a row: the value that is given at the place, or what was there, or else the default.
-fn cell_copy(
-    row: &[CellValue],
-    given: &[CellColumn],
+impl Maker for Sourcing<'_> {
+    ghost use Rattle.std.specs.Prelude.{⊤};
+    ghost use Rattle.plain_view.specs.Sources.{source_of};
+
+    type Of = ViewCol;
+
+    type Made = Source;
+
+    ghost made = { λ m d. source_of m.before.now m.given.now d };
+
+    ghost is_ready = { λ _. ⊤ };
+
+    fn make(&self, of: &ViewCol) -> Result<Source, AllocError> {
+        Ok(Source {
+            before: place_of(self.before, &of.id),
+            given: named_place(self.given, &of.id),
+            start: default_of(self.alloc, &of.ty),
+        })
+    }
+}
+
+/// The cells of a row: the values that are given at the place, or what was there, or else the
+/// defaults.
+#[derive(Drop)]
+struct RowCells<'a> {
+    row: &'a [CellValue],
+    given: &'a [CellColumn],
     place: Option<usize>,
-    source: &Source,
-) -> Result<CellValue, AllocError>
-    ensures { IfOk result (λ v. v ≡ sourced_cell row.now given.now place source.now) }
-{
-    match (place, column_at(given, source.given)) {
-        (Some(place), Some(column)) => copy_of(value_in(
-            column.values.as_slice(),
-            Some(place),
-            &CellValue::Null,
-        )),
-        _ => copy_of(value_in(row, source.before, &source.start)),
+}
+
+impl Maker for RowCells<'_> {
+    ghost use Rattle.std.specs.Prelude.{⊤};
+    ghost use Rattle.plain_view.specs.Sources.{sourced_cell};
+
+    type Of = Source;
+
+    type Made = CellValue;
+
+    ghost made = { λ m source. sourced_cell m.row.now m.given.now m.place source };
+
+    ghost is_ready = { λ _. ⊤ };
+
+    fn make(&self, of: &Source) -> Result<CellValue, AllocError> {
+        match (self.place, column_at(self.given, of.given)) {
+            (Some(place), Some(column)) => copy_of(value_in(
+                column.values.as_slice(),
+                Some(place),
+                &CellValue::Null,
+            )),
+            _ => copy_of(value_in(self.row, of.before, &of.start)),
+        }
     }
 }
 
-fn row_copy(
+/// The cells of rows.
+#[derive(Drop)]
+struct Rows<'a> {
     alloc: Global,
-    row: &[CellValue],
-    given: &[CellColumn],
-    place: Option<usize>,
-    sources: &[Source],
-) -> Result<ValueList, AllocError>
-    ensures { IfOk result (λ l. l ≡ map (sourced_cell row.now given.now place) sources.now) }
-{
-    let mut cells = Vec::with_capacity(alloc, sources.len())?;
-    for source in sources {
-        cells.push(cell_copy(row, given, place, source)?)?;
-    }
-    Ok(ValueList::from(cells))
+    table: &'a ViewTable,
+    given_rows: &'a [u32],
+    is_ascending: bool,
+    given: &'a [CellColumn],
+    sources: &'a [Source],
 }
 
-fn row_copies(
+impl Maker for Rows<'_> {
+    ghost use Rattle.std.specs.Prelude.{map};
+    ghost use Rattle.std.specs.Bool.{OnTrue};
+    ghost use Rattle.doc_model.specs.Changes.{grid};
+    ghost use Rattle.doc_model.specs.Rows.{IsAscending};
+    ghost use Rattle.doc_model.specs.ViewEdits.{IsShown};
+    ghost use Rattle.plain_view.specs.Cells.{row_cells};
+    ghost use Rattle.plain_view.specs.Given.{last_row};
+    ghost use Rattle.plain_view.specs.Sources.{sourced_cell};
+
+    type Of = u32;
+
+    type Made = ValueList;
+
+    ghost made = { λ m r. map (sourced_cell (row_cells (grid m.table.now) r) m.given.now (last_row m.given_rows.now r)) m.sources.now };
+
+    ghost is_ready = { λ m. IsShown (grid m.table.now) × OnTrue m.is_ascending (IsAscending m.given_rows.now) };
+
+    fn make(&self, of: &u32) -> Result<ValueList, AllocError> {
+        let cells = RowCells {
+            row: row_cells(self.table, *of),
+            given: self.given,
+            place: last_place(self.given_rows, self.is_ascending, *of),
+        };
+        all_made(self.alloc, &cells, self.sources)
+    }
+}
+
+// The cells of the table in these columns and rows.
+fn cells_of(
     alloc: Global,
     table: &ViewTable,
+    columns: &[ViewCol],
     rows: &[u32],
     given_rows: &[u32],
     given: &[CellColumn],
-    sources: &[Source],
 ) -> Result<CellRowList, AllocError>
-    requires { IsShown (grid table.now) }
-    ensures { IfOk result (λ l. l ≡ map (λ r. map (sourced_cell (row_cells (grid table.now) r) given.now (last_row given_rows.now r)) sources.now) rows.now) }
+    requires table { IsShown (grid table.now) }
+    requires given { AreFull given_rows.now given.now }
+    ensures { IfOk result (λ l. l ≡ (grid_of columns.now rows.now (new_cell (grid table.now) given_rows.now given.now)).cells) }
 {
-    let ascending = is_ascending(given_rows);
-    let mut cells = Vec::with_capacity(alloc, rows.len())?;
-    for row in rows {
-        let place = last_place(given_rows, ascending, *row);
-        cells.push(row_copy(alloc, row_cells(table, *row), given, place, sources)?)?;
-    }
-    Ok(CellRowList::from(cells))
+    let before = table.columns.as_slice();
+    let sourcing = Sourcing {
+        alloc,
+        before,
+        given,
+    };
+    let sources = all_made(alloc, &sourcing, columns)?;
+    let made = Rows {
+        alloc,
+        table,
+        given_rows,
+        is_ascending: is_ascending(given_rows),
+        given,
+        sources: sources.as_slice(),
+    };
+    all_made(alloc, &made, rows)
 }
 
 /// The table with these columns and rows. Its cells are the values given, or what was there, or
@@ -122,9 +174,14 @@ pub(crate) fn rebuilt(
     requires given { AreFull given_rows.now given.now }
     ensures { IfOk result (λ t. t ≡ table_of table.now.id (grid_of columns rows (new_cell (grid table.now) given_rows.now given.now))) }
 {
-    let old = table.columns.as_slice();
-    let sources = sources(alloc, old, given, columns.as_slice())?;
-    let cells = row_copies(alloc, table, rows.as_slice(), given_rows, given, &sources)?;
+    let cells = cells_of(
+        alloc,
+        table,
+        columns.as_slice(),
+        rows.as_slice(),
+        given_rows,
+        given,
+    )?;
     Ok(ViewTable {
         id: name_copy(&table.id)?,
         columns,

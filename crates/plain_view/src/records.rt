@@ -1,7 +1,8 @@
 //! The changes of a table's rows and cells.
 
-ghost use Rattle.std.specs.Prelude.{◌≡◌, ◌∷◌, ◌++◌, [], filter, IfOk, OnOk};
-ghost use Rattle.doc_model.specs.declared.view.ViewAction.TheVariants.{BulkAdd, BulkRemove, BulkUpdate};
+ghost use Rattle.std.specs.Prelude.{◌≡◌, ◌++◌, filter, map, IfOk, OnOk};
+ghost use Rattle.doc_model.specs.declared.view.ViewCol.{ViewCol};
+ghost use Rattle.doc_model.specs.declared.view.ViewAction.TheVariants.{BulkAdd, BulkRemove};
 ghost use Rattle.doc_model.specs.Changes.{for_each, grid};
 ghost use Rattle.doc_model.specs.Records.{column_of};
 ghost use Rattle.doc_model.specs.Rows.{IsAscending, without};
@@ -10,12 +11,16 @@ ghost use Rattle.plain_view.specs.Cells.{column_place};
 ghost use Rattle.plain_view.specs.Told.{is_told_at};
 ghost use Rattle.plain_view.specs.Steps.{is_told, updated_column};
 
-use crate::cells::{column_of, column_place, is_same_value, row_cells, value_in};
+use crate::actions::add;
+use crate::cells::{column_of, is_same_value, row_cells, value_in};
 use crate::copies::name_copy;
+use crate::makers::{Maker, all_made};
+use crate::named::place_of;
 use crate::rows::{has_row, push_if, rows_without};
 use cell_types::{CellValue, Name, RowList, default_of};
-use doc_model::{ColumnList, ViewAction, ViewCol, ViewTable};
+use doc_model::{CellColumn, ColumnList, ViewAction, ViewCol, ViewTable};
 use std::alloc::{AllocError, Global};
+use std::slice::from_ref;
 
 /// A column's place before and after, and what its cells start with.
 #[derive(Drop)]
@@ -31,8 +36,8 @@ fn places_of(alloc: Global, before: &ViewTable, after: &ViewTable, column: &View
     ensures start { result.start ≡ shown_start column.now }
 {
     Places {
-        before: column_place(before.columns.as_slice(), &column.id),
-        after: column_place(after.columns.as_slice(), &column.id),
+        before: place_of(before.columns.as_slice(), &column.id),
+        after: place_of(after.columns.as_slice(), &column.id),
         start: default_of(alloc, &column.ty),
     }
 }
@@ -84,43 +89,50 @@ fn rows_told(
     Ok(RowList::from(rows))
 }
 
-// The cells of one column in these rows.
+/// The cells of columns in these rows.
+#[derive(Drop)]
+struct Columns<'a> {
+    alloc: Global,
+    table: &'a ViewTable,
+    rows: &'a [u32],
+}
+
+impl Maker for Columns<'_> {
+    ghost use Rattle.doc_model.specs.declared.view.ViewCol.{ViewCol};
+    ghost use Rattle.doc_model.specs.Changes.{grid};
+    ghost use Rattle.doc_model.specs.Records.{column_of};
+    ghost use Rattle.doc_model.specs.ViewEdits.{IsShown, shown_id};
+
+    type Of = ViewCol;
+
+    type Made = CellColumn;
+
+    ghost made = { λ m (d : ViewCol). column_of shown_id (grid m.table.now) m.rows.now d.id };
+
+    ghost is_ready = { λ m. IsShown (grid m.table.now) };
+
+    fn make(&self, of: &ViewCol) -> Result<CellColumn, AllocError> {
+        column_of(self.alloc, self.table, self.rows, &of.id)
+    }
+}
+
+// The table's id, and the cells of columns in these rows.
 fn told_cells(
     alloc: Global,
     table: &ViewTable,
+    columns: &[ViewCol],
     rows: &[u32],
-    id: &Name,
-) -> Result<ColumnList, AllocError>
+) -> Result<(Name, ColumnList), AllocError>
     requires { IsShown (grid table.now) }
-    ensures { IfOk result (λ l. l ≡ column_of shown_id (grid table.now) rows.now id.now ∷ []) }
+    ensures { IfOk result (λ t. t ≡ (table.now.id, map (λ (d : ViewCol). column_of shown_id (grid table.now) rows.now d.id) columns.now)) }
 {
-    let mut columns = Vec::new(alloc);
-    columns.push(column_of(alloc, table, rows, id)?)?;
-    Ok(ColumnList::from(columns))
-}
-
-fn update(
-    alloc: Global,
-    table: &Name,
-    after: &ViewTable,
-    rows: RowList,
-    id: &Name,
-) -> Result<ViewAction, AllocError>
-    requires { IsShown (grid after.now) }
-    ensures { IfOk result (λ a. a ≡ BulkUpdate table.now rows (column_of shown_id (grid after.now) rows id.now ∷ [])) }
-{
-    let columns = told_cells(alloc, after, rows.as_slice(), id)?;
-    let table = name_copy(table)?;
-    Ok(ViewAction::BulkUpdate {
-        table,
-        rows,
-        columns,
-    })
+    let made = Columns { alloc, table, rows };
+    let columns = all_made(alloc, &made, columns)?;
+    Ok((name_copy(&table.id)?, columns))
 }
 
 fn tell_updated(
     alloc: Global,
-    table: &Name,
     before: &ViewTable,
     after: &ViewTable,
     column: &ViewCol,
@@ -128,13 +140,21 @@ fn tell_updated(
 ) -> Result<(), AllocError>
     requires before { IsShown (grid before.now) }
     requires after { IsShown (grid after.now) }
-    ensures { OnOk result (actions.new.items ≡ actions.old.items ++ updated_column table.now (grid before.now) (grid after.now) column.now) }
+    ensures { OnOk result (actions.new.items ≡ actions.old.items ++ updated_column after.now.id (grid before.now) (grid after.now) column.now) }
 {
     let rows = told_rows(alloc, before, after, column)?;
     if rows.is_empty() {
         return Ok(());
     }
-    Ok(actions.push(update(alloc, table, after, rows, &column.id)?)?)
+    let (table, columns) = told_cells(alloc, after, from_ref(column), rows.as_slice())?;
+    add(
+        actions,
+        ViewAction::BulkUpdate {
+            table,
+            rows,
+            columns,
+        },
+    )
 }
 
 /// Adds, for each column, the cells that are other ones than before to the actions.
@@ -143,17 +163,16 @@ fn tell_updated(
 /// columns.
 pub(crate) fn tell_updated_cells(
     alloc: Global,
-    table: &Name,
     before: &ViewTable,
     after: &ViewTable,
     actions: &mut Vec<ViewAction>,
 ) -> Result<(), AllocError>
     requires before { IsShown (grid before.now) }
     requires after { IsShown (grid after.now) }
-    ensures { OnOk result (actions.new.items ≡ actions.old.items ++ for_each (updated_column table.now (grid before.now) (grid after.now)) after.now.columns) }
+    ensures { OnOk result (actions.new.items ≡ actions.old.items ++ for_each (updated_column after.now.id (grid before.now) (grid after.now)) after.now.columns) }
 {
     for column in after.columns.as_slice() {
-        tell_updated(alloc, table, before, after, column, actions)?;
+        tell_updated(alloc, before, after, column, actions)?;
     }
     Ok(())
 }
@@ -171,12 +190,12 @@ pub(crate) fn tell_removed_rows(
     requires { IsAscending after.now }
     ensures { OnOk result (actions.new.items ≡ actions.old.items ++ if_any (without after.now before.now) (BulkRemove table.now (without after.now before.now))) }
 {
-    let rows = rows_without(alloc, after, before)?;
+    let rows = rows_without(alloc, after, true, before)?;
     if rows.is_empty() {
         return Ok(());
     }
     let table = name_copy(table)?;
-    Ok(actions.push(ViewAction::BulkRemove { table, rows })?)
+    add(actions, ViewAction::BulkRemove { table, rows })
 }
 
 /// Adds rows of a table with all their cells to the actions, where there are any.
@@ -195,29 +214,14 @@ pub(crate) fn tell_added_rows(
     if rows.is_empty() {
         return Ok(());
     }
-    Ok(actions.push(addition(alloc, table, rows)?)?)
-}
-
-fn addition(alloc: Global, table: &ViewTable, rows: RowList) -> Result<ViewAction, AllocError>
-    requires { IsShown (grid table.now) }
-    ensures { IfOk result (λ a. a ≡ BulkAdd table.now.id rows (whole (grid table.now) rows)) }
-{
-    let columns = whole(alloc, table, rows.as_slice())?;
-    let table = name_copy(&table.id)?;
-    Ok(ViewAction::BulkAdd {
-        table,
-        rows,
-        columns,
-    })
-}
-
-fn whole(alloc: Global, table: &ViewTable, rows: &[u32]) -> Result<ColumnList, AllocError>
-    requires { IsShown (grid table.now) }
-    ensures { IfOk result (λ l. l ≡ whole (grid table.now) rows.now) }
-{
-    let mut columns = Vec::with_capacity(alloc, table.columns.len())?;
-    for column in table.columns.as_slice() {
-        columns.push(column_of(alloc, table, rows, &column.id)?)?;
-    }
-    Ok(ColumnList::from(columns))
+    let shown = table.columns.as_slice();
+    let (table, columns) = told_cells(alloc, table, shown, rows.as_slice())?;
+    add(
+        actions,
+        ViewAction::BulkAdd {
+            table,
+            rows,
+            columns,
+        },
+    )
 }

@@ -28,7 +28,7 @@ pub(crate) fn tell_revision(
 {
     tell_columns(before, after, actions)?;
     tell_rows(alloc, before, after, actions)?;
-    tell_updated_cells(alloc, &after.id, before, after, actions)
+    tell_updated_cells(alloc, before, after, actions)
 }
 
 fn tell_columns(
@@ -58,5 +58,5 @@ fn tell_rows(
     let old = before.rows.as_slice();
     let new = after.rows.as_slice();
     tell_removed_rows(alloc, &after.id, old, new, actions)?;
-    tell_added_rows(alloc, after, rows_without(alloc, old, new)?, actions)
+    tell_added_rows(alloc, after, rows_without(alloc, old, true, new)?, actions)
 }

@@ -1,6 +1,7 @@
 //! Rows in ascending order: where one stands, and those that another list does not have.
 
 ghost use Rattle.std.specs.Prelude.{◌≡◌, ◌<◌, ◌↔◌, ◌∷◌, ◌++◌, [], cond, false, length, slice_index, IfOk, IsTrue, MatchOption, OnOk};
+ghost use Rattle.std.specs.Bool.{OnTrue};
 ghost use Rattle.doc_model.specs.Rows.{IsAscending, all_in, has, insert_row, insert_rows, is_once, none_in, without};
 
 use cell_types::RowList;
@@ -43,16 +44,33 @@ pub(crate) fn push_if(rows: &mut Vec<u32>, wanted: bool, row: u32) -> Result<(),
     Ok(())
 }
 
-/// The rows that are not among those that are gone.
+// Whether the row stands among rows; rows that ascend are searched faster.
+fn is_among(rows: &[u32], is_ascending: bool, row: u32) -> bool
+    requires { OnTrue is_ascending (IsAscending rows.now) }
+    ensures { result ≡ has rows.now row }
+{
+    if is_ascending {
+        return has_row(rows, row);
+    }
+    rows.contains(&row)
+}
+
+/// The rows that are not among those that are gone; rows that ascend are searched faster.
 ///
-/// Cost: the length, times the logarithm of the other.
-pub(crate) fn rows_without(alloc: Global, gone: &[u32], rows: &[u32]) -> Result<RowList, AllocError>
-    requires { IsAscending gone.now }
+/// Cost: the length, times the logarithm of the other where that one ascends, and else the product
+/// of both.
+pub(crate) fn rows_without(
+    alloc: Global,
+    gone: &[u32],
+    is_ascending: bool,
+    rows: &[u32],
+) -> Result<RowList, AllocError>
+    requires { OnTrue is_ascending (IsAscending gone.now) }
     ensures { IfOk result (λ l. l ≡ without gone.now rows.now) }
 {
     let mut kept = Vec::new(alloc);
     for row in rows {
-        push_if(&mut kept, !has_row(gone, *row), *row)?;
+        push_if(&mut kept, !is_among(gone, is_ascending, *row), *row)?;
     }
     Ok(RowList::from(kept))
 }
@@ -69,22 +87,6 @@ pub(crate) fn is_ascending(rows: &[u32]) -> bool
         }
     }
     true
-}
-
-/// The rows that are not among those that are gone, which stand in any order.
-///
-/// Cost: as `rows_without` where the rows that are gone ascend, and else the product of both.
-pub(crate) fn rows_left(alloc: Global, gone: &[u32], rows: &[u32]) -> Result<RowList, AllocError>
-    ensures { IfOk result (λ l. l ≡ without gone.now rows.now) }
-{
-    if is_ascending(gone) {
-        return rows_without(alloc, gone, rows);
-    }
-    let mut kept = Vec::new(alloc);
-    for row in rows {
-        push_if(&mut kept, !gone.contains(row), *row)?;
-    }
-    Ok(RowList::from(kept))
 }
 
 // Puts a row in its place, once.

@@ -2,16 +2,15 @@
 
 ghost use Rattle.std.specs.Prelude.{◌≡◌, ◌++◌, IfOk, OnOk};
 ghost use Rattle.std.specs.List.{AllByRecursion};
-ghost use Rattle.std.specs.Option.{option_copied};
-ghost use Rattle.doc_model.specs.ByIds.{find_id, has_id};
-ghost use Rattle.doc_model.specs.Changes.{IsView, changes, for_each, grid, introduced, revised, shown_table_id};
+ghost use Rattle.doc_model.specs.Changes.{IsView, changes, for_each, grid, introduced, revised};
 ghost use Rattle.doc_model.specs.ViewEdits.{IsShown};
 ghost use Rattle.plain_view.specs.Steps.{new_table, removed_table};
 
+use crate::actions::add;
 use crate::copies::{head_copy, name_copy, rows_copy};
+use crate::named::{find_id, is_there};
 use crate::records::tell_added_rows;
 use crate::revision::tell_revision;
-use cell_types::Name;
 use doc_model::{View, ViewAction, ViewActionList, ViewTable};
 use std::alloc::{AllocError, Global};
 
@@ -34,18 +33,6 @@ pub fn changes(alloc: Global, before: &View, after: &View) -> Result<ViewActionL
     Ok(ViewActionList::from(actions))
 }
 
-pub(crate) fn find_table<'a>(tables: &'a [ViewTable], id: &Name) -> Option<&'a ViewTable>
-    ensures { option_copied result ≡ find_id shown_table_id id.now tables.now }
-{
-    tables.iter().find(|table| table.id.as_str() == id.as_str())
-}
-
-pub(crate) fn has_table(tables: &[ViewTable], id: &Name) -> bool
-    ensures { result ≡ has_id shown_table_id tables.now id.now }
-{
-    tables.iter().any(|table| table.id.as_str() == id.as_str())
-}
-
 fn tell_removed(
     after: &[ViewTable],
     table: &ViewTable,
@@ -53,10 +40,9 @@ fn tell_removed(
 ) -> Result<(), AllocError>
     ensures { OnOk result (actions.new.items ≡ actions.old.items ++ removed_table after.now table.now) }
 {
-    if !has_table(after, &table.id) {
-        actions.push(ViewAction::RemoveTable {
-            table: name_copy(&table.id)?,
-        })?;
+    if !is_there(after, &table.id) {
+        let table = name_copy(&table.id)?;
+        add(actions, ViewAction::RemoveTable { table })?;
     }
     Ok(())
 }
@@ -70,7 +56,7 @@ fn introduce(
     ensures { OnOk result (actions.new.items ≡ actions.old.items ++ introduced table.now) }
 {
     let (id, columns) = head_copy(table)?;
-    actions.push(ViewAction::AddTable { table: id, columns })?;
+    add(actions, ViewAction::AddTable { table: id, columns })?;
     tell_added_rows(alloc, table, rows_copy(&table.rows)?, actions)
 }
 
@@ -83,7 +69,7 @@ fn tell_new(
     requires { IsShown (grid table.now) }
     ensures { OnOk result (actions.new.items ≡ actions.old.items ++ new_table before.now table.now) }
 {
-    if !has_table(before, &table.id) {
+    if !is_there(before, &table.id) {
         introduce(alloc, table, actions)?;
     }
     Ok(())
@@ -99,7 +85,7 @@ fn tell_revised(
     requires table { IsShown (grid table.now) }
     ensures { OnOk result (actions.new.items ≡ actions.old.items ++ revised before.now table.now) }
 {
-    match find_table(before, &table.id) {
+    match find_id(before, &table.id) {
         Some(old) => tell_revision(alloc, old, table, actions),
         None => Ok(()),
     }

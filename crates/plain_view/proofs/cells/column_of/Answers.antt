@@ -7,5 +7,5 @@ use Rattle.plain_view.proofs.cells.column_of.Goals as goal
 pub returns : goal.returns
 returns c =
     let id = c.args.id.now in
-    column_at_place (grid c.args.table.now) c.args.rows.now id c.in_ok-id.id c.column_place-place.result c.in_ok-values.values
-    (c.column_place-place.ensures ∙ ap (λ l. column_place l id) c.as_slice.ensures) c.in_ok-id.ensures c.in_ok-values.ensures
+    column_at_place (grid c.args.table.now) c.args.rows.now id c.in_ok-id.id c.place_of-place.result c.in_ok-values.values
+    (c.place_of-place.ensures ∙ ap (λ l. column_place l id) c.as_slice.ensures) c.in_ok-id.ensures c.in_ok-values.ensures

@@ -3,16 +3,16 @@ use Rattle.std.specs.Str.{bytes_eq}
 use Rattle.doc_model.specs.declared.column.CellColumn.{CellColumn}
 use Rattle.plain_view.proofs.GivenPlaces.{last_more}
 use Rattle.plain_view.proofs.given.named_place.Goals as goal
-use Rattle.plain_view.proofs.given.named_place.Goals.{then-is_named, else-is_named}
+use Rattle.plain_view.proofs.given.named_place.Goals.{then-has_id, else-has_id}
 
 pub loop-place-preserved : goal.loop-place-preserved
 loop-place-preserved c =
     let column = c.index-columns-place.result in
     let i = c.loop-place.place in
     let found = c.loop-place.found in
-    last_more (λ (k : CellColumn). bytes_eq k.id c.args.id.now) c.args.columns.now i column found c.if-is_named.found
+    last_more (λ (k : CellColumn). bytes_eq k.id c.args.id.now) c.args.columns.now i column found c.if-has_id.found
     c.loop-place-test.true c.index-columns-place.is c.loop-place.invariant
-    (elim c.if-is_named.branch [
-      | then-is_named w ↦ w.found-is ∙ ap (λ b. cond b (Some i) found) (sym w.if-is_named.true ∙ c.is_named.ensures)
-      | else-is_named w ↦ w.found-is ∙ ap (λ b. cond b (Some i) found) (sym w.if-is_named.false ∙ c.is_named.ensures)
+    (elim c.if-has_id.branch [
+      | then-has_id w ↦ w.found-is ∙ ap (λ b. cond b (Some i) found) (sym w.if-has_id.true ∙ c.has_id.ensures)
+      | else-has_id w ↦ w.found-is ∙ ap (λ b. cond b (Some i) found) (sym w.if-has_id.false ∙ c.has_id.ensures)
     ])

@@ -1,12 +1,12 @@
 use Rattle.std.proofs.Common.{◌≡◌, ◌<◌, length, get_or, sym, subst, ap, ◌∙◌, arith}
 use Rattle.doc_model.specs.Changes.{IsView}
 use Rattle.plain_view.specs.Given.{IsFull}
-use Rattle.plain_view.proofs.PatchSteps.{leads_all, leads_first, leads_next}
+use Rattle.plain_view.proofs.PatchSteps.{leads_all, leads_first, leads_next, told_unfit}
 use Rattle.plain_view.proofs.Steps.{each_item}
 use Rattle.plain_view.proofs.patching.patch.Goals as goal
 
 pub loop-index-init : goal.loop-index-init
-loop-index-init c = leads_first c.args.view.now.tables c.in_ok-tables.tables.items c.args.actions.now (c.in_ok-tables.ensures ∙ c.as_slice.ensures) c.requires.view
+loop-index-init c = leads_first c.args.view.now.tables c.into_vec-tables.result.items c.args.actions.now (c.into_vec-tables.ensures ∙ c.in_ok-copied.ensures) c.requires.view
 
 pub step-requires-clause-view : goal.step-requires-clause-view
 step-requires-clause-view c = c.loop-index.invariant.view
@@ -38,3 +38,12 @@ returns-clause-fits c =
 
 pub returns-clause-kept : goal.returns-clause-kept
 returns-clause-kept c = subst IsView (sym c.from.ensures) c.loop-index.invariant.view
+
+pub returns-in_err-step-clause-err : goal.returns-in_err-step-clause-err
+returns-in_err-step-clause-err c =
+    let actions = c.args.actions.now in
+    let a = c.action-item.result in
+    let i = c.loop-index.index in
+    told_unfit c.from_residual-in_err-step.result c.in_err-step.field-0.0 c.args.view.now.tables c.loop-index.tables.items actions i a c.loop-index.invariant
+    (subst (λ l. i < length l) c.as_slice-action-items.ensures c.loop-index-test.true) (c.action-item.is ∙ ap (λ l. get_or l i a) c.as_slice-action-items.ensures)
+    c.in_err-step.ensures.err c.from_residual-in_err-step.ensures.1

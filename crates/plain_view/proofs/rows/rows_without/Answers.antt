@@ -6,5 +6,5 @@ use Rattle.plain_view.proofs.rows.rows_without.Goals as goal
 pub loop-row-preserved : goal.loop-row-preserved
 loop-row-preserved c =
     filter_next (λ r. not (has c.args.gone.now r)) c.args.rows.now c.args.rows.now c.loop-row.row-index
-    (not c.has_row.result) c.loop-row.kept.items c.push_if.new.rows.items
-    refl c.loop-row-test.true c.loop-row.invariant (ap not c.has_row.ensures) c.in_ok-push_if.ensures
+    (not c.is_among.result) c.loop-row.kept.items c.push_if.new.rows.items
+    refl c.loop-row-test.true c.loop-row.invariant (ap not c.is_among.ensures) c.in_ok-push_if.ensures

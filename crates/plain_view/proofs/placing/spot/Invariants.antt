@@ -1,0 +1,5 @@
+use Rattle.plain_view.proofs.Spots.{Passed}
+use Rattle.plain_view.proofs.placing.spot.Given as goal
+
+abbrev pub invariant-loop-place : goal.invariant-loop-place
+invariant-loop-place g l = Passed g.T.Named.id_of l.id l.things l.place

@@ -1,5 +1,5 @@
 -- What a core keeps stays the state that its history leads to.
-use Rattle.std.proofs.Common.{◌≡◌, ℕ, suc, ◌+◌, ◌<◌, ◌≤◌, Bool, true, false, not, ◌&&◌, ◌||◌, List, [], ◌∷◌, ◌++◌, map, length, sum_by, nat_le, nat_lt, take, drop, get_or, Option, Some, None, is_some, Result, Ok, Err, is_ok, MatchResult, refl, sym, ap, subst, ◌∙◌, arith, if◌then◌else◌}
+use Rattle.std.proofs.Common.{◌≡◌, ℕ, suc, ◌+◌, ◌<◌, ◌≤◌, ◌^◌, Bool, true, false, not, ◌&&◌, ◌||◌, List, [], ◌∷◌, ◌++◌, map, length, sum_by, nat_le, nat_lt, take, drop, get_or, Option, Some, None, is_some, Result, Ok, Err, is_ok, MatchResult, refl, sym, ap, subst, ◌∙◌, arith, if◌then◌else◌}
 use Rattle.std.proofs.lemmas.Bool.{leb-false, false≢true}
 use Rattle.std.proofs.Math.Nat.{le-min, min-le_left, min-le_right}
 use Rattle.std.proofs.lemmas.List.{length-append, take-append-drop}
@@ -158,6 +158,16 @@ module _ (users : List User) (s s' : Document) (tally : Tally) (xs xs' : List Se
         | true ↦ λ gone _. core_gone tally' bytes' whole is (gone_is e.request gone) left'
         | false ↦ λ _ r. core_roomy tally' bytes' whole is (short es (or_false (nat_le entry_bound (length es)) _ r)) left'
       ] refl room
+
+-- ---- counts stay far below the bounds of their types
+
+pub few_made : (users : List User) (es : List Entry) (s : Document) (tally : Tally) (xs : List SessionState) (bytes : Option ℕ) → IsCore users es s tally xs bytes → AllByRecursion (λ x. x.made < 2 ^ 62) xs
+few_made users es s tally xs bytes k =
+    each_weaker (IsCounted (counted es)) (λ x. x.made < 2 ^ 62) (λ x c. omega (arith, c.made, min-le_right (length es) entry_bound)) xs k.few
+
+pub few_accepted : (users : List User) (es : List Entry) (s : Document) (tally : Tally) (xs : List SessionState) (bytes : Option ℕ) → IsCore users es s tally xs bytes → AllByRecursion (λ x. x.holder.bundles < 2 ^ 62) xs
+few_accepted users es s tally xs bytes k =
+    each_weaker (IsCounted (counted es)) (λ x. x.holder.bundles < 2 ^ 62) (λ x c. omega (arith, c.bundles, min-le_right (length es) entry_bound)) xs k.few
 
 -- ---- sessions that are the same
 

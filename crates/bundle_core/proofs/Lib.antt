@@ -4,6 +4,7 @@ pub mod CoreLaws
 pub mod FormLemmas
 pub mod Inside
 pub mod Keeping
+pub mod MadeLemmas
 pub mod Outside
 pub mod Places
 pub mod Prepared
@@ -11,6 +12,7 @@ pub mod Readied
 pub mod RulingLemmas
 pub mod SessionLaws
 pub mod Spots
+pub mod TakeLemmas
 pub mod ToldLaws
 pub mod ViewLaws
 pub mod WayLemmas

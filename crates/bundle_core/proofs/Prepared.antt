@@ -1,10 +1,10 @@
 -- Sessions whose lines are made ready one after another, and are then posted.
-use Rattle.std.proofs.Common.{◌≡◌, Bool, ℕ, suc, zero, ◌+◌, ◌<◌, ◌^◌, List, [], ◌∷◌, ◌++◌, map, take, drop, length, get_or, set, Result, Ok, Err, OnErr, refl, sym, ap, subst, ◌∙◌, arith, add-one}
-use Rattle.std.specs.List.{AllByRecursion}
+use Rattle.std.proofs.Common.{◌≡◌, Bool, ℕ, suc, zero, ◌+◌, ◌<◌, ◌^◌, List, [], ◌∷◌, ◌++◌, map, take, drop, length, get_or, set, option_to_list, Result, Ok, Err, OnErr, refl, sym, ap, subst, ◌∙◌, arith, add-one}
+use Rattle.std.specs.List.{AllByRecursion, insert}
 use Rattle.doc_model.specs.declared.view.ViewAction.{ViewAction}
 use Rattle.doc_model.specs.Document.{Document}
-use Rattle.bundle_core.specs.Desk.{AreSame, Stays}
-use Rattle.bundle_core.specs.SessionState.{SessionState, open_of, IsPrepared, IsReady, IsEmptied}
+use Rattle.bundle_core.specs.Desk.{AreSame, Posts, Stays}
+use Rattle.bundle_core.specs.SessionState.{SessionState, open_of, posted_state, IsPrepared, IsReady, IsEmptied}
 use Rattle.bundle_core.proofs.Answering.{open_of-fields}
 
 -- the first ones are ready
@@ -102,4 +102,25 @@ stays_after old place x p y reply lines lt is h k made bundles given =
       made = λ d. made ∙ h.made ∙ ap (λ (z : SessionState). z.made) (sym (at d));
       bundles = λ d. bundles ∙ ap (λ o. o.bundles) h.holder ∙ ap (λ (z : SessionState). z.holder.bundles) (sym (at d));
       given_lines = λ d. given ∙ ap (λ w. w ++ reply ∷ []) (h.waiting ∙ ap (λ (z : SessionState). z.waiting) (sym (at d)));
+    }
+
+posts_stand : {X : Type 0} (f : X → X) (xs : List X) (i : ℕ) (y : X) → i < length xs → insert (map f (take i xs ++ drop (suc i) xs)) i y ≡ map f (take i xs) ++ y ∷ map f (drop (suc i) xs)
+posts_stand f [] i y lt = absurd (omega (arith, lt))
+posts_stand f (x ∷ xs) zero y lt = refl
+posts_stand f (x ∷ xs) (suc i) y lt = ap (λ r. f x ∷ r) (posts_stand f xs i y (omega (arith, lt)))
+
+-- the session of a bundle was given its lines, and the others were posted theirs
+pub posts_after : (old new : List SessionState) (place : ℕ) (x y : SessionState) (reply : List ℕ) (lines : List (List ℕ)) → place < length old → x ≡ get_or old place x
+    → new ≡ insert (map posted_state (take place old ++ drop (suc place) old)) place y
+    → IsEmptied x y → y.made ≡ x.made + length (option_to_list x.ready) → y.holder.bundles ≡ x.holder.bundles + 1 → lines ≡ x.waiting ++ option_to_list x.ready ++ reply ∷ []
+    → Posts old new place reply lines
+posts_after old new place x y reply lines lt is stands emptied made bundles given =
+    let at : (d : SessionState) → x ≡ get_or old place d = λ d. sym (at_any old place x d lt is) in
+    record {
+      after = y;
+      stands = stands ∙ posts_stand posted_state old place y lt;
+      emptied_box = λ d. let P : SessionState → Type 0 = λ z. IsEmptied z y in subst P (at d) emptied;
+      made = λ d. made ∙ ap (λ (z : SessionState). z.made + length (option_to_list z.ready)) (at d);
+      bundles = λ d. bundles ∙ ap (λ (z : SessionState). z.holder.bundles + 1) (at d);
+      given_lines = λ d. given ∙ ap (λ (z : SessionState). z.waiting ++ option_to_list z.ready ++ reply ∷ []) (at d);
     }

@@ -19,10 +19,10 @@ use crate::judging::Plan;
 use crate::made::{Made, all_told};
 use crate::session::OpenSession;
 use crate::telling::{Told, see_parts, tell_changes};
-use crate::turns::{post_all, prepare_all};
+use crate::turns::{post_all, prepare_all, reply_with};
 use crate::ways::{put_all, take_back_all};
 use doc_model::{DocAction, DocTables};
-use grist_json::{Line, Verdict, write_reply};
+use grist_json::{Line, Verdict};
 use std::alloc::{AllocError, Global};
 use view_parts::part_law;
 
@@ -131,7 +131,7 @@ fn reply_to<D: DocTables>(
 {
     let values = all_told(alloc, tables, session.is_owner(), made)?;
     let number = session.bundles() + 1;
-    write_reply(alloc, &Verdict::Bundle { number, values })
+    reply_with(alloc, Verdict::Bundle { number, values })
 }
 
 // Makes ready each session's line, and room for the two that the session of the bundle is given.
@@ -196,5 +196,5 @@ pub(crate) fn put_back(sessions: &mut Vec<OpenSession>, place: usize, own: OpenS
     requires room { vec_len sessions.old < vec_capacity sessions.old }
     ensures { sessions.new.items ≡ insert sessions.old.items place own }
 {
-    let _ = sessions.insert(place, own);
+    drop(sessions.insert(place, own));
 }

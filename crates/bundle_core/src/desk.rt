@@ -112,7 +112,7 @@ fn answer_outside<D: DocTables>(
     ensures err { OnErr result (AreSame sessions.old.items sessions.new.items) }
 {
     if let Some(code) = refusal_outside(&entry.request) {
-        return reply_alone(alloc, &refused(code));
+        return reply_alone(alloc, refused(code));
     }
     if let Request::Open { token } = &entry.request {
         return open(alloc, users, tables, sessions, place, entry, token.as_str());
@@ -137,7 +137,7 @@ fn open<D: DocTables>(
     ensures err { OnErr result (AreSame sessions.old.items sessions.new.items) }
 {
     match user_of(users, token) {
-        None => reply_alone(alloc, &refused(5)),
+        None => reply_alone(alloc, refused(5)),
         Some(user) => open_for(alloc, users, tables, sessions, place, entry, token, user),
     }
 }
@@ -161,7 +161,7 @@ fn open_for<D: DocTables>(
     ensures err { OnErr result (AreSame sessions.old.items sessions.new.items) }
 {
     if sessions.len() >= MAX_SESSIONS {
-        return reply_alone(alloc, &too_many());
+        return reply_alone(alloc, too_many());
     }
     sessions.reserve(1)?;
     let lines = show_all(alloc, tables, user)?;
@@ -180,7 +180,7 @@ fn show_all<D: DocTables>(alloc: Global, tables: &D, user: &User) -> Result<Vec<
     };
     let seen = whole_view(alloc, tables, is_owner(user))?;
     let actions = changes(alloc, &nothing, &seen)?;
-    reply_alone(alloc, &Verdict::Changes(actions))
+    reply_alone(alloc, Verdict::Changes(actions))
 }
 
 fn too_many() -> Verdict
@@ -216,21 +216,21 @@ fn answer_inside<D: DocTables>(
     ensures err { OnErr result (AreSame sessions.old.items sessions.new.items) }
 {
     if let Request::Gone = &entry.request {
-        let _ = sessions.remove(place);
+        drop(sessions.remove(place));
         return Ok(Vec::new(alloc));
     }
     if sessions[place].is_lagging() {
-        return leave(alloc, sessions, place, &refused(21));
+        return leave(alloc, sessions, place, refused(21));
     }
     if let Some(code) = refusal_inside(&entry.request) {
-        return stay(alloc, sessions, place, &refused(code));
+        return stay(alloc, sessions, place, refused(code));
     }
     match &entry.request {
         Request::Apply { actions } => {
             answer_bundle(alloc, users, tables, tally, sessions, place, entry, actions)
         }
-        Request::Close => leave(alloc, sessions, place, &Verdict::Done),
-        _ => stay(alloc, sessions, place, &Verdict::Done),
+        Request::Close => leave(alloc, sessions, place, Verdict::Done),
+        _ => stay(alloc, sessions, place, Verdict::Done),
     }
 }
 
@@ -262,7 +262,7 @@ fn answer_bundle<D: DocTables>(
 {
     let owner = sessions[place].is_owner();
     match judge(alloc, tables, *tally, owner, actions.as_slice())? {
-        Judged::Refused(verdict) => stay(alloc, sessions, place, &verdict),
+        Judged::Refused(verdict) => stay(alloc, sessions, place, verdict),
         Judged::Accepted(plan) => {
             let lines = accept(alloc, tables, sessions, place, &plan)?;
             *tally = plan.tally;

@@ -99,15 +99,12 @@ impl Core {
         ensures err { OnErr result (self.new ≡ self.old) }
     {
         if self.is_full(&request, size) {
+            drop(request);
             return Ok(Answer::Full);
         }
-        let entry = Entry {
-            session: session.clone()?,
-            request,
-            size,
-            kept: true,
-        };
+        let entry = kept_entry(session, request, size)?;
         if self.has_no_effect(&entry) {
+            drop(entry);
             return Ok(Answer::Lines(LineList::from(Vec::new(alloc))));
         }
         Ok(Answer::Lines(self.take(alloc, entry)?))
@@ -166,6 +163,23 @@ impl Core {
         ensures { result ≡ is_some (session_of session.now (state_after self.now.users self.now.history)) }
     {
         place_of(&self.sessions, session).is_ok()
+    }
+}
+
+fn kept_entry(session: &Name, request: Request, size: u32) -> Result<Entry, AllocError>
+    ensures { IfOk result (λ e. e ≡ entry_of session.now request size) }
+{
+    match session.clone() {
+        Ok(session) => Ok(Entry {
+            session,
+            request,
+            size,
+            kept: true,
+        }),
+        Err(fault) => {
+            drop(request);
+            Err(fault)
+        }
     }
 }
 

@@ -11,6 +11,7 @@ ghost use Rattle.action_limits.specs.Tallies.{IsTally};
 ghost use Rattle.view_parts.specs.Shown.{view};
 ghost use Rattle.bundle_core.specs.Forms.{is_in_form};
 ghost use Rattle.bundle_core.specs.Judgement.{judge_from, limited};
+ghost use Rattle.bundle_core.specs.Made.{made_of};
 ghost use Rattle.bundle_core.specs.Plans.{IsJudged, verdict_of};
 ghost use Rattle.bundle_core.specs.Rulings.{IsRuling};
 ghost use Rattle.bundle_core.specs.Ways.{AllFit, went_back};
@@ -98,6 +99,34 @@ fn actions_of(alloc: Global, steps: StepList) -> Result<Vec<DocAction>, AllocErr
     Ok(actions)
 }
 
+// What an action of these steps stands for, with the tally of the document after it.
+fn next_of<D: DocTables>(
+    alloc: Global,
+    tables: &D,
+    tally: Tally,
+    action: &UserAction,
+    steps: StepList,
+) -> Result<Next, AllocError>
+    requires whole { IsWhole (D.document tables.now) }
+    requires allowed { is_allowed (D.document tables.now) action.now ≡ true }
+    ensures actions { IfOk result (λ n. n.actions.items ≡ map action_of steps) }
+    ensures made { IfOk result (λ n. n.made ≡ made_of action.now (map action_of steps)) }
+    ensures tally { IfOk result (λ n. n.tally ≡ tally) }
+{
+    let made = made_of(alloc, tables, action, steps.as_slice())?;
+    match actions_of(alloc, steps) {
+        Ok(actions) => Ok(Next {
+            actions,
+            made,
+            tally,
+        }),
+        Err(fault) => {
+            drop(made);
+            Err(fault)
+        }
+    }
+}
+
 // The steps of an action that nothing stands against, or the limit that they would pass.
 fn rule_on_steps<D: DocTables>(
     alloc: Global,
@@ -117,13 +146,8 @@ fn rule_on_steps<D: DocTables>(
     match expand(alloc, tables, tally, action)? {
         Expansion::Limit(kind) => Ok(Ruling::Refused(limited(kind, place))),
         Expansion::Steps { steps, tally } => {
-            let made = made_of(alloc, tables, action, steps.as_slice())?;
-            let actions = actions_of(alloc, steps)?;
-            Ok(Ruling::Accepted(Next {
-                actions,
-                made,
-                tally,
-            }))
+            let next = next_of(alloc, tables, tally, action, steps)?;
+            Ok(Ruling::Accepted(next))
         }
     }
 }
@@ -177,7 +201,10 @@ fn judge_each<D: DocTables>(
         put_all(tables, &next, backs)?;
         actions.append(&mut next)?;
         match rule_on(alloc, tables, tally, owner, &asked[place], place as u32)? {
-            Ruling::Refused(verdict) => return Ok(Judged::Refused(verdict)),
+            Ruling::Refused(verdict) => {
+                drop((actions, made, next));
+                return Ok(Judged::Refused(verdict));
+            }
             Ruling::Accepted(ruled) => {
                 made.push(ruled.made)?;
                 next = ruled.actions;

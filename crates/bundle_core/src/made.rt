@@ -36,6 +36,21 @@ fn is_single(action: &UserAction) -> bool
     }
 }
 
+fn table_made(table: &Name) -> Result<Made, AllocError>
+    ensures { IfOk result (λ m. m ≡ Made.Table table.now) }
+{
+    Ok(Made::Table(table.clone()?))
+}
+
+fn column_made(table: &Name, column: &Name) -> Result<Made, AllocError>
+    ensures { IfOk result (λ m. m ≡ Made.Column table.now column.now) }
+{
+    Ok(Made::Column {
+        table: table.clone()?,
+        column: column.clone()?,
+    })
+}
+
 fn records_made(single: bool, table: &Name, rows: &RowList) -> Result<Made, AllocError>
     ensures { IfOk result (λ m. m ≡ records_made single table.now rows.now) }
 {
@@ -55,16 +70,10 @@ fn made_by(action: &UserAction, step: &DocAction) -> Result<Made, AllocError>
 {
     match step {
         DocAction::BulkAdd { table, rows, .. } => records_made(is_single(action), table, rows),
-        DocAction::AddTable { table, .. } => Ok(Made::Table(table.clone()?)),
-        DocAction::RenameTable { new, .. } => Ok(Made::Table(new.clone()?)),
-        DocAction::AddColumn { table, column } => Ok(Made::Column {
-            table: table.clone()?,
-            column: column.id.clone()?,
-        }),
-        DocAction::RenameColumn { table, new, .. } => Ok(Made::Column {
-            table: table.clone()?,
-            column: new.clone()?,
-        }),
+        DocAction::AddTable { table, .. } => table_made(table),
+        DocAction::RenameTable { new, .. } => table_made(new),
+        DocAction::AddColumn { table, column } => column_made(table, &column.id),
+        DocAction::RenameColumn { table, new, .. } => column_made(table, new),
         _ => Ok(Made::Nothing),
     }
 }
@@ -128,15 +137,21 @@ fn row_told(known: &[u32], row: u32) -> Option<u32>
     None
 }
 
-fn rows_told(alloc: Global, known: &[u32], rows: &[u32]) -> Result<RetIdList, AllocError>
+fn rows_told(alloc: Global, known: &[u32], rows: &[u32]) -> Result<RetValue, AllocError>
     requires { IsAscending known.now }
-    ensures { IfOk result (λ l. l ≡ map (row_told known.now) rows.now) }
+    ensures { IfOk result (λ v. v ≡ RetValue.Ids (map (row_told known.now) rows.now)) }
 {
     let mut told = Vec::with_capacity(alloc, rows.len())?;
     for row in rows {
         told.push(row_told(known, *row))?;
     }
-    Ok(RetIdList::from(told))
+    Ok(RetValue::Ids(RetIdList::from(told)))
+}
+
+fn name_told(name: &Name) -> Result<RetValue, AllocError>
+    ensures { IfOk result (λ v. v ≡ RetValue.Name name.now) }
+{
+    Ok(RetValue::Name(name.clone()?))
 }
 
 // What is told of what an action made, by what owners see of the document now, or others.
@@ -154,14 +169,11 @@ fn told_of<D: DocTables>(
             Ok(RetValue::Id(*row))
         }
         Made::Records { table, rows } => {
-            let known = known_rows(tables, owner, table);
-            Ok(RetValue::Ids(rows_told(alloc, known, rows.as_slice())?))
+            rows_told(alloc, known_rows(tables, owner, table), rows.as_slice())
         }
-        Made::Table(table) if rows_shown(tables, owner, table).is_some() => {
-            Ok(RetValue::Name(table.clone()?))
-        }
+        Made::Table(table) if rows_shown(tables, owner, table).is_some() => name_told(table),
         Made::Column { table, column } if is_column_shown(tables, owner, table, column) => {
-            Ok(RetValue::Name(column.clone()?))
+            name_told(column)
         }
         _ => Ok(RetValue::Null),
     }

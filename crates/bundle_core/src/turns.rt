@@ -12,12 +12,19 @@ use crate::telling::Told;
 use grist_json::{Line, Verdict, write_reply};
 use std::alloc::{AllocError, Global};
 
+/// The reply with this verdict.
+pub(crate) fn reply_with(alloc: Global, verdict: Verdict) -> Result<Line, AllocError>
+    ensures { IfOk result (λ l. l ≡ reply_text verdict) }
+{
+    write_reply(alloc, &verdict)
+}
+
 /// A reply alone, to a session that is not open.
-pub(crate) fn reply_alone(alloc: Global, verdict: &Verdict) -> Result<Vec<Line>, AllocError>
-    ensures { IfOk result (λ v. v.items ≡ reply_text verdict.now ∷ []) }
+pub(crate) fn reply_alone(alloc: Global, verdict: Verdict) -> Result<Vec<Line>, AllocError>
+    ensures { IfOk result (λ v. v.items ≡ reply_text verdict ∷ []) }
 {
     let mut lines = Vec::new(alloc);
-    lines.push(write_reply(alloc, verdict)?)?;
+    lines.push(reply_with(alloc, verdict)?)?;
     Ok(lines)
 }
 
@@ -27,13 +34,13 @@ pub(crate) fn leave(
     alloc: Global,
     sessions: &mut Vec<OpenSession>,
     place: usize,
-    verdict: &Verdict,
+    verdict: Verdict,
 ) -> Result<Vec<Line>, AllocError>
     requires { place < length sessions.old.items }
-    ensures ok { IfOk result (λ v. Leaves sessions.old.items sessions.new.items place (reply_text verdict.now) v.items) }
+    ensures ok { IfOk result (λ v. Leaves sessions.old.items sessions.new.items place (reply_text verdict) v.items) }
     ensures err { OnErr result (AreSame sessions.old.items sessions.new.items) }
 {
-    let reply = write_reply(alloc, verdict)?;
+    let reply = reply_with(alloc, verdict)?;
     let session = &mut sessions[place];
     session.make_room(1)?;
     let session = sessions.remove(place);
@@ -46,13 +53,13 @@ pub(crate) fn stay(
     alloc: Global,
     sessions: &mut Vec<OpenSession>,
     place: usize,
-    verdict: &Verdict,
+    verdict: Verdict,
 ) -> Result<Vec<Line>, AllocError>
     requires { place < length sessions.old.items }
-    ensures ok { IfOk result (λ v. Stays sessions.old.items sessions.new.items place (reply_text verdict.now) v.items) }
+    ensures ok { IfOk result (λ v. Stays sessions.old.items sessions.new.items place (reply_text verdict) v.items) }
     ensures err { OnErr result (AreSame sessions.old.items sessions.new.items) }
 {
-    let reply = write_reply(alloc, verdict)?;
+    let reply = reply_with(alloc, verdict)?;
     let session = &mut sessions[place];
     session.make_room(1)?;
     Ok(session.give(alloc, reply))

@@ -3,8 +3,18 @@ use Rattle.doc_model.specs.declared.entry.Entry.{Entry}
 use Rattle.doc_model.specs.declared.user.User.{User}
 use Rattle.bundle_core.specs.Core.{CoreState, has_no_effect, is_full, size_of, IsCore, IsStep}
 use Rattle.bundle_core.specs.Desk.{Answers}
-use Rattle.bundle_core.proofs.CoreLaws.{core_after, core_same, lines_at}
+use Rattle.bundle_core.proofs.CoreLaws.{core_after, core_same, few_accepted, few_made, lines_at}
 use Rattle.bundle_core.proofs.history_core.Core.take.Goals as goal
+
+pub answer-requires-clause-few : goal.answer-requires-clause-few
+answer-requires-clause-few c =
+    let kept = c.self.inside in
+    few_made kept.users kept.entries.items kept.tables kept.tally kept.sessions.items kept.bytes_left c.self.invariant
+
+pub answer-requires-clause-few_bundles : goal.answer-requires-clause-few_bundles
+answer-requires-clause-few_bundles c =
+    let kept = c.self.inside in
+    few_accepted kept.users kept.entries.items kept.tables kept.tally kept.sessions.items kept.bytes_left c.self.invariant
 
 pub invariant_of-self-in_err-lines : goal.invariant_of-self-in_err-lines
 invariant_of-self-in_err-lines c =

@@ -5,8 +5,8 @@
 
 An edit costs the gate a check, so crates/NAME/must-fail/ has the few that tell most, and tools/edits/NAME/
 the others. This copies the repository to a scratch folder, puts the spare edits of the named crates in the
-place of the gate's, and runs `rt must-fail` there, which says of each whether it is refused. It ends with
-that command's status.
+place of the gate's, and runs `rt ci` of these crates there, which takes the proofs that the gate kept and
+fails where an edit is not refused. It ends with that command's status.
 """
 
 import os
@@ -36,7 +36,7 @@ def main(names):
         return 2
     with tempfile.TemporaryDirectory(prefix="jackclover-edits-") as to:
         copy_with_spare_edits(to, names)
-        return subprocess.run(["rt", "must-fail", *names], cwd=to).returncode
+        return subprocess.run(["rt", "ci", *names], cwd=to).returncode
 
 
 if __name__ == "__main__":

@@ -15,7 +15,7 @@ use Rattle.doc_model.proofs.WholeLaws.{IsPlain}
 use Rattle.doc_model.proofs.ByIdsLaws.{bytes_itself}
 use Rattle.doc_model.proofs.Choices.{cond_true, cond_false, false_from, length_map}
 
--- the table at a place, and its row
+-- the table at an index, and its row
 record Part (p : List Table) (i : ℕ) : Type 0 where
   table : Table
   found : slice_get p i ≡ Some table

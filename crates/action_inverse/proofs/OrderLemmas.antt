@@ -4,7 +4,7 @@ use Rattle.std.proofs.lemmas.List.{map_more, take_all}
 use Rattle.std.specs.Str.{bytes_eq}
 use Rattle.doc_model.specs.declared.column.CellColumn.{CellColumn}
 use Rattle.doc_model.specs.declared.column.ColDef.{ColDef}
-use Rattle.doc_model.specs.ByIds.{precedes, place, by_id}
+use Rattle.doc_model.specs.ByIds.{precedes, put_by_id, by_id}
 use Rattle.doc_model.specs.Column.{column_id}
 use Rattle.doc_model.specs.Grid.{Grid}
 use Rattle.doc_model.specs.Inverse.{data_columns, old_columns}
@@ -14,26 +14,26 @@ module _ {X : Type 0} (id : X → List ℕ) where
   -- the things of the first list put into the second, from the last on
   abbrev pub put_all : List X → List X → List X
   put_all [] sorted = sorted
-  put_all (x ∷ xs) sorted = place id x (put_all xs sorted)
+  put_all (x ∷ xs) sorted = put_by_id id x (put_all xs sorted)
 
   pub put_all-none : (xs : List X) → put_all xs [] ≡ by_id id xs
   put_all-none [] = refl
-  put_all-none (x ∷ xs) = ap (place id x) (put_all-none xs)
+  put_all-none (x ∷ xs) = ap (put_by_id id x) (put_all-none xs)
 
-  pub put_all-last : (xs : List X) (x : X) (sorted : List X) → put_all (xs ++ x ∷ []) sorted ≡ put_all xs (place id x sorted)
+  pub put_all-last : (xs : List X) (x : X) (sorted : List X) → put_all (xs ++ x ∷ []) sorted ≡ put_all xs (put_by_id id x sorted)
   put_all-last [] x sorted = refl
-  put_all-last (y ∷ xs) x sorted = ap (place id y) (put_all-last xs x sorted)
+  put_all-last (y ∷ xs) x sorted = ap (put_by_id id y) (put_all-last xs x sorted)
 
 module _ {X Y : Type 0} (id : X → List ℕ) (name : Y → List ℕ) (f : X → Y) (keeps : (x : X) → name (f x) ≡ id x) where
-  map-place : (x : X) (xs : List X) → map f (place id x xs) ≡ place name (f x) (map f xs)
-  map-place x [] = refl
-  map-place x (y ∷ xs) =
-      mapped (precedes (id x) (id y)) (bytes_eq (id x) (id y)) (map-place x xs)
-      ∙ ap (λ b. cond b (f x ∷ f y ∷ map f xs) (cond (bytes_eq (id x) (id y)) (f x ∷ map f xs) (f y ∷ place name (f x) (map f xs)))) before
-      ∙ ap (λ b. cond (precedes (name (f x)) (name (f y))) (f x ∷ f y ∷ map f xs) (cond b (f x ∷ map f xs) (f y ∷ place name (f x) (map f xs)))) same
+  map-put_by_id : (x : X) (xs : List X) → map f (put_by_id id x xs) ≡ put_by_id name (f x) (map f xs)
+  map-put_by_id x [] = refl
+  map-put_by_id x (y ∷ xs) =
+      mapped (precedes (id x) (id y)) (bytes_eq (id x) (id y)) (map-put_by_id x xs)
+      ∙ ap (λ b. cond b (f x ∷ f y ∷ map f xs) (cond (bytes_eq (id x) (id y)) (f x ∷ map f xs) (f y ∷ put_by_id name (f x) (map f xs)))) before
+      ∙ ap (λ b. cond (precedes (name (f x)) (name (f y))) (f x ∷ f y ∷ map f xs) (cond b (f x ∷ map f xs) (f y ∷ put_by_id name (f x) (map f xs)))) same
     where
-      mapped : (b e : Bool) → map f (place id x xs) ≡ place name (f x) (map f xs) → map f (cond b (x ∷ y ∷ xs) (cond e (x ∷ xs) (y ∷ place id x xs)))
-          ≡ cond b (f x ∷ f y ∷ map f xs) (cond e (f x ∷ map f xs) (f y ∷ place name (f x) (map f xs)))
+      mapped : (b e : Bool) → map f (put_by_id id x xs) ≡ put_by_id name (f x) (map f xs) → map f (cond b (x ∷ y ∷ xs) (cond e (x ∷ xs) (y ∷ put_by_id id x xs)))
+          ≡ cond b (f x ∷ f y ∷ map f xs) (cond e (f x ∷ map f xs) (f y ∷ put_by_id name (f x) (map f xs)))
       mapped true e h = refl
       mapped false true h = refl
       mapped false false h = ap (λ l. f y ∷ l) h
@@ -46,7 +46,7 @@ module _ {X Y : Type 0} (id : X → List ℕ) (name : Y → List ℕ) (f : X →
 
   pub map-by_id : (xs : List X) → map f (by_id id xs) ≡ by_id name (map f xs)
   map-by_id [] = refl
-  map-by_id (x ∷ xs) = map-place x (by_id id xs) ∙ ap (place name (f x)) (map-by_id xs)
+  map-by_id (x ∷ xs) = map-put_by_id x (by_id id xs) ∙ ap (put_by_id name (f x)) (map-by_id xs)
 
 -- the old cells of given columns, put in order
 pub old_sorted : (g : Grid ColDef) (rows : List ℕ) (ks vs ws : List CellColumn) (n : ℕ) → length ks ≤ n

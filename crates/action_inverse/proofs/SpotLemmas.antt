@@ -8,7 +8,7 @@ use Rattle.std.specs.Str.{bytes_eq}
 use Rattle.std.specs.Ordering.{nat_cmp, is_lt, is_eq}
 use Rattle.std.specs.Cmp.Lexicographic.{slice_cmp}
 use Rattle.doc_model.specs.declared.column.CellColumn.{CellColumn}
-use Rattle.doc_model.specs.ByIds.{precedes, place}
+use Rattle.doc_model.specs.ByIds.{precedes, put_by_id}
 use Rattle.doc_model.specs.Records.{given_id}
 use Rattle.doc_model.proofs.Choices.{cond_true, cond_false}
 
@@ -23,21 +23,21 @@ set_parts (q ∷ ks) (suc i) k h =
     ∙ ap (λ n. q ∷ (take i ks ++ k ∷ drop n ks)) (add-one i)
     ∙ ap (λ n. q ∷ (take i ks ++ k ∷ drop n (q ∷ ks))) (sym (add-one (suc i)))
 
--- the columns before the place precede the column
+-- the columns before the index precede the column
 abbrev pub IsPast : CellColumn → List CellColumn → ℕ → Type 0
-IsPast k ks i = take i ks ++ place given_id k (drop i ks) ≡ place given_id k ks
+IsPast k ks i = take i ks ++ put_by_id given_id k (drop i ks) ≡ put_by_id given_id k ks
 
 module _ (k : CellColumn) (ks : List CellColumn) (i : ℕ) (y : CellColumn) (within : i < length ks) (is : y ≡ get_or ks i y) (past : IsPast k ks i) where
-  at : place given_id k ks ≡ take i ks ++ place given_id k (y ∷ drop (i + 1) ks)
-  at = sym past ∙ ap (λ l. take i ks ++ place given_id k l) (opened ks i y within is)
+  at : put_by_id given_id k ks ≡ take i ks ++ put_by_id given_id k (y ∷ drop (i + 1) ks)
+  at = sym past ∙ ap (λ l. take i ks ++ put_by_id given_id k l) (opened ks i y within is)
 
-  pub goes_before : slice_cmp nat_cmp k.id y.id ≡ Less → insert ks i k ≡ place given_id k ks
+  pub goes_before : slice_cmp nat_cmp k.id y.id ≡ Less → insert ks i k ≡ put_by_id given_id k ks
   goes_before e =
       sym (at
       ∙ ap (λ l. take i ks ++ l) (cond_true (precedes k.id y.id) (k ∷ y ∷ drop (i + 1) ks) _ (ap is_lt e))
       ∙ ap (λ l. take i ks ++ k ∷ l) (sym (opened ks i y within is)))
 
-  pub stands_at : slice_cmp nat_cmp k.id y.id ≡ Equal → set ks i k ≡ place given_id k ks
+  pub stands_at : slice_cmp nat_cmp k.id y.id ≡ Equal → set ks i k ≡ put_by_id given_id k ks
   stands_at e =
       sym (at
       ∙ ap (λ l. take i ks ++ l) (
@@ -47,16 +47,16 @@ module _ (k : CellColumn) (ks : List CellColumn) (i : ℕ) (y : CellColumn) (wit
 
   pub goes_on : slice_cmp nat_cmp k.id y.id ≡ Greater → IsPast k ks (i + 1)
   goes_on e =
-      ap (λ l. l ++ place given_id k (drop (i + 1) ks)) (take_more ks i y within ∙ ap (λ x. take i ks ++ x ∷ []) (sym is))
-      ∙ append_assoc (take i ks) (y ∷ []) (place given_id k (drop (i + 1) ks))
+      ap (λ l. l ++ put_by_id given_id k (drop (i + 1) ks)) (take_more ks i y within ∙ ap (λ x. take i ks ++ x ∷ []) (sym is))
+      ∙ append_assoc (take i ks) (y ∷ []) (put_by_id given_id k (drop (i + 1) ks))
       ∙ ap (λ l. take i ks ++ l) (sym (
       cond_false (precedes k.id y.id) (k ∷ y ∷ drop (i + 1) ks) _ (ap is_lt e)
       ∙ cond_false (bytes_eq k.id y.id) (k ∷ drop (i + 1) ks) _ (sym (is_eq-slice_cmp k.id y.id) ∙ ap is_eq e)))
       ∙ sym at
 
-pub goes_last : (k : CellColumn) (ks : List CellColumn) (i : ℕ) → length ks ≤ i → i ≤ length ks → IsPast k ks i → insert ks (length ks) k ≡ place given_id k ks
+pub goes_last : (k : CellColumn) (ks : List CellColumn) (i : ℕ) → length ks ≤ i → i ≤ length ks → IsPast k ks i → insert ks (length ks) k ≡ put_by_id given_id k ks
 goes_last k ks i low high past =
     let end : i ≡ length ks = omega arith in
     let none : drop i ks ≡ [] = drop_of_length-le ks low in
-    subst (λ n. insert ks n k ≡ place given_id k ks) end
-    (ap (λ l. take i ks ++ k ∷ l) none ∙ sym (ap (λ l. take i ks ++ place given_id k l) none) ∙ past)
+    subst (λ n. insert ks n k ≡ put_by_id given_id k ks) end
+    (ap (λ l. take i ks ++ k ∷ l) none ∙ sym (ap (λ l. take i ks ++ put_by_id given_id k l) none) ∙ past)

@@ -7,14 +7,14 @@
 //! any store that tells that document; the inverse law of `doc_model` says that this list is valid
 //! after the action and gives the document back.
 //! Not promised: that the list keeps within limits.
-//! Read first: undo.rt, then again.rt.
+//! Read first: undo.rt, then restore.rt.
 #![tactic(auto)]
 
-mod again;
 mod cells;
 mod columns;
 mod metadata;
 mod order;
+mod restore;
 mod undo;
 
 pub use undo::inverse;

@@ -20,10 +20,10 @@ pub(crate) fn metadata_row<D: DocTables>(tables: &D, table: &Name) -> Option<u32
 {
     let described = tables.table(0)?;
     let rows = tables.rows(described)?;
-    for place in 0..rows.len() {
-        let other = tables.table(METADATA_TABLES + place)?;
+    for index in 0..rows.len() {
+        let other = tables.table(METADATA_TABLES + index)?;
         if other.same_as(table) {
-            return Some(rows[place]);
+            return Some(rows[index]);
         }
     }
     None

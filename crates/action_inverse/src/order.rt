@@ -2,7 +2,7 @@
 
 ghost use Rattle.std.specs.Prelude.{◌≡◌, IfOk, MatchResult, OnOk};
 ghost use Rattle.action_inverse.specs.Spot.{GoesTo, StandsAt};
-ghost use Rattle.doc_model.specs.ByIds.{by_id, place};
+ghost use Rattle.doc_model.specs.ByIds.{by_id, put_by_id};
 ghost use Rattle.doc_model.specs.Records.{given_id};
 
 use doc_model::CellColumn;
@@ -25,11 +25,11 @@ pub(crate) fn by_id(alloc: Global, columns: Vec<CellColumn>) -> Result<Vec<CellC
 
 // Puts a column before the first one with a greater id, in place of one with its id.
 fn put(columns: &mut Vec<CellColumn>, column: CellColumn) -> Result<(), AllocError>
-    ensures { OnOk result (columns.new.items ≡ place given_id column columns.old.items) }
+    ensures { OnOk result (columns.new.items ≡ put_by_id given_id column columns.old.items) }
 {
     match spot(columns, &column) {
-        Ok(place) => columns[place] = column,
-        Err(place) => columns.insert(place, column)?,
+        Ok(index) => columns[index] = column,
+        Err(index) => columns.insert(index, column)?,
     }
     Ok(())
 }
@@ -38,10 +38,10 @@ fn put(columns: &mut Vec<CellColumn>, column: CellColumn) -> Result<(), AllocErr
 fn spot(columns: &[CellColumn], column: &CellColumn) -> Result<usize, usize>
     ensures { MatchResult result (StandsAt columns.now column.now) (GoesTo columns.now column.now) }
 {
-    for place in 0..columns.len() {
-        match column.id.cmp(&columns[place].id) {
-            Ordering::Less => return Err(place),
-            Ordering::Equal => return Ok(place),
+    for index in 0..columns.len() {
+        match column.id.cmp(&columns[index].id) {
+            Ordering::Less => return Err(index),
+            Ordering::Equal => return Ok(index),
             Ordering::Greater => {}
         }
     }

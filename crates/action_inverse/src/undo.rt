@@ -6,7 +6,7 @@ ghost use Rattle.doc_model.specs.DocumentLaws.{IsWhole};
 ghost use Rattle.doc_model.specs.Inverse.{inverse};
 ghost use Rattle.doc_model.specs.Valid.{valid};
 
-use crate::again::{cells_again, column_again, info_again, rows_again, single, table_again};
+use crate::restore::{cells_again, column_again, info_again, rows_again, single, table_again};
 use cell_types::{Name, RowList};
 use doc_model::{DocAction, DocActionList, DocTables};
 use std::alloc::{AllocError, Global};

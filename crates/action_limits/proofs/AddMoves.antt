@@ -17,17 +17,17 @@ use Rattle.doc_model.specs.CountLaws.{SumsMove, Sums, come, given_weight, nothin
 use Rattle.doc_model.specs.Counts.{counts, greatest}
 use Rattle.doc_model.specs.Document.{Document, Table, table_id}
 use Rattle.doc_model.specs.DocumentLaws.{IsWhole}
-use Rattle.doc_model.specs.PeakLaws.{AreGreatest, Peaks, peaks_after, peaks_then}
+use Rattle.doc_model.specs.MaximaLaws.{AreGreatest, Maxima, maxima_after, maxima_then}
 use Rattle.doc_model.specs.Rows.{without}
 use Rattle.doc_model.specs.Valid.{passes, valid}
 use Rattle.doc_model.proofs.ByIdsLaws.{bytes_itself, each_found, found_all, found_id}
 use Rattle.doc_model.proofs.Choices.{each_both, each_weaker}
-use Rattle.doc_model.proofs.PeakSums.{without-none}
+use Rattle.doc_model.proofs.MaximaSums.{without-none}
 use Rattle.doc_model.proofs.SchemaCounts.{counts-apply}
-use Rattle.doc_model.proofs.SchemaPeaks.{peaks-apply}
+use Rattle.doc_model.proofs.SchemaMaxima.{maxima-apply}
 use Rattle.doc_readers.specs.Parts.{grid_at}
-use Rattle.action_limits.specs.declared.limits.Extent.{Extent}
-use Rattle.action_limits.specs.Capped.{AddsSo, IsExtentAdded}
+use Rattle.action_limits.specs.declared.limits.CountedMaxima.{CountedMaxima}
+use Rattle.action_limits.specs.Capped.{AddsSo, AreMaximaAdded}
 use Rattle.user_actions.specs.Kinds.{table_of}
 use Rattle.user_actions.specs.StepLaws.{action_of}
 use Rattle.user_actions.specs.Steps.{all_fitted, last_new_row, last_row, numbers_after, steps_of}
@@ -35,7 +35,7 @@ use Rattle.action_limits.specs.Tallies.{after}
 use Rattle.action_limits.proofs.CountedLemmas.{capped_above, grid_found}
 use Rattle.user_actions.proofs.RecordStepLemmas.{length-numbers_after}
 use Rattle.action_limits.proofs.ExpansionLemmas.{has_named-valid}
-use Rattle.action_limits.proofs.PeakMoves.{all_below, each_below, never-less}
+use Rattle.action_limits.proofs.MaximaMoves.{all_below, each_below, never-less}
 use Rattle.action_limits.proofs.Rising.{TellsMore, same_side}
 use Rattle.action_limits.proofs.SumLemmas.{greatest-append, greatest-cons}
 
@@ -58,7 +58,7 @@ known_below s h b le = unmap s (each_below b (map h s) le)
     unmap [] k = tt
     unmap (t ∷ ts) k = (k.0, unmap ts k.1)
 
-pub mapped_below : (f : Peaks → ℕ) (h : Table → Peaks) (b : ℕ) (s : Document) → AllByRecursion (λ t. f (h t) ≤ b) s → greatest (map f (map h s)) ≤ b
+pub mapped_below : (f : Maxima → ℕ) (h : Table → Maxima) (b : ℕ) (s : Document) → AllByRecursion (λ t. f (h t) ≤ b) s → greatest (map f (map h s)) ≤ b
 mapped_below f h b s k = all_below b (map f (map h s)) (both s k)
   where
     both : (ts : List Table) → AllByRecursion (λ t. f (h t) ≤ b) ts → AllByRecursion (λ n. n ≤ b) (map f (map h ts))
@@ -66,7 +66,7 @@ mapped_below f h b s k = all_below b (map f (map h s)) (both s k)
     both (t ∷ ts) k = (k.0, both ts k.1)
 
 -- a table that is there is no greater than the greatest
-pub found_below : (f : Peaks → ℕ) (h : Table → Peaks) (s : Document) (c : List ℕ) (t : Table) → find_id table_id c s ≡ Some t → f (h t) ≤ greatest (map f (map h s))
+pub found_below : (f : Maxima → ℕ) (h : Table → Maxima) (s : Document) (c : List ℕ) (t : Table) → find_id table_id c s ≡ Some t → f (h t) ≤ greatest (map f (map h s))
 found_below f h s c t found = found_all table_id (λ t. f (h t) ≤ greatest (map f (map h s))) c s t (unmap s (each_below (greatest (map f (map h s))) (map f (map h s)) (omega arith))) found
   where
     unmap : (ts : List Table) → AllByRecursion (λ n. n ≤ greatest (map f (map h s))) (map f (map h ts)) → AllByRecursion (λ t. f (h t) ≤ greatest (map f (map h s))) ts
@@ -77,8 +77,8 @@ module _ (s : Document) (whole : IsWhole s) (table rows : List ℕ) (ks : List C
   abbrev act : DocAction
   act = BulkAdd table rows ks
 
-  told : AreGreatest (counts (apply s act)) (peaks_after s act)
-  told = peaks-apply s act whole v
+  told : AreGreatest (counts (apply s act)) (maxima_after s act)
+  told = maxima-apply s act whole v
 
   mine : (t : Table) × (find_id table_id table s ≡ Some t)
   mine = table_there s table (has_named-valid s act v)
@@ -94,8 +94,8 @@ module _ (s : Document) (whole : IsWhole s) (table rows : List ℕ) (ks : List C
 
   pub added_columns : (b : ℕ) → (counts s).columns ≤ b → ltb b 0 ≡ ltb b (counts (apply s act)).columns
   added_columns b le =
-      let same : greatest (map (λ (p : Peaks). p.columns) (map (peaks_then s act) s)) ≤ b
-      = mapped_below (λ (p : Peaks). p.columns) (peaks_then s act) b s (known_below s (λ (t : Table). length t.grid.columns) b le) in
+      let same : greatest (map (λ (p : Maxima). p.columns) (map (maxima_then s act) s)) ≤ b
+      = mapped_below (λ (p : Maxima). p.columns) (maxima_then s act) b s (known_below s (λ (t : Table). length t.grid.columns) b le) in
       let below : (counts (apply s act)).columns ≤ b = subst (λ n. n ≤ b) (sym told.columns) same in
       le-ltb b 0 (omega arith) ∙ sym (le-ltb b (counts (apply s act)).columns below)
 
@@ -114,9 +114,9 @@ module _ (s : Document) (whole : IsWhole s) (table rows : List ℕ) (ks : List C
       let each : AllByRecursion (λ t. length (cond (bytes_eq t.id table) rows [] ++ without [] t.grid.rows) ≤ max b n) s
       = each_weaker (λ t. (length t.grid.rows ≤ b) × (bytes_eq t.id table ≡ true → grid_at s table ≡ t.grid)) (λ t. length (cond (bytes_eq t.id table) rows [] ++ without [] t.grid.rows) ≤ max b n) (λ t k. rows_below b t k.0 k.1)
       s (each_both (λ t. length t.grid.rows ≤ b) (λ t. bytes_eq t.id table ≡ true → grid_at s table ≡ t.grid) s (known_below s (λ (t : Table). length t.grid.rows) b le) (grids_found s whole table)) in
-      let up : (counts (apply s act)).rows ≤ max b n = subst (λ m. m ≤ max b n) (sym told.rows) (mapped_below (λ (p : Peaks). p.rows) (peaks_then s act) (max b n) s each) in
+      let up : (counts (apply s act)).rows ≤ max b n = subst (λ m. m ≤ max b n) (sym told.rows) (mapped_below (λ (p : Maxima). p.rows) (maxima_then s act) (max b n) s each) in
       let here : length (cond (bytes_eq mine.0.id table) rows [] ++ without [] mine.0.grid.rows) ≤ (counts (apply s act)).rows
-      = subst (λ m. length (cond (bytes_eq mine.0.id table) rows [] ++ without [] mine.0.grid.rows) ≤ m) (sym told.rows) (found_below (λ (p : Peaks). p.rows) (peaks_then s act) s table mine.0 mine.1) in
+      = subst (λ m. length (cond (bytes_eq mine.0.id table) rows [] ++ without [] mine.0.grid.rows) ≤ m) (sym told.rows) (found_below (λ (p : Maxima). p.rows) (maxima_then s act) s table mine.0 mine.1) in
       let all : length (cond (bytes_eq mine.0.id table) rows [] ++ without [] mine.0.grid.rows) ≡ length rows + length mine.0.grid.rows = rows_apart mine.0 ∙ ap (λ c. length (cond c rows []) + length mine.0.grid.rows) mine_is in
       let own : length (grid_at s table).rows ≡ length mine.0.grid.rows = ap (λ (g : Grid ColDef). length g.rows) (grid_found s table mine.0 mine.1) in
       let low : n ≤ (counts (apply s act)).rows = omega (arith, here, all, own) in
@@ -130,9 +130,9 @@ module _ (s : Document) (whole : IsWhole s) (table rows : List ℕ) (ks : List C
         | true ↦ grind arith
         | false ↦ grind arith
       ])) s (known_below s (λ (t : Table). greatest t.grid.rows) b le) in
-      let up : (counts (apply s act)).row_id ≤ max b last = subst (λ m. m ≤ max b last) (sym told.row_id) (mapped_below (λ (p : Peaks). p.row_id) (peaks_then s act) (max b last) s each) in
+      let up : (counts (apply s act)).row_id ≤ max b last = subst (λ m. m ≤ max b last) (sym told.row_id) (mapped_below (λ (p : Maxima). p.row_id) (maxima_then s act) (max b last) s each) in
       let here : greatest (cond (bytes_eq mine.0.id table) rows [] ++ without [] mine.0.grid.rows) ≤ (counts (apply s act)).row_id
-      = subst (λ m. greatest (cond (bytes_eq mine.0.id table) rows [] ++ without [] mine.0.grid.rows) ≤ m) (sym told.row_id) (found_below (λ (p : Peaks). p.row_id) (peaks_then s act) s table mine.0 mine.1) in
+      = subst (λ m. greatest (cond (bytes_eq mine.0.id table) rows [] ++ without [] mine.0.grid.rows) ≤ m) (sym told.row_id) (found_below (λ (p : Maxima). p.row_id) (maxima_then s act) s table mine.0 mine.1) in
       let all : greatest (cond (bytes_eq mine.0.id table) rows [] ++ without [] mine.0.grid.rows) ≡ max (greatest rows) (greatest mine.0.grid.rows) = ids_apart mine.0 ∙ ap (λ c. max (greatest (cond c rows [])) (greatest mine.0.grid.rows)) mine_is in
       let most : greatest rows ≤ (counts (apply s act)).row_id = grind arith in
       same_side b last (counts (apply s act)).row_id up (grind arith)
@@ -166,8 +166,8 @@ greatest_from : (b n count : ℕ) → n ≤ b → n + count ≤ max b (greatest 
 greatest_from b n zero h = grind arith
 greatest_from b n (suc count) h = let e : greatest (numbers_after n (suc count)) ≡ n + suc count = greatest-numbers n count in grind arith
 
-pub add_peaks : (s : Document) (a : UserAction) (count : ℕ) (e : Extent) → IsWhole s → AddsSo a count → all_valid s (map action_of (steps_of s a)) ≡ true → IsExtentAdded s (table_of a) count e → TellsMore e s (after s a)
-add_peaks s (Add table single n explicit ks) count e whole same v told =
+pub add_maxima : (s : Document) (a : UserAction) (count : ℕ) (e : CountedMaxima) → IsWhole s → AddsSo a count → all_valid s (map action_of (steps_of s a)) ≡ true → AreMaximaAdded s (table_of a) count e → TellsMore e s (after s a)
+add_maxima s (Add table single n has_row_ids ks) count e whole same v told =
     let rows : List ℕ = numbers_after (last_row s table) n in
     let ok : valid s (BulkAdd table rows (all_fitted s table ks)) ≡ true = (and_parts (valid s (BulkAdd table rows (all_fitted s table ks))) true v).0 in
     let cs : List CellColumn = all_fitted s table ks in
@@ -180,18 +180,18 @@ add_peaks s (Add table single n explicit ks) count e whole same v told =
           ∙ added_ids s whole table rows cs ok 4294967295 (last_row s table + n) le (greatest_from 4294967295 (last_row s table) n (last_below s whole table rows cs ok 4294967295 le)) (greatest_to (last_row s table) n);
       less = never-less s (BulkAdd table rows cs) whole ok refl;
     }
-add_peaks s (Update table single rows ks) count e whole same v told = absurd same
-add_peaks s (Remove table single rows) count e whole same v told = absurd same
-add_peaks s (AddTable table cs) count e whole same v told = absurd same
-add_peaks s (RemoveTable table) count e whole same v told = absurd same
-add_peaks s (RenameTable table new) count e whole same v told = absurd same
-add_peaks s (AddColumn table c) count e whole same v told = absurd same
-add_peaks s (RemoveColumn table column) count e whole same v told = absurd same
-add_peaks s (RenameColumn table column new) count e whole same v told = absurd same
-add_peaks s (ModifyColumn table c) count e whole same v told = absurd same
+add_maxima s (Update table single rows ks) count e whole same v told = absurd same
+add_maxima s (Remove table single rows) count e whole same v told = absurd same
+add_maxima s (AddTable table cs) count e whole same v told = absurd same
+add_maxima s (RemoveTable table) count e whole same v told = absurd same
+add_maxima s (RenameTable table new) count e whole same v told = absurd same
+add_maxima s (AddColumn table c) count e whole same v told = absurd same
+add_maxima s (RemoveColumn table column) count e whole same v told = absurd same
+add_maxima s (RenameColumn table column new) count e whole same v told = absurd same
+add_maxima s (ModifyColumn table c) count e whole same v told = absurd same
 
 pub add_tables : (s : Document) (a : UserAction) (count : ℕ) → IsWhole s → AddsSo a count → all_valid s (map action_of (steps_of s a)) ≡ true → (counts s).tables ≡ (counts (after s a)).tables
-add_tables s (Add table single n explicit ks) count whole same v = sym (added_tables s whole table (numbers_after (last_row s table) n) (all_fitted s table ks) (and_parts (valid s (BulkAdd table (numbers_after (last_row s table) n) (all_fitted s table ks))) true v).0)
+add_tables s (Add table single n has_row_ids ks) count whole same v = sym (added_tables s whole table (numbers_after (last_row s table) n) (all_fitted s table ks) (and_parts (valid s (BulkAdd table (numbers_after (last_row s table) n) (all_fitted s table ks))) true v).0)
 add_tables s (Update table single rows ks) count whole same v = absurd same
 add_tables s (Remove table single rows) count whole same v = absurd same
 add_tables s (AddTable table cs) count whole same v = absurd same
@@ -203,7 +203,7 @@ add_tables s (RenameColumn table column new) count whole same v = absurd same
 add_tables s (ModifyColumn table c) count whole same v = absurd same
 
 pub add_last : (s : Document) (a : UserAction) (count : ℕ) → AddsSo a count → last_row s (table_of a) + count ≡ last_new_row s a
-add_last s (Add table single n explicit ks) count same = ap (λ m. last_row s table + m) same
+add_last s (Add table single n has_row_ids ks) count same = ap (λ m. last_row s table + m) same
 add_last s (Update table single rows ks) count same = absurd same
 add_last s (Remove table single rows) count same = absurd same
 add_last s (AddTable table cs) count same = absurd same
@@ -215,7 +215,7 @@ add_last s (RenameColumn table column new) count same = absurd same
 add_last s (ModifyColumn table c) count same = absurd same
 
 pub add_few : (s : Document) (a : UserAction) (count : ℕ) → AddsSo a count → length (steps_of s a) ≤ 1
-add_few s (Add table single n explicit ks) count same = omega arith
+add_few s (Add table single n has_row_ids ks) count same = omega arith
 add_few s (Update table single rows ks) count same = absurd same
 add_few s (Remove table single rows) count same = absurd same
 add_few s (AddTable table cs) count same = absurd same
@@ -228,7 +228,7 @@ add_few s (ModifyColumn table c) count same = absurd same
 
 -- an action that adds records is valid, whatever rows it comes to
 pub add_fresh : (s : Document) (a : UserAction) (count : ℕ) → AddsSo a count → Rattle.user_actions.specs.StepLaws.HasFresh s a
-add_fresh s (Add table single n explicit ks) count same = tt
+add_fresh s (Add table single n has_row_ids ks) count same = tt
 add_fresh s (Update table single rows ks) count same = absurd same
 add_fresh s (Remove table single rows) count same = absurd same
 add_fresh s (AddTable table cs) count same = absurd same

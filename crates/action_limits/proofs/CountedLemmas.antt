@@ -42,7 +42,7 @@ taken_all [] (suc i) h = refl
 taken_all (x ∷ xs) zero h = absurd (omega arith)
 taken_all (x ∷ xs) (suc i) h = ap (λ l. x ∷ l) (taken_all xs i (omega (arith, h)))
 
--- ---- a table at a place
+-- ---- a table at an index
 
 pub table_named : (s : Document) (i : ℕ) (id : List ℕ) → table_at s i ≡ Some id → id ≡ (table_in s i).id
 table_named s i id h = let t = table_read s i id h in t.2 ∙ ap table_id (sym (get_or_from_slice_get s i t.0 no_table t.1))

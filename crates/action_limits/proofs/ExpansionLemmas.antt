@@ -1,4 +1,4 @@
--- Sums and peaks after the steps of a user action, and what it comes to by them.
+-- Sums and maxima after the steps of a user action, and what it comes to by them.
 use Rattle.std.proofs.Common.{ℕ, Bool, true, false, cond, ◌&&◌, ◌+◌, ◌-◌, ◌^◌, ◌<◌, ◌≤◌, List, [], ◌∷◌, map, length, ◌≡◌, refl, sym, ap, ◌∙◌, Option, Some, None, arith, ltb}
 use Rattle.std.specs.Prelude.{nat_le}
 use Rattle.std.proofs.lemmas.Bool.{and_parts, false≢true, true≢false, le-ltb, ltb-false}
@@ -20,11 +20,11 @@ use Rattle.doc_model.specs.Valid.{passes, valid}
 use Rattle.doc_model.proofs.Choices.{both_true}
 use Rattle.doc_model.proofs.SchemaCounts.{counts-apply}
 use Rattle.action_limits.specs.declared.expansion.Expansion.{Expansion}
-use Rattle.action_limits.specs.declared.limits.Extent.{Extent}
+use Rattle.action_limits.specs.declared.limits.CountedMaxima.{CountedMaxima}
 use Rattle.action_limits.specs.declared.moves.Moved.{Moved}
 use Rattle.action_limits.specs.declared.tally.Tally.{Tally}
-use Rattle.action_limits.specs.Capped.{AreTaken, all_moved, both_noted, capped, has_named, is_there, moved_by, peaks_noted, settled}
-use Rattle.action_limits.specs.Left.{TellsPeaks}
+use Rattle.action_limits.specs.Capped.{AreTaken, all_moved, both_noted, capped, has_named, is_there, moved_by, maxima_noted, settled}
+use Rattle.action_limits.specs.Left.{TellsMaxima}
 use Rattle.user_actions.specs.StepLaws.{action_of}
 use Rattle.user_actions.specs.Steps.{steps_of}
 use Rattle.action_limits.specs.Tallies.{IsExpansion, IsTally, after, are_within}
@@ -155,7 +155,7 @@ under c h =
     let wk : (ltb 268435456 c.weight ≡ false) × (◌≡◌ {A = Option LimitKind} None None) = none_chosen (ltb 268435456 c.weight) limit.Weight None nk.1 in
     record { tables = t.0; columns = ck.0; rows = rk.0; row_id = ik.0; cells = nk.0; weight = wk.0 }
 
-both_told : (s : Document) (m : Moved) (e : Extent) → TellsSums m s → TellsPeaks e s → first_passed (both_noted m e) ≡ over s
+both_told : (s : Document) (m : Moved) (e : CountedMaxima) → TellsSums m s → TellsMaxima e s → first_passed (both_noted m e) ≡ over s
 both_told s m e sums most = first_passed-same (both_noted m e) (counts s) (record {
   tables = ap (ltb 2048) sums.tables ∙ Rattle.action_limits.proofs.CountedLemmas.capped_above 2048 (counts s).tables (omega arith);
   columns = most.columns;
@@ -175,7 +175,7 @@ within_under : (c : Counts) → IsUnder c → true ≡ are_within c
 within_under c u = sym (both_true (nat_le c.columns 1024) (nat_le c.rows 1000000 && nat_le c.row_id 4294967295) (le_true 1024 c.columns u.columns)
     (both_true (nat_le c.rows 1000000) (nat_le c.row_id 4294967295) (le_true 1000000 c.rows u.rows) (le_true 4294967295 c.row_id u.row_id)))
 
-pub settled_is : (s : Document) (a : UserAction) (m : Moved) (e : Extent) → all_valid s (map action_of (steps_of s a)) ≡ true → TellsSums m (after s a) → TellsPeaks e (after s a) → IsExpansion s a (settled (steps_of s a) m e)
+pub settled_is : (s : Document) (a : UserAction) (m : Moved) (e : CountedMaxima) → all_valid s (map action_of (steps_of s a)) ≡ true → TellsSums m (after s a) → TellsMaxima e (after s a) → IsExpansion s a (settled (steps_of s a) m e)
 settled_is s a m e v sums most =
     let same : first_passed (both_noted m e) ≡ over (after s a) = both_told (after s a) m e sums most in
     elim (first_passed (both_noted m e)) as (λ o. first_passed (both_noted m e) ≡ o → IsExpansion s a (elim o as (λ _. Expansion) [
@@ -223,7 +223,7 @@ chosen_early false false true i n w kind h = h
 chosen_early false false false true n w kind h = h
 chosen_early false false false false n w kind h = absurd (cc)
 
-pub early_is : (s : Document) (m : Moved) (e : Extent) (kind : LimitKind) → ltb 2048 m.tables ≡ ltb 2048 (counts s).tables → TellsPeaks e s → first_passed (peaks_noted m e) ≡ Some kind → over s ≡ Some kind
+pub early_is : (s : Document) (m : Moved) (e : CountedMaxima) (kind : LimitKind) → ltb 2048 m.tables ≡ ltb 2048 (counts s).tables → TellsMaxima e s → first_passed (maxima_noted m e) ≡ Some kind → over s ≡ Some kind
 early_is s m e kind tables most h =
     chosen_early (ltb 2048 (counts s).tables) (ltb 1024 (counts s).columns) (ltb 1000000 (counts s).rows) (ltb 4294967295 (counts s).row_id) (ltb 4000000 (counts s).cells) (ltb 268435456 (counts s).weight) kind
     (sym (ap (λ b. chosen b (ltb 1024 e.columns) (ltb 1000000 e.rows) (ltb 4294967295 e.row_id) false false) tables
@@ -231,5 +231,5 @@ early_is s m e kind tables most h =
     ∙ ap (λ b. chosen (ltb 2048 (counts s).tables) (ltb 1024 (counts s).columns) b (ltb 4294967295 e.row_id) false false) most.rows
     ∙ ap (λ b. chosen (ltb 2048 (counts s).tables) (ltb 1024 (counts s).columns) (ltb 1000000 (counts s).rows) b false false) most.row_id) ∙ h)
 
-pub early_row : (m : Moved) (e : Extent) → first_passed (peaks_noted m e) ≡ None → e.row_id ≤ 4294967295
-early_row m e h = ltb-false 4294967295 e.row_id (under (peaks_noted m e) h).row_id
+pub early_row : (m : Moved) (e : CountedMaxima) → first_passed (maxima_noted m e) ≡ None → e.row_id ≤ 4294967295
+early_row m e h = ltb-false 4294967295 e.row_id (under (maxima_noted m e) h).row_id

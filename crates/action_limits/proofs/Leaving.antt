@@ -17,23 +17,23 @@ use Rattle.doc_model.specs.Document.{Document, Table, table_id}
 use Rattle.doc_model.specs.DocumentLaws.{IsWhole}
 use Rattle.doc_model.specs.Grid.{Grid}
 use Rattle.doc_model.specs.MetadataIds.{columns_id, is_metadata_id, tables_id}
-use Rattle.doc_model.specs.PeakLaws.{AreGreatest, Peaks, at_schema, columns_then, peaks_after, peaks_then, row_of_column, rows_in, rows_out, rows_told, staying}
+use Rattle.doc_model.specs.MaximaLaws.{AreGreatest, Maxima, at_schema, columns_then, maxima_after, maxima_then, row_of_column, rows_in, rows_out, rows_told, staying}
 use Rattle.doc_model.specs.Rows.{without}
 use Rattle.doc_model.specs.Valid.{schema_table, valid}
 use Rattle.doc_model.proofs.ByIdsLaws.{found_has}
 use Rattle.doc_model.proofs.Choices.{each_weaker, length_map, map-map, map_each}
 use Rattle.doc_model.proofs.DocumentParts.{passes_parts}
-use Rattle.doc_model.proofs.SchemaPeaks.{peaks-apply, rows-left}
+use Rattle.doc_model.proofs.SchemaMaxima.{maxima-apply, rows-left}
 use Rattle.doc_readers.specs.Parts.{grid_at}
 use Rattle.user_actions.specs.StepLaws.{action_of}
 use Rattle.user_actions.specs.Steps.{row_ids, steps_of}
-use Rattle.action_limits.specs.declared.limits.Extent.{Extent}
-use Rattle.action_limits.specs.Left.{TellsPeaks, columns_gone, columns_left, goes, number_at, rows_gone, rows_left, takes_away}
+use Rattle.action_limits.specs.declared.limits.CountedMaxima.{CountedMaxima}
+use Rattle.action_limits.specs.Left.{TellsMaxima, columns_gone, columns_left, goes, number_at, rows_gone, rows_left, takes_away}
 use Rattle.action_limits.specs.Tallies.{after}
 use Rattle.action_limits.proofs.AddMoves.{table_there}
 use Rattle.action_limits.proofs.CountedLemmas.{grid_found}
 use Rattle.action_limits.proofs.ExpansionLemmas.{has_named-valid}
-use Rattle.action_limits.proofs.PeakMoves.{IsBelow, is_growing, no_new_rows, no_new_table, stays-below}
+use Rattle.action_limits.proofs.MaximaMoves.{IsBelow, is_growing, no_new_rows, no_new_table, stays-below}
 use Rattle.action_limits.proofs.SumLemmas.{greatest-cons}
 
 -- ---- the tables that stay
@@ -80,7 +80,7 @@ column_goes s table column id v =
     ap (λ xs. length (at_schema id [] xs)) (told_of s table parts.0 (row_of_column column) (plain_found s table parts.0 parts.1.0) ∙ ap (λ (o : Option ColDef). elim o as (λ _. List ℕ) [ None ↦ [] | Some d ↦ d.row ∷ [] ]) d.1)
     ∙ length-at id [] (d.0.row ∷ [])
 
--- ---- the peaks after such an action
+-- ---- the maxima after such an action
 
 less_by : (left out all gone : ℕ) → left + out ≡ all → out ≡ gone → left ≡ all - gone
 less_by left out all gone e is = omega arith
@@ -88,13 +88,13 @@ less_by left out all gone e is = omega arith
 module _ (s : Document) (whole : IsWhole s) (a : UserAction) (x : DocAction) (v : valid s x ≡ true) (shrinks : is_growing x ≡ false) (rows_go : (id : List ℕ) → length (rows_out s x id) ≡ rows_gone s a id)
     (columns_go : (t : Table) → columns_then x t ≡ length t.grid.columns - columns_gone a t.id)
     (stay : (f : Table → ℕ) → greatest (map f (staying x s)) ≡ greatest (map (λ t. cond (goes a t.id) 0 (f t)) s)) where
-  part_left : (f : Peaks → ℕ) (h : Table → ℕ) → AllByRecursion (λ t. f (peaks_then s x t) ≡ h t) s → greatest (map f (peaks_after s x)) ≡ greatest (map (λ t. cond (goes a t.id) 0 (h t)) s)
+  part_left : (f : Maxima → ℕ) (h : Table → ℕ) → AllByRecursion (λ t. f (maxima_then s x t) ≡ h t) s → greatest (map f (maxima_after s x)) ≡ greatest (map (λ t. cond (goes a t.id) 0 (h t)) s)
   part_left f h each =
-      ap (λ ps. greatest (map f (ps ++ map (peaks_then s x) (staying x s)))) (no_new_table x shrinks)
-      ∙ ap greatest (sym (map-map f (peaks_then s x) (staying x s)))
-      ∙ stay (λ t. f (peaks_then s x t))
-      ∙ ap greatest (map_each (λ t. cond (goes a t.id) 0 (f (peaks_then s x t))) (λ t. cond (goes a t.id) 0 (h t)) s
-      (each_weaker (λ t. f (peaks_then s x t) ≡ h t) (λ t. cond (goes a t.id) 0 (f (peaks_then s x t)) ≡ cond (goes a t.id) 0 (h t)) (λ t e. ap (cond (goes a t.id) 0) e) s each))
+      ap (λ ps. greatest (map f (ps ++ map (maxima_then s x) (staying x s)))) (no_new_table x shrinks)
+      ∙ ap greatest (sym (map-map f (maxima_then s x) (staying x s)))
+      ∙ stay (λ t. f (maxima_then s x t))
+      ∙ ap greatest (map_each (λ t. cond (goes a t.id) 0 (f (maxima_then s x t))) (λ t. cond (goes a t.id) 0 (h t)) s
+      (each_weaker (λ t. f (maxima_then s x t) ≡ h t) (λ t. cond (goes a t.id) 0 (f (maxima_then s x t)) ≡ cond (goes a t.id) 0 (h t)) (λ t e. ap (cond (goes a t.id) 0) e) s each))
 
   each_columns : (ts : List Table) → AllByRecursion (λ t. columns_then x t ≡ length t.grid.columns - columns_gone a t.id) ts
   each_columns [] = tt
@@ -105,37 +105,37 @@ module _ (s : Document) (whole : IsWhole s) (a : UserAction) (x : DocAction) (v 
       ap (λ ins. length (ins ++ without (rows_out s x t.id) t.grid.rows)) (no_new_rows x t.id shrinks)
       ∙ less_by (length (without (rows_out s x t.id) t.grid.rows)) (length (rows_out s x t.id)) (length t.grid.rows) (rows_gone s a t.id) e (rows_go t.id)
 
-  told_left : (e : Extent) → (counts s).row_id ≤ 4294967295 → e.columns ≡ greatest (map (columns_left a) s) → e.rows ≡ greatest (map (rows_left s a) s) → e.row_id ≡ 0 → TellsPeaks e (apply s x)
+  told_left : (e : CountedMaxima) → (counts s).row_id ≤ 4294967295 → e.columns ≡ greatest (map (columns_left a) s) → e.rows ≡ greatest (map (rows_left s a) s) → e.row_id ≡ 0 → TellsMaxima e (apply s x)
   told_left e small columns rows row_id =
-      let most : AreGreatest (counts (apply s x)) (peaks_after s x) = peaks-apply s x whole v in
+      let most : AreGreatest (counts (apply s x)) (maxima_after s x) = maxima-apply s x whole v in
       let below : IsBelow (apply s x) (counts s).columns (counts s).rows 4294967295
       = stays-below s x (counts s).columns (counts s).rows 4294967295 whole v shrinks (record { columns = omega arith; rows = omega arith; row_id = small }) in
       record {
-        columns = ap (ltb 1024) (columns ∙ sym (most.columns ∙ part_left (λ (p : Peaks). p.columns) (λ t. length t.grid.columns - columns_gone a t.id) (each_columns s)));
-        rows = ap (ltb 1000000) (rows ∙ sym (most.rows ∙ part_left (λ (p : Peaks). p.rows) (λ t. length t.grid.rows - rows_gone s a t.id)
-            (each_weaker (λ t. length (without (rows_out s x t.id) t.grid.rows) + length (rows_out s x t.id) ≡ length t.grid.rows) (λ t. (peaks_then s x t).rows ≡ length t.grid.rows - rows_gone s a t.id) row_count s (rows-left s x whole v))));
+        columns = ap (ltb 1024) (columns ∙ sym (most.columns ∙ part_left (λ (p : Maxima). p.columns) (λ t. length t.grid.columns - columns_gone a t.id) (each_columns s)));
+        rows = ap (ltb 1000000) (rows ∙ sym (most.rows ∙ part_left (λ (p : Maxima). p.rows) (λ t. length t.grid.rows - rows_gone s a t.id)
+            (each_weaker (λ t. length (without (rows_out s x t.id) t.grid.rows) + length (rows_out s x t.id) ≡ length t.grid.rows) (λ t. (maxima_then s x t).rows ≡ length t.grid.rows - rows_gone s a t.id) row_count s (rows-left s x whole v))));
         row_id = ap (ltb 4294967295) row_id ∙ sym (le-ltb 4294967295 (counts (apply s x)).row_id below.row_id);
       }
 
 no_column : (t : Table) → length t.grid.columns ≡ length t.grid.columns - 0
 no_column t = omega arith
 
--- what is left tells the peaks after an action that takes something away
-pub left_peaks : (s : Document) (a : UserAction) (e : Extent) → IsWhole s → takes_away a ≡ true → all_valid s (map action_of (steps_of s a)) ≡ true
-    → (counts s).row_id ≤ 4294967295 → e.columns ≡ greatest (map (columns_left a) s) → e.rows ≡ greatest (map (rows_left s a) s) → e.row_id ≡ 0 → TellsPeaks e (after s a)
-left_peaks s (Remove table single rows) e whole takes v =
+-- what is left tells the maxima after an action that takes something away
+pub left_maxima : (s : Document) (a : UserAction) (e : CountedMaxima) → IsWhole s → takes_away a ≡ true → all_valid s (map action_of (steps_of s a)) ≡ true
+    → (counts s).row_id ≤ 4294967295 → e.columns ≡ greatest (map (columns_left a) s) → e.rows ≡ greatest (map (rows_left s a) s) → e.row_id ≡ 0 → TellsMaxima e (after s a)
+left_maxima s (Remove table single rows) e whole takes v =
     let x : DocAction = action.BulkRemove table (row_ids rows) in
     told_left s whole (Remove table single rows) x (and_parts (valid s x) true v).0 refl (λ id. records_go table (row_ids rows) (length rows) id (length_map _ rows)) no_column (λ f. refl) e
-left_peaks s (RemoveTable table) e whole takes v =
+left_maxima s (RemoveTable table) e whole takes v =
     let ok : valid s (action.RemoveTable table) ≡ true = (and_parts (valid s (action.RemoveTable table)) true v).0 in
     told_left s whole (RemoveTable table) (action.RemoveTable table) ok refl (λ id. table_goes s table id ok) no_column (λ f. stay_told f table s) e
-left_peaks s (RemoveColumn table column) e whole takes v =
+left_maxima s (RemoveColumn table column) e whole takes v =
     let ok : valid s (action.RemoveColumn table column) ≡ true = (and_parts (valid s (action.RemoveColumn table column)) true v).0 in
     told_left s whole (RemoveColumn table column) (action.RemoveColumn table column) ok refl (λ id. column_goes s table column id ok) (λ t. refl) (λ f. refl) e
-left_peaks s (Add table single n explicit ks) e whole takes v = absurd (true≢false (sym takes))
-left_peaks s (Update table single rows ks) e whole takes v = absurd (true≢false (sym takes))
-left_peaks s (AddTable table cs) e whole takes v = absurd (true≢false (sym takes))
-left_peaks s (RenameTable table new) e whole takes v = absurd (true≢false (sym takes))
-left_peaks s (AddColumn table c) e whole takes v = absurd (true≢false (sym takes))
-left_peaks s (RenameColumn table column new) e whole takes v = absurd (true≢false (sym takes))
-left_peaks s (ModifyColumn table c) e whole takes v = absurd (true≢false (sym takes))
+left_maxima s (Add table single n has_row_ids ks) e whole takes v = absurd (true≢false (sym takes))
+left_maxima s (Update table single rows ks) e whole takes v = absurd (true≢false (sym takes))
+left_maxima s (AddTable table cs) e whole takes v = absurd (true≢false (sym takes))
+left_maxima s (RenameTable table new) e whole takes v = absurd (true≢false (sym takes))
+left_maxima s (AddColumn table c) e whole takes v = absurd (true≢false (sym takes))
+left_maxima s (RenameColumn table column new) e whole takes v = absurd (true≢false (sym takes))
+left_maxima s (ModifyColumn table c) e whole takes v = absurd (true≢false (sym takes))

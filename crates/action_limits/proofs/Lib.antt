@@ -1,7 +1,7 @@
 mod SumLemmas
 mod CountedLemmas
 mod SumMoves
-mod PeakMoves
+mod MaximaMoves
 mod Rising
 mod Leaving
 mod ExpansionLemmas

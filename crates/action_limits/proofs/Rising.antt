@@ -3,9 +3,9 @@ use Rattle.std.proofs.Common.{ℕ, true, false, ◌<◌, ◌≤◌, max, ◌≡�
 use Rattle.std.proofs.lemmas.Bool.{lt-ltb, le-ltb, ltb-true, ltb-false}
 use Rattle.doc_model.specs.Counts.{counts}
 use Rattle.doc_model.specs.Document.{Document}
-use Rattle.action_limits.specs.declared.limits.Extent.{Extent}
-use Rattle.action_limits.specs.Left.{TellsPeaks}
-use Rattle.action_limits.proofs.PeakMoves.{IsBelow}
+use Rattle.action_limits.specs.declared.limits.CountedMaxima.{CountedMaxima}
+use Rattle.action_limits.specs.Left.{TellsMaxima}
+use Rattle.action_limits.proofs.MaximaMoves.{IsBelow}
 
 -- numbers on the same side of a bound
 pub same_side : (b r n : ℕ) → n ≤ max b r → r ≤ max b n → ltb b r ≡ ltb b n
@@ -15,7 +15,7 @@ same_side b r n up low = elim (ltb b r) as (λ c. ltb b r ≡ c → c ≡ ltb b 
 ] refl
 
 -- what comes tells where no bound was passed before, and nothing was more before than after
-pub record TellsMore (e : Extent) (s s' : Document) : Type 0 where
+pub record TellsMore (e : CountedMaxima) (s s' : Document) : Type 0 where
   pub columns : (counts s).columns ≤ 1024 → ltb 1024 e.columns ≡ ltb 1024 (counts s').columns
   pub rows : (counts s).rows ≤ 1000000 → ltb 1000000 e.rows ≡ ltb 1000000 (counts s').rows
   pub row_id : (counts s).row_id ≤ 4294967295 → ltb 4294967295 e.row_id ≡ ltb 4294967295 (counts s').row_id
@@ -34,7 +34,7 @@ side_of_both b before e was most now told less more is = elim (ltb b was) as (λ
       same_side b most e (grind arith) (grind arith) ∙ more le
 ] refl
 
-pub most_told : (s s' : Document) (before e most : Extent) → TellsPeaks before s → TellsMore e s s' → most.columns ≡ max before.columns e.columns → most.rows ≡ max before.rows e.rows → most.row_id ≡ max before.row_id e.row_id → TellsPeaks most s'
+pub most_told : (s s' : Document) (before e most : CountedMaxima) → TellsMaxima before s → TellsMore e s s' → most.columns ≡ max before.columns e.columns → most.rows ≡ max before.rows e.rows → most.row_id ≡ max before.row_id e.row_id → TellsMaxima most s'
 most_told s s' before e most told more columns rows row_id = record {
   columns = side_of_both 1024 before.columns e.columns (counts s).columns most.columns (counts s').columns told.columns more.less.columns more.columns columns;
   rows = side_of_both 1000000 before.rows e.rows (counts s).rows most.rows (counts s').rows told.rows more.less.rows more.rows rows;

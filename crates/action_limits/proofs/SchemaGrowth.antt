@@ -19,27 +19,27 @@ use Rattle.doc_model.specs.Document.{Document, Table, table_id}
 use Rattle.doc_model.specs.DocumentLaws.{IsWhole}
 use Rattle.doc_model.specs.Grid.{Grid}
 use Rattle.doc_model.specs.MetadataIds.{columns_id, tables_id}
-use Rattle.doc_model.specs.PeakLaws.{AreGreatest, Peaks, at_schema, peaks_after, peaks_then}
+use Rattle.doc_model.specs.MaximaLaws.{AreGreatest, Maxima, at_schema, maxima_after, maxima_then}
 use Rattle.doc_model.specs.Rows.{without}
 use Rattle.doc_model.specs.Schema.{plain_tables, resources, rules, with_schema}
 use Rattle.doc_model.specs.Valid.{valid}
 use Rattle.doc_model.proofs.ByIdsLaws.{bytes_itself, found_all, found_id}
 use Rattle.doc_model.proofs.Choices.{each_both, each_weaker}
-use Rattle.doc_model.proofs.PeakSums.{without-none}
+use Rattle.doc_model.proofs.MaximaSums.{without-none}
 use Rattle.doc_model.proofs.SchemaCounts.{counts-apply}
-use Rattle.doc_model.proofs.SchemaPeaks.{peaks-apply}
+use Rattle.doc_model.proofs.SchemaMaxima.{maxima-apply}
 use Rattle.doc_model.proofs.WholeLaws.{tables_columns_apart}
 use Rattle.doc_readers.specs.Parts.{grid_at}
-use Rattle.action_limits.specs.declared.limits.Extent.{Extent}
+use Rattle.action_limits.specs.declared.limits.CountedMaxima.{CountedMaxima}
 use Rattle.action_limits.specs.Capped.{capped}
-use Rattle.action_limits.specs.Grown.{IsExtentDescribed, IsExtentGrown, grows_schema, new_tables}
+use Rattle.action_limits.specs.Grown.{AreMaximaDescribed, AreMaximaGrown, grows_schema, new_tables}
 use Rattle.user_actions.specs.StepLaws.{action_of}
 use Rattle.user_actions.specs.Steps.{column_said, last_new_row, last_row, new_columns, steps_of, table_said}
 use Rattle.action_limits.specs.Tallies.{after}
 use Rattle.action_limits.proofs.AddMoves.{found_below, grids_found, known_below, mapped_below, table_there}
 use Rattle.action_limits.proofs.CountedLemmas.{capped_above, grid_found}
 use Rattle.action_limits.proofs.ExpansionLemmas.{has_named-valid}
-use Rattle.action_limits.proofs.PeakMoves.{never-less}
+use Rattle.action_limits.proofs.MaximaMoves.{never-less}
 use Rattle.action_limits.proofs.Rising.{TellsMore, same_side}
 use Rattle.action_limits.proofs.SumLemmas.{greatest-append, greatest-cons}
 
@@ -146,29 +146,29 @@ capped_max m n = grind arith
 max_zero : (n : ℕ) → max 0 n ≡ n
 max_zero n = grind arith
 
--- the rows and row ids of a document whose peaks are those, one of which may be of no rows
-module _ (s : Document) (whole : IsWhole s) (xs ys : List ℕ) (h : Table → Peaks) (rows_are : (t : Table) → (h t).rows ≡ length (there s whole xs ys t)) (ids_are : (t : Table) → (h t).row_id ≡ greatest (there s whole xs ys t)) where
-  rows_side : (b n : ℕ) → (counts s).rows ≤ b → n ≡ greatest (map (λ (p : Peaks). p.rows) (map h s)) → ltb b (max (length (grid_at s tables_id).rows + length xs) (length (grid_at s columns_id).rows + length ys)) ≡ ltb b n
+-- the rows and row ids of a document whose maxima are those, one of which may be of no rows
+module _ (s : Document) (whole : IsWhole s) (xs ys : List ℕ) (h : Table → Maxima) (rows_are : (t : Table) → (h t).rows ≡ length (there s whole xs ys t)) (ids_are : (t : Table) → (h t).row_id ≡ greatest (there s whole xs ys t)) where
+  rows_side : (b n : ℕ) → (counts s).rows ≤ b → n ≡ greatest (map (λ (p : Maxima). p.rows) (map h s)) → ltb b (max (length (grid_at s tables_id).rows + length xs) (length (grid_at s columns_id).rows + length ys)) ≡ ltb b n
   rows_side b n le is =
       let m : ℕ = max (length (grid_at s tables_id).rows + length xs) (length (grid_at s columns_id).rows + length ys) in
-      let up : n ≤ max b m = subst (λ k. k ≤ max b m) (sym is) (mapped_below (λ (p : Peaks). p.rows) h (max b m) s
+      let up : n ≤ max b m = subst (λ k. k ≤ max b m) (sym is) (mapped_below (λ (p : Maxima). p.rows) h (max b m) s
       (each_weaker (λ t. length (there s whole xs ys t) ≤ max b m) (λ t. (h t).rows ≤ max b m) (λ t k. subst (λ q. q ≤ max b m) (sym (rows_are t)) k) s (rows_each s whole xs ys b le))) in
       let one : (t : Table) × (find_id table_id tables_id s ≡ Some t) = tables_found s whole in
       let two : (t : Table) × (find_id table_id columns_id s ≡ Some t) = columns_found s whole in
-      let first : (h one.0).rows ≤ n = subst (λ k. (h one.0).rows ≤ k) (sym is) (found_below (λ (p : Peaks). p.rows) h s tables_id one.0 one.1) in
-      let second : (h two.0).rows ≤ n = subst (λ k. (h two.0).rows ≤ k) (sym is) (found_below (λ (p : Peaks). p.rows) h s columns_id two.0 two.1) in
+      let first : (h one.0).rows ≤ n = subst (λ k. (h one.0).rows ≤ k) (sym is) (found_below (λ (p : Maxima). p.rows) h s tables_id one.0 one.1) in
+      let second : (h two.0).rows ≤ n = subst (λ k. (h two.0).rows ≤ k) (sym is) (found_below (λ (p : Maxima). p.rows) h s columns_id two.0 two.1) in
       let e : (h one.0).rows ≡ length (grid_at s tables_id).rows + length xs = rows_are one.0 ∙ rows_first s whole xs ys one.0 one.1 in
       let f : (h two.0).rows ≡ length (grid_at s columns_id).rows + length ys = rows_are two.0 ∙ rows_second s whole xs ys two.0 two.1 in
       same_side b m n up (grind arith)
 
-  ids_side : (b m n : ℕ) → (counts s).row_id ≤ b → n ≡ greatest (map (λ (p : Peaks). p.row_id) (map h s)) → greatest xs ≤ m → greatest ys ≤ m → m ≤ max b (max (greatest xs) (greatest ys)) → ltb b m ≡ ltb b n
+  ids_side : (b m n : ℕ) → (counts s).row_id ≤ b → n ≡ greatest (map (λ (p : Maxima). p.row_id) (map h s)) → greatest xs ≤ m → greatest ys ≤ m → m ≤ max b (max (greatest xs) (greatest ys)) → ltb b m ≡ ltb b n
   ids_side b m n le is small_xs small_ys from =
-      let up : n ≤ max b m = subst (λ k. k ≤ max b m) (sym is) (mapped_below (λ (p : Peaks). p.row_id) h (max b m) s
+      let up : n ≤ max b m = subst (λ k. k ≤ max b m) (sym is) (mapped_below (λ (p : Maxima). p.row_id) h (max b m) s
       (each_weaker (λ t. greatest (there s whole xs ys t) ≤ max b m) (λ t. (h t).row_id ≤ max b m) (λ t k. subst (λ q. q ≤ max b m) (sym (ids_are t)) k) s (ids_each s whole xs ys b m le small_xs small_ys))) in
       let one : (t : Table) × (find_id table_id tables_id s ≡ Some t) = tables_found s whole in
       let two : (t : Table) × (find_id table_id columns_id s ≡ Some t) = columns_found s whole in
-      let first : (h one.0).row_id ≤ n = subst (λ k. (h one.0).row_id ≤ k) (sym is) (found_below (λ (p : Peaks). p.row_id) h s tables_id one.0 one.1) in
-      let second : (h two.0).row_id ≤ n = subst (λ k. (h two.0).row_id ≤ k) (sym is) (found_below (λ (p : Peaks). p.row_id) h s columns_id two.0 two.1) in
+      let first : (h one.0).row_id ≤ n = subst (λ k. (h one.0).row_id ≤ k) (sym is) (found_below (λ (p : Maxima). p.row_id) h s tables_id one.0 one.1) in
+      let second : (h two.0).row_id ≤ n = subst (λ k. (h two.0).row_id ≤ k) (sym is) (found_below (λ (p : Maxima). p.row_id) h s columns_id two.0 two.1) in
       let e : greatest xs ≤ (h one.0).row_id = subst (λ k. greatest xs ≤ k) (sym (ids_are one.0)) (ids_first s whole xs ys one.0 one.1) in
       let f : greatest ys ≤ (h two.0).row_id = subst (λ k. greatest ys ≤ k) (sym (ids_are two.0)) (ids_second s whole xs ys two.0 two.1) in
       same_side b m n up (grind arith)
@@ -195,21 +195,21 @@ greatest-new_columns b taken row (c ∷ cs) =
 
 -- ---- the two actions
 
-table_peaks : (s : Document) (table : List ℕ) (cs : List UserCol) (e : Extent) → IsWhole s → valid s (table_said s table cs) ≡ true → IsExtentDescribed s (length cs) 1 (length cs) e → TellsMore e s (apply s (table_said s table cs))
-table_peaks s table cs e whole v told =
+table_maxima : (s : Document) (table : List ℕ) (cs : List UserCol) (e : CountedMaxima) → IsWhole s → valid s (table_said s table cs) ≡ true → AreMaximaDescribed s (length cs) 1 (length cs) e → TellsMore e s (apply s (table_said s table cs))
+table_maxima s table cs e whole v told =
     let act : DocAction = table_said s table cs in
     let ds : List ColDef = new_columns [] (last_row s columns_id) cs in
     let xs : List ℕ = (last_row s tables_id + 1) ∷ [] in
     let ys : List ℕ = map column_row ds in
-    let most : AreGreatest (counts (apply s act)) (peaks_after s act) = peaks-apply s act whole v in
+    let most : AreGreatest (counts (apply s act)) (maxima_after s act) = maxima-apply s act whole v in
     let wide : length ds ≡ length cs = length-new_columns [] (last_row s columns_id) cs in
     let many : length ys ≡ length cs = length-rows ds ∙ wide in
-    let gc : ℕ = greatest (map (λ (p : Peaks). p.columns) (map (peaks_then s act) s)) in
-    let gr : ℕ = greatest (map (λ (p : Peaks). p.rows) (map (peaks_then s act) s)) in
-    let gi : ℕ = greatest (map (λ (p : Peaks). p.row_id) (map (peaks_then s act) s)) in
-    let columns_told : (counts (apply s act)).columns ≡ max (length ds) gc = most.columns ∙ greatest-cons (length ds) (map (λ (p : Peaks). p.columns) (map (peaks_then s act) s)) in
-    let rows_told : (counts (apply s act)).rows ≡ gr = most.rows ∙ greatest-cons 0 (map (λ (p : Peaks). p.rows) (map (peaks_then s act) s)) ∙ max_zero gr in
-    let ids_told : (counts (apply s act)).row_id ≡ gi = most.row_id ∙ greatest-cons 0 (map (λ (p : Peaks). p.row_id) (map (peaks_then s act) s)) ∙ max_zero gi in
+    let gc : ℕ = greatest (map (λ (p : Maxima). p.columns) (map (maxima_then s act) s)) in
+    let gr : ℕ = greatest (map (λ (p : Maxima). p.rows) (map (maxima_then s act) s)) in
+    let gi : ℕ = greatest (map (λ (p : Maxima). p.row_id) (map (maxima_then s act) s)) in
+    let columns_told : (counts (apply s act)).columns ≡ max (length ds) gc = most.columns ∙ greatest-cons (length ds) (map (λ (p : Maxima). p.columns) (map (maxima_then s act) s)) in
+    let rows_told : (counts (apply s act)).rows ≡ gr = most.rows ∙ greatest-cons 0 (map (λ (p : Maxima). p.rows) (map (maxima_then s act) s)) ∙ max_zero gr in
+    let ids_told : (counts (apply s act)).row_id ≡ gi = most.row_id ∙ greatest-cons 0 (map (λ (p : Maxima). p.row_id) (map (maxima_then s act) s)) ∙ max_zero gi in
     let one : (t : Table) × (find_id table_id columns_id s ≡ Some t) = columns_found s whole in
     let facts : (greatest ys ≤ last_row s columns_id + length cs) × (last_row s columns_id ≤ 4294967295 → last_row s columns_id + length cs ≤ max 4294967295 (greatest ys)) = greatest-new_columns 4294967295 [] (last_row s columns_id) cs in
     let up : greatest ys ≤ last_row s columns_id + length cs = facts.0 in
@@ -217,31 +217,31 @@ table_peaks s table cs e whole v told =
     let last : ℕ = max (last_row s tables_id + 1) (last_row s columns_id + length cs) in
     record {
       columns = λ le.
-          let old_wide : gc ≤ 1024 = mapped_below (λ (p : Peaks). p.columns) (peaks_then s act) 1024 s (known_below s (λ (t : Table). length t.grid.columns) 1024 le) in
+          let old_wide : gc ≤ 1024 = mapped_below (λ (p : Maxima). p.columns) (maxima_then s act) 1024 s (known_below s (λ (t : Table). length t.grid.columns) 1024 le) in
           ap (ltb 1024) told.columns ∙ same_side 1024 (length cs) (counts (apply s act)).columns (grind arith) (grind arith);
       rows = λ le. ap (ltb 1000000) (told.rows ∙ capped_max (length (grid_at s tables_id).rows + 1) (length (grid_at s columns_id).rows + length cs))
           ∙ capped_above 1000000 (max (length (grid_at s tables_id).rows + 1) (length (grid_at s columns_id).rows + length cs)) (omega arith)
           ∙ ap (λ n. ltb 1000000 (max (length (grid_at s tables_id).rows + 1) (length (grid_at s columns_id).rows + n))) (sym many)
-          ∙ rows_side s whole xs ys (peaks_then s act) (λ t. refl) (λ t. refl) 1000000 (counts (apply s act)).rows le rows_told;
+          ∙ rows_side s whole xs ys (maxima_then s act) (λ t. refl) (λ t. refl) 1000000 (counts (apply s act)).rows le rows_told;
       row_id = λ le.
           let low : last_row s columns_id + length cs ≤ max 4294967295 (greatest ys) = facts.1 (last_below s columns_id one.0 one.1 4294967295 le) in
           ap (ltb 4294967295) (told.row_id ∙ capped_max (last_row s tables_id + 1) (last_row s columns_id + length cs))
           ∙ capped_above 4294967295 last (omega arith)
-          ∙ ids_side s whole xs ys (peaks_then s act) (λ t. refl) (λ t. refl) 4294967295 last (counts (apply s act)).row_id le ids_told (grind arith) (grind arith) (grind arith);
+          ∙ ids_side s whole xs ys (maxima_then s act) (λ t. refl) (λ t. refl) 4294967295 last (counts (apply s act)).row_id le ids_told (grind arith) (grind arith) (grind arith);
       less = never-less s act whole v refl;
     }
 
-column_peaks : (s : Document) (table : List ℕ) (d : ColDef) (e : Extent) → IsWhole s → valid s (action.AddColumn table d) ≡ true → d.row ≡ last_row s columns_id + 1
-    → IsExtentDescribed s (capped (length (grid_at s table).columns + 1)) 0 1 e → TellsMore e s (apply s (action.AddColumn table d))
-column_peaks s table d e whole v row told =
+column_maxima : (s : Document) (table : List ℕ) (d : ColDef) (e : CountedMaxima) → IsWhole s → valid s (action.AddColumn table d) ≡ true → d.row ≡ last_row s columns_id + 1
+    → AreMaximaDescribed s (capped (length (grid_at s table).columns + 1)) 0 1 e → TellsMore e s (apply s (action.AddColumn table d))
+column_maxima s table d e whole v row told =
     let act : DocAction = action.AddColumn table d in
     let ys : List ℕ = d.row ∷ [] in
-    let most : AreGreatest (counts (apply s act)) (peaks_after s act) = peaks-apply s act whole v in
+    let most : AreGreatest (counts (apply s act)) (maxima_after s act) = maxima-apply s act whole v in
     let mine : (t : Table) × (find_id table_id table s ≡ Some t) = table_there s table (has_named-valid s act v) in
     let n : ℕ = length (grid_at s table).columns + 1 in
     let one : (t : Table) × (find_id table_id tables_id s ≡ Some t) = tables_found s whole in
     let here : length mine.0.grid.columns + cond (bytes_eq mine.0.id table) 1 0 ≤ (counts (apply s act)).columns
-    = subst (λ k. length mine.0.grid.columns + cond (bytes_eq mine.0.id table) 1 0 ≤ k) (sym most.columns) (found_below (λ (p : Peaks). p.columns) (peaks_then s act) s table mine.0 mine.1) in
+    = subst (λ k. length mine.0.grid.columns + cond (bytes_eq mine.0.id table) 1 0 ≤ k) (sym most.columns) (found_below (λ (p : Maxima). p.columns) (maxima_then s act) s table mine.0 mine.1) in
     let is : ◌≡◌ {A = ℕ} (cond (bytes_eq mine.0.id table) 1 0) 1 = ap (λ c. let k : ℕ = cond c 1 0 in k) (ap (λ n. bytes_eq n table) (found_id table_id table s mine.0 mine.1) ∙ bytes_itself table) in
     let own : length (grid_at s table).columns ≡ length mine.0.grid.columns = ap (λ (g : Grid ColDef). length g.columns) (grid_found s table mine.0 mine.1) in
     let low : n ≤ (counts (apply s act)).columns = omega (arith, here, is, own) in
@@ -249,20 +249,20 @@ column_peaks s table d e whole v row told =
     let last : ℕ = max (last_row s tables_id + 0) (last_row s columns_id + 1) in
     record {
       columns = λ le.
-          let up : (counts (apply s act)).columns ≤ max 1024 n = subst (λ k. k ≤ max 1024 n) (sym most.columns) (mapped_below (λ (p : Peaks). p.columns) (peaks_then s act) (max 1024 n) s
+          let up : (counts (apply s act)).columns ≤ max 1024 n = subst (λ k. k ≤ max 1024 n) (sym most.columns) (mapped_below (λ (p : Maxima). p.columns) (maxima_then s act) (max 1024 n) s
           (each_weaker (λ t. (length t.grid.columns ≤ 1024) × (bytes_eq t.id table ≡ true → grid_at s table ≡ t.grid)) (λ t. length t.grid.columns + cond (bytes_eq t.id table) 1 0 ≤ max 1024 n) (λ t k. columns_one s table t k.0 k.1) s
           (each_both (λ t. length t.grid.columns ≤ 1024) (λ t. bytes_eq t.id table ≡ true → grid_at s table ≡ t.grid) s (known_below s (λ (t : Table). length t.grid.columns) 1024 le) (grids_found s whole table)))) in
           ap (ltb 1024) told.columns ∙ capped_above 1024 n (omega arith) ∙ same_side 1024 n (counts (apply s act)).columns up (grind arith);
       rows = λ le. ap (ltb 1000000) (told.rows ∙ capped_max (length (grid_at s tables_id).rows + 0) (length (grid_at s columns_id).rows + 1))
           ∙ capped_above 1000000 (max (length (grid_at s tables_id).rows + 0) (length (grid_at s columns_id).rows + 1)) (omega arith)
-          ∙ rows_side s whole [] ys (peaks_then s act) (λ t. refl) (λ t. refl) 1000000 (counts (apply s act)).rows le most.rows;
+          ∙ rows_side s whole [] ys (maxima_then s act) (λ t. refl) (λ t. refl) 1000000 (counts (apply s act)).rows le most.rows;
       row_id = λ le.
           let first : last_row s tables_id ≤ 4294967295 = last_below s tables_id one.0 one.1 4294967295 le in
           let mid : ltb 4294967295 last ≡ ltb 4294967295 (last_row s columns_id + 1) = same_side 4294967295 last (last_row s columns_id + 1) (grind arith) (grind arith) in
           ap (ltb 4294967295) (told.row_id ∙ capped_max (last_row s tables_id + 0) (last_row s columns_id + 1))
           ∙ capped_above 4294967295 last (omega arith)
           ∙ mid
-          ∙ ids_side s whole [] ys (peaks_then s act) (λ t. refl) (λ t. refl) 4294967295 (last_row s columns_id + 1) (counts (apply s act)).row_id le most.row_id (omega arith) (grind arith) (grind arith);
+          ∙ ids_side s whole [] ys (maxima_then s act) (λ t. refl) (λ t. refl) 4294967295 (last_row s columns_id + 1) (counts (apply s act)).row_id le most.row_id (omega arith) (grind arith) (grind arith);
       less = never-less s act whole v refl;
     }
   where
@@ -273,17 +273,17 @@ column_peaks s table d e whole v row told =
       | false ↦ λ _. grind arith
     ] refl
 
-pub grown_peaks : (s : Document) (a : UserAction) (e : Extent) → IsWhole s → grows_schema a ≡ true → all_valid s (map action_of (steps_of s a)) ≡ true → IsExtentGrown s a e → TellsMore e s (after s a)
-grown_peaks s (AddTable table cs) e whole grows v told = table_peaks s table cs e whole (and_parts (valid s (table_said s table cs)) true v).0 told
-grown_peaks s (AddColumn table c) e whole grows v told = column_peaks s table (column_said s table c) e whole (and_parts (valid s (action.AddColumn table (column_said s table c))) true v).0 refl told
-grown_peaks s (Add table single n explicit ks) e whole grows v told = absurd (true≢false (sym grows))
-grown_peaks s (Update table single rows ks) e whole grows v told = absurd (true≢false (sym grows))
-grown_peaks s (Remove table single rows) e whole grows v told = absurd (true≢false (sym grows))
-grown_peaks s (RemoveTable table) e whole grows v told = absurd (true≢false (sym grows))
-grown_peaks s (RenameTable table new) e whole grows v told = absurd (true≢false (sym grows))
-grown_peaks s (RemoveColumn table column) e whole grows v told = absurd (true≢false (sym grows))
-grown_peaks s (RenameColumn table column new) e whole grows v told = absurd (true≢false (sym grows))
-grown_peaks s (ModifyColumn table c) e whole grows v told = absurd (true≢false (sym grows))
+pub grown_maxima : (s : Document) (a : UserAction) (e : CountedMaxima) → IsWhole s → grows_schema a ≡ true → all_valid s (map action_of (steps_of s a)) ≡ true → AreMaximaGrown s a e → TellsMore e s (after s a)
+grown_maxima s (AddTable table cs) e whole grows v told = table_maxima s table cs e whole (and_parts (valid s (table_said s table cs)) true v).0 told
+grown_maxima s (AddColumn table c) e whole grows v told = column_maxima s table (column_said s table c) e whole (and_parts (valid s (action.AddColumn table (column_said s table c))) true v).0 refl told
+grown_maxima s (Add table single n has_row_ids ks) e whole grows v told = absurd (true≢false (sym grows))
+grown_maxima s (Update table single rows ks) e whole grows v told = absurd (true≢false (sym grows))
+grown_maxima s (Remove table single rows) e whole grows v told = absurd (true≢false (sym grows))
+grown_maxima s (RemoveTable table) e whole grows v told = absurd (true≢false (sym grows))
+grown_maxima s (RenameTable table new) e whole grows v told = absurd (true≢false (sym grows))
+grown_maxima s (RemoveColumn table column) e whole grows v told = absurd (true≢false (sym grows))
+grown_maxima s (RenameColumn table column new) e whole grows v told = absurd (true≢false (sym grows))
+grown_maxima s (ModifyColumn table c) e whole grows v told = absurd (true≢false (sym grows))
 
 -- how many tables there are after it
 pub grown_tables : (s : Document) (a : UserAction) → IsWhole s → grows_schema a ≡ true → all_valid s (map action_of (steps_of s a)) ≡ true → (counts (after s a)).tables ≡ (counts s).tables + new_tables a
@@ -297,7 +297,7 @@ grown_tables s (AddColumn table c) whole grows v =
     let none : (come s act).tables ≡ 0 = elim (find_id table_id table s) as (λ (o : Option Table). (elim o as (λ _. Sums) [ None ↦ nothing | Some t ↦ record { tables = 0; cells = length t.grid.rows; weight = 0 } ]).tables ≡ 0) [ None ↦ refl | Some t ↦ refl ] in
     let sums : (counts (apply s act)).tables + 0 ≡ (counts s).tables + (come s act).tables = moved.tables in
     omega (arith, sums, none)
-grown_tables s (Add table single n explicit ks) whole grows v = absurd (true≢false (sym grows))
+grown_tables s (Add table single n has_row_ids ks) whole grows v = absurd (true≢false (sym grows))
 grown_tables s (Update table single rows ks) whole grows v = absurd (true≢false (sym grows))
 grown_tables s (Remove table single rows) whole grows v = absurd (true≢false (sym grows))
 grown_tables s (RemoveTable table) whole grows v = absurd (true≢false (sym grows))
@@ -309,11 +309,11 @@ grown_tables s (ModifyColumn table c) whole grows v = absurd (true≢false (sym 
 last_capped : (m n e : ℕ) → e ≡ max (capped m) (capped n) → 4294967295 < max m n → 4294967295 < e
 last_capped m n e is past = grind arith
 
--- a new row past the last row id is seen by the peaks
-pub grown_last : (s : Document) (a : UserAction) (e : Extent) → grows_schema a ≡ true → IsExtentGrown s a e → 4294967295 < last_new_row s a → 4294967295 < e.row_id
+-- a new row past the last row id is seen by the maxima
+pub grown_last : (s : Document) (a : UserAction) (e : CountedMaxima) → grows_schema a ≡ true → AreMaximaGrown s a e → 4294967295 < last_new_row s a → 4294967295 < e.row_id
 grown_last s (AddTable table cs) e grows told past = last_capped (last_row s tables_id + 1) (last_row s columns_id + length cs) e.row_id told.row_id past
 grown_last s (AddColumn table c) e grows told past = last_capped (last_row s tables_id + 0) (last_row s columns_id + 1) e.row_id told.row_id (grind arith)
-grown_last s (Add table single n explicit ks) e grows told past = absurd (true≢false (sym grows))
+grown_last s (Add table single n has_row_ids ks) e grows told past = absurd (true≢false (sym grows))
 grown_last s (Update table single rows ks) e grows told past = absurd (true≢false (sym grows))
 grown_last s (Remove table single rows) e grows told past = absurd (true≢false (sym grows))
 grown_last s (RemoveTable table) e grows told past = absurd (true≢false (sym grows))
@@ -325,7 +325,7 @@ grown_last s (ModifyColumn table c) e grows told past = absurd (true≢false (sy
 pub grown_few : (s : Document) (a : UserAction) → grows_schema a ≡ true → length (steps_of s a) ≤ 1
 grown_few s (AddTable table cs) grows = omega arith
 grown_few s (AddColumn table c) grows = omega arith
-grown_few s (Add table single n explicit ks) grows = absurd (true≢false (sym grows))
+grown_few s (Add table single n has_row_ids ks) grows = absurd (true≢false (sym grows))
 grown_few s (Update table single rows ks) grows = absurd (true≢false (sym grows))
 grown_few s (Remove table single rows) grows = absurd (true≢false (sym grows))
 grown_few s (RemoveTable table) grows = absurd (true≢false (sym grows))

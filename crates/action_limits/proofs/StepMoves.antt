@@ -1,4 +1,4 @@
--- Sums and peaks after the steps of an action that makes no rows.
+-- Sums and maxima after the steps of an action that makes no rows.
 use Rattle.std.proofs.Common.{ℕ, Bool, true, false, cond, not, ◌&&◌, ◌||◌, ◌+◌, ◌-◌, ◌^◌, ◌<◌, ◌≤◌, List, [], ◌∷◌, map, length, ◌≡◌, refl, sym, ap, subst, ◌∙◌, Option, Some, None, arith, ltb}
 use Rattle.std.proofs.lemmas.Bool.{and_parts, false≢true, true≢false, le-ltb}
 use Rattle.std.specs.List.{list_all}
@@ -34,16 +34,16 @@ use Rattle.doc_model.proofs.SchemaCounts.{counts-apply}
 use Rattle.doc_model.proofs.TotalsLaws.{sum_of}
 use Rattle.doc_model.proofs.WholeLaws.{IsPlain}
 use Rattle.doc_readers.specs.Parts.{grid_at}
-use Rattle.action_limits.specs.declared.limits.Extent.{Extent}
+use Rattle.action_limits.specs.declared.limits.CountedMaxima.{CountedMaxima}
 use Rattle.action_limits.specs.declared.moves.Moved.{Moved}
 use Rattle.action_limits.specs.Capped.{all_moved, capped, has_named, is_there, moved_by, no_more}
-use Rattle.action_limits.specs.Left.{TellsPeaks, takes_away}
+use Rattle.action_limits.specs.Left.{TellsMaxima, takes_away}
 use Rattle.user_actions.specs.Kinds.{makes_rows}
 use Rattle.user_actions.specs.StepLaws.{action_of}
 use Rattle.user_actions.specs.Steps.{all_fitted, column_refitted, direct, indirect, info_said, retyped, row_ids, rows_changed, steps_of}
 use Rattle.action_limits.specs.Tallies.{after}
 use Rattle.action_limits.proofs.ExpansionLemmas.{IsExact, TellsSums, any_there, any_told, has_named-valid, none_told, one_told}
-use Rattle.action_limits.proofs.PeakMoves.{IsBelow, SamePeaks, is_growing, is_quiet, is_taking, peaks-quiet, stays-below}
+use Rattle.action_limits.proofs.MaximaMoves.{IsBelow, SamePeaks, is_growing, is_quiet, is_taking, maxima-quiet, stays-below}
 
 -- ---- a column of another info, and then its cells
 
@@ -162,7 +162,7 @@ few_unless true x = omega arith
 few_unless false x = omega arith
 
 pub other_told : (s : Document) (a : UserAction) (m : Moved) → IsWhole s → makes_rows a ≡ false → IsExact m s → all_valid s (map action_of (steps_of s a)) ≡ true → TellsSteps s m (steps_of s a)
-other_told s (Add table single count explicit ks) m whole other exact v = absurd (true≢false other)
+other_told s (Add table single count has_row_ids ks) m whole other exact v = absurd (true≢false other)
 other_told s (Update table single rows ks) m whole other exact v = any_steps s m (steps_of s (Update table single rows ks)) (few_if_any (row_ids rows) (direct (action.BulkUpdate table (row_ids rows) (all_fitted s table ks)))) whole exact v
 other_told s (Remove table single rows) m whole other exact v = any_steps s m (steps_of s (Remove table single rows)) (omega arith) whole exact v
 other_told s (AddTable table cs) m whole other exact v = absurd (true≢false other)
@@ -180,9 +180,9 @@ other_told s (ModifyColumn table c) m whole other exact v =
           (pair_told s m whole exact table d.id (info_said d.info.ty c) refl (rows_changed g d.id (info_said d.info.ty c).ty) (column_refitted g d.id (info_said d.info.ty c).ty (rows_changed g d.id (info_said d.info.ty c).ty) ∷ []) (rows_changed g d.id (info_said d.info.ty c).ty))
     ] v
 
--- ---- and the peaks
+-- ---- and the maxima
 
-pub none_past : (s : Document) → IsBelow s 1024 1000000 4294967295 → TellsPeaks no_more s
+pub none_past : (s : Document) → IsBelow s 1024 1000000 4294967295 → TellsMaxima no_more s
 none_past s below = record {
   columns = sym (le-ltb 1024 (counts s).columns below.columns);
   rows = sym (le-ltb 1000000 (counts s).rows below.rows);
@@ -211,7 +211,7 @@ same_all s [] whole v fit = record { columns = refl; rows = refl; row_id = refl 
 same_all s (x ∷ steps) whole v fit =
     let parts : (valid s x.action ≡ true) × (all_valid (apply s x.action) (map action_of steps) ≡ true) = and_parts (valid s x.action) (all_valid (apply s x.action) (map action_of steps)) v in
     let each : (is_quiet x.action ≡ true) × (list_all (fits_kind false) steps ≡ true) = and_parts (is_quiet x.action) (list_all (fits_kind false) steps) fit in
-    let one : SamePeaks s (apply s x.action) = peaks-quiet s x.action whole parts.0 each.0 in
+    let one : SamePeaks s (apply s x.action) = maxima-quiet s x.action whole parts.0 each.0 in
     let others : SamePeaks (apply s x.action) (apply_all (apply s x.action) (map action_of steps)) = same_all (apply s x.action) steps (IsWhole-apply s x.action whole parts.0) parts.1 each.1 in
     record { columns = others.columns ∙ one.columns; rows = others.rows ∙ one.rows; row_id = others.row_id ∙ one.row_id }
 
@@ -224,7 +224,7 @@ fit_unless p true steps h = refl
 fit_unless p false steps h = h
 
 other_fits : (s : Document) (a : UserAction) → makes_rows a ≡ false → list_all (fits_kind (takes_away a)) (steps_of s a) ≡ true
-other_fits s (Add table single count explicit ks) other = absurd (true≢false other)
+other_fits s (Add table single count has_row_ids ks) other = absurd (true≢false other)
 other_fits s (Update table single rows ks) other = fit_if_any (fits_kind false) (row_ids rows) (direct (action.BulkUpdate table (row_ids rows) (all_fitted s table ks))) refl
 other_fits s (Remove table single rows) other = refl
 other_fits s (AddTable table cs) other = absurd (true≢false other)
@@ -241,12 +241,12 @@ other_fits s (ModifyColumn table c) other =
     ]
 
 -- where no table is above its bounds, none is after an action that makes no rows
-pub other_peaks : (s : Document) (a : UserAction) → IsWhole s → makes_rows a ≡ false → all_valid s (map action_of (steps_of s a)) ≡ true → IsBelow s 1024 1000000 4294967295 → TellsPeaks no_more (after s a)
-other_peaks s a whole other v below = none_past (after s a) (below_all (takes_away a) s (steps_of s a) 1024 1000000 4294967295 whole v (other_fits s a other) below)
+pub other_maxima : (s : Document) (a : UserAction) → IsWhole s → makes_rows a ≡ false → all_valid s (map action_of (steps_of s a)) ≡ true → IsBelow s 1024 1000000 4294967295 → TellsMaxima no_more (after s a)
+other_maxima s a whole other v below = none_past (after s a) (below_all (takes_away a) s (steps_of s a) 1024 1000000 4294967295 whole v (other_fits s a other) below)
 
--- an action that makes no rows and takes nothing away keeps the peaks
-pub kept_peaks : (s : Document) (a : UserAction) (e : Extent) → IsWhole s → makes_rows a ≡ false → takes_away a ≡ false → all_valid s (map action_of (steps_of s a)) ≡ true → TellsPeaks e s → TellsPeaks e (after s a)
-kept_peaks s a e whole other keeps v told =
+-- an action that makes no rows and takes nothing away keeps the maxima
+pub kept_maxima : (s : Document) (a : UserAction) (e : CountedMaxima) → IsWhole s → makes_rows a ≡ false → takes_away a ≡ false → all_valid s (map action_of (steps_of s a)) ≡ true → TellsMaxima e s → TellsMaxima e (after s a)
+kept_maxima s a e whole other keeps v told =
     let same : SamePeaks s (after s a) = same_all s (steps_of s a) whole v (subst (λ b. list_all (fits_kind b) (steps_of s a) ≡ true) keeps (other_fits s a other)) in
     record {
       columns = told.columns ∙ ap (ltb 1024) (sym same.columns);

@@ -3,7 +3,7 @@ use Rattle.std.proofs.Common.{ℕ, Bool, true, false, cond, not, ◌+◌, ◌-�
 use Rattle.std.proofs.lemmas.Bool.{ltb-true, ltb-false}
 use Rattle.std.proofs.lemmas.List.{take_more}
 use Rattle.doc_model.specs.Counts.{greatest, total}
-use Rattle.doc_model.proofs.PeakSums.{total-append}
+use Rattle.doc_model.proofs.MaximaSums.{total-append}
 use Rattle.doc_model.proofs.TotalsLaws.{sum_of}
 use Rattle.action_limits.specs.Capped.{capped}
 

@@ -19,7 +19,7 @@ use Rattle.doc_model.specs.Document.{Document, Table, table_id}
 use Rattle.doc_model.specs.DocumentLaws.{IsWhole}
 use Rattle.doc_model.specs.Grid.{Grid}
 use Rattle.doc_model.specs.Records.{given_id}
-use Rattle.doc_model.specs.Rows.{all_in, is_once}
+use Rattle.doc_model.specs.Rows.{all_in, has_no_duplicates}
 use Rattle.doc_model.specs.Valid.{all_null, from_one, gives_column, gives_data, is_data, passes, record_table, schema_table, valid}
 use Rattle.doc_model.proofs.Choices.{both_true, length_map, map-map, parts_3}
 use Rattle.doc_model.proofs.ByIdsLaws.{has_id-map}
@@ -78,11 +78,11 @@ passes_weaker (Some t) p q f h = f t h
 valid-nulled : (s : Document) (table rows : List ℕ) (ks : List CellColumn) → valid s (BulkUpdate table rows ks) ≡ true → valid s (BulkUpdate table rows (map nulled ks)) ≡ true
 valid-nulled s table rows ks h =
     passes_weaker (record_table s table)
-    (λ t. is_once rows && from_one rows && all_in rows t.grid.rows && gives_data t.grid rows ks)
-    (λ t. is_once rows && from_one rows && all_in rows t.grid.rows && gives_data t.grid rows (map nulled ks))
+    (λ t. has_no_duplicates rows && from_one rows && all_in rows t.grid.rows && gives_data t.grid rows ks)
+    (λ t. has_no_duplicates rows && from_one rows && all_in rows t.grid.rows && gives_data t.grid rows (map nulled ks))
     (λ t e.
-    let parts : ((is_once rows && from_one rows && all_in rows t.grid.rows) ≡ true) × (gives_data t.grid rows ks ≡ true) = and_parts (is_once rows && from_one rows && all_in rows t.grid.rows) (gives_data t.grid rows ks) e in
-    both_true (is_once rows && from_one rows && all_in rows t.grid.rows) (gives_data t.grid rows (map nulled ks)) parts.0 (data-nulled t.grid rows ks parts.1)) h
+    let parts : ((has_no_duplicates rows && from_one rows && all_in rows t.grid.rows) ≡ true) × (gives_data t.grid rows ks ≡ true) = and_parts (has_no_duplicates rows && from_one rows && all_in rows t.grid.rows) (gives_data t.grid rows ks) e in
+    both_true (has_no_duplicates rows && from_one rows && all_in rows t.grid.rows) (gives_data t.grid rows (map nulled ks)) parts.0 (data-nulled t.grid rows ks parts.1)) h
 
 gone-nulled : (s : Document) (table rows : List ℕ) (ks : List CellColumn) → (gone s (BulkUpdate table rows (map nulled ks))).weight ≡ (gone s (BulkUpdate table rows ks)).weight
 gone-nulled s table rows ks = elim (find_id table_id table s) as (λ (o : Option Table).

@@ -16,7 +16,7 @@ use Rattle.doc_readers.specs.Parts.{grid_at}
 use Rattle.action_limits.specs.declared.expansion.Expansion.{Expansion}
 use Rattle.action_limits.specs.declared.expansion.Expansion.TheVariants as expansion
 use Rattle.action_limits.specs.declared.limits.Counted.{Counted}
-use Rattle.action_limits.specs.declared.limits.Extent.{Extent}
+use Rattle.action_limits.specs.declared.limits.CountedMaxima.{CountedMaxima}
 use Rattle.action_limits.specs.declared.moves.Moved.{Moved}
 use Rattle.action_limits.specs.declared.tally.Tally.{Tally}
 use Rattle.user_actions.specs.Steps.{last_row}
@@ -29,9 +29,9 @@ capped n = min n (2 ^ 64 - 1)
 abbrev pub no_table : Table
 no_table = record { id = []; row = 0; grid = no_grid }
 
--- the table at a place
+-- the table at an index
 abbrev pub table_in : Document → ℕ → Table
-table_in s place = get_or s place no_table
+table_in s index = get_or s index no_table
 
 -- the cells of a table that are counted
 abbrev pub counted_cells : Table → ℕ
@@ -96,8 +96,8 @@ has_named s (ModifyColumn table column info) = passes (find_id table_id table s)
 abbrev pub is_there : Document → Step → Bool
 is_there s step = has_named s step.action
 
--- the counts of these sums and these peaks
-abbrev pub both_noted : Moved → Extent → Counts
+-- the counts of these sums and these maxima
+abbrev pub both_noted : Moved → CountedMaxima → Counts
 both_noted m e = record {
   tables = m.tables;
   columns = e.columns;
@@ -108,13 +108,13 @@ both_noted m e = record {
 }
 
 -- what steps come to, by the counts after them
-abbrev pub settled : List Step → Moved → Extent → Expansion
+abbrev pub settled : List Step → Moved → CountedMaxima → Expansion
 settled steps m e = elim (first_passed (both_noted m e)) [
   | None ↦ expansion.Steps steps (record { tables = m.tables; cells = m.cells; weight = m.weight; within = true })
   | Some kind ↦ expansion.Limit kind
 ]
 
-abbrev pub no_more : Extent
+abbrev pub no_more : CountedMaxima
 no_more = record { columns = 0; rows = 0; row_id = 0 }
 
 -- a tally's sums, which 64 bits can tell
@@ -126,9 +126,9 @@ pub record AreTaken (t : Tally) (m : Moved) : Type 0 where
   pub small_cells : m.cells ≡ capped t.cells
   pub small_weight : m.weight ≡ capped t.weight
 
--- the counts of peaks alone
-abbrev pub peaks_noted : Moved → Extent → Counts
-peaks_noted m e = record {
+-- the counts of maxima alone
+abbrev pub maxima_noted : Moved → CountedMaxima → Counts
+maxima_noted m e = record {
   tables = m.tables;
   columns = e.columns;
   rows = e.rows;
@@ -139,11 +139,11 @@ peaks_noted m e = record {
 
 -- the action adds so many records
 abbrev pub AddsSo : UserAction → ℕ → Type 0
-AddsSo (Add table single count explicit ks) n = n ≡ count
+AddsSo (Add table single count has_row_ids ks) n = n ≡ count
 AddsSo _ n = ⊥
 
 -- the rows of a table where so many come to it
-pub record IsExtentAdded (s : Document) (table : List ℕ) (count : ℕ) (e : Extent) : Type 0 where
+pub record AreMaximaAdded (s : Document) (table : List ℕ) (count : ℕ) (e : CountedMaxima) : Type 0 where
   pub columns : e.columns ≡ 0
   pub rows : e.rows ≡ capped (length (grid_at s table).rows + count)
   pub row_id : e.row_id ≡ last_row s table + count

@@ -5,12 +5,12 @@ use Rattle.doc_model.specs.declared.user_action.UserAction.TheVariants.{AddTable
 use Rattle.doc_model.specs.Document.{Document}
 use Rattle.doc_model.specs.MetadataIds.{columns_id, tables_id}
 use Rattle.doc_readers.specs.Parts.{grid_at}
-use Rattle.action_limits.specs.declared.limits.Extent.{Extent}
+use Rattle.action_limits.specs.declared.limits.CountedMaxima.{CountedMaxima}
 use Rattle.action_limits.specs.Capped.{capped}
 use Rattle.user_actions.specs.Steps.{last_row}
 
 -- so many columns of a table, and the rows where so many tables and columns are described
-pub record IsExtentDescribed (s : Document) (wide new_tables new_columns : ℕ) (e : Extent) : Type 0 where
+pub record AreMaximaDescribed (s : Document) (wide new_tables new_columns : ℕ) (e : CountedMaxima) : Type 0 where
   pub columns : e.columns ≡ wide
   pub rows : e.rows
       ≡ max (capped (length (grid_at s tables_id).rows + new_tables)) (capped (length (grid_at s columns_id).rows + new_columns))
@@ -28,8 +28,8 @@ abbrev pub new_tables : UserAction → ℕ
 new_tables (AddTable table cs) = 1
 new_tables _ = 0
 
-abbrev pub IsExtentGrown : Document → UserAction → Extent → Type 0
-IsExtentGrown s (AddTable table cs) e = IsExtentDescribed s (length cs) 1 (length cs) e
-IsExtentGrown s (AddColumn table c) e =
-    IsExtentDescribed s (capped (length (grid_at s table).columns + 1)) 0 1 e
-IsExtentGrown s _ e = Unit {0}
+abbrev pub AreMaximaGrown : Document → UserAction → CountedMaxima → Type 0
+AreMaximaGrown s (AddTable table cs) e = AreMaximaDescribed s (length cs) 1 (length cs) e
+AreMaximaGrown s (AddColumn table c) e =
+    AreMaximaDescribed s (capped (length (grid_at s table).columns + 1)) 0 1 e
+AreMaximaGrown s _ e = Unit {0}

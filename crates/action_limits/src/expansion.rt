@@ -4,17 +4,17 @@ ghost use Rattle.std.specs.Prelude.{◌≡◌, ◌+◌, true, false, IfOk};
 ghost use Rattle.doc_model.specs.Counts.{first_passed};
 ghost use Rattle.doc_model.specs.DocumentLaws.{IsWhole};
 ghost use Rattle.user_actions.specs.Allowed.{is_allowed};
-ghost use Rattle.action_limits.specs.Capped.{AddsSo, AreTaken, IsExtentAdded, capped, peaks_noted, settled};
+ghost use Rattle.action_limits.specs.Capped.{AddsSo, AreTaken, AreMaximaAdded, capped, maxima_noted, settled};
 ghost use Rattle.user_actions.specs.Kinds.{makes_rows};
-ghost use Rattle.action_limits.specs.Grown.{IsExtentDescribed, IsExtentGrown, grows_schema, new_tables};
+ghost use Rattle.action_limits.specs.Grown.{AreMaximaDescribed, AreMaximaGrown, grows_schema, new_tables};
 ghost use Rattle.user_actions.specs.Kinds.{table_of};
 ghost use Rattle.user_actions.specs.StepLaws.{is_well_formed};
 ghost use Rattle.action_limits.specs.Tallies.{IsExpansion, IsTally};
 
 use crate::Tally;
-use crate::limits::{Counted, Extent, first_passed, wider};
+use crate::limits::{Counted, CountedMaxima, first_passed, wider};
+use crate::maxima::{maxima_after, maxima_before};
 use crate::moves::{Moved, after_steps};
-use crate::peaks::{peaks_after, peaks_before};
 use crate::weighing::column_count;
 use cell_types::Name;
 use doc_model::{DocTables, LimitKind, StepList, UserAction};
@@ -42,8 +42,8 @@ fn sums_of(tally: Tally) -> Moved
     }
 }
 
-// What steps come to, by the sums and the peaks after them.
-fn settled(steps: StepList, sums: Moved, most: Extent) -> Expansion
+// What steps come to, by the sums and the maxima after them.
+fn settled(steps: StepList, sums: Moved, most: CountedMaxima) -> Expansion
     ensures { result ≡ settled steps sums most }
 {
     let counts = Counted {
@@ -86,16 +86,16 @@ fn other_expansion<D: DocTables>(
         unreachable!()
     };
     let sums = after_steps(tables, sums_of(tally), steps.as_slice());
-    let most = peaks_after(alloc, tables, tally.within, action)?;
+    let most = maxima_after(alloc, tables, tally.within, action)?;
     Ok(settled(steps, sums, most))
 }
 
 // The most rows and the greatest row id where so many records come to a table.
-fn extent_added<D: DocTables>(tables: &D, table: &Name, count: u32) -> Extent
+fn maxima_added<D: DocTables>(tables: &D, table: &Name, count: u32) -> CountedMaxima
     requires { IsWhole (D.document tables.now) }
-    ensures { IsExtentAdded (D.document tables.now) table.now count result }
+    ensures { AreMaximaAdded (D.document tables.now) table.now count result }
 {
-    Extent {
+    CountedMaxima {
         columns: 0,
         rows: (rows_in(tables, table).len() as u64).saturating_add(count as u64),
         row_id: last_row(tables, table) as u64 + count as u64,
@@ -103,8 +103,8 @@ fn extent_added<D: DocTables>(tables: &D, table: &Name, count: u32) -> Extent
 }
 
 // The first limit of tables, columns, rows and row ids that the counts pass.
-fn first_of_peaks(sums: Moved, most: Extent) -> Option<LimitKind>
-    ensures { result ≡ first_passed (peaks_noted sums most) }
+fn first_of_maxima(sums: Moved, most: CountedMaxima) -> Option<LimitKind>
+    ensures { result ≡ first_passed (maxima_noted sums most) }
 {
     first_passed(Counted {
         tables: sums.tables,
@@ -133,11 +133,11 @@ fn add_expansion<D: DocTables>(
 {
     let added = {
         let table = name_of(alloc, table_of(action))?;
-        extent_added(tables, &table, count)
+        maxima_added(tables, &table, count)
     };
-    let most = wider(peaks_before(tables, tally.within), added);
+    let most = wider(maxima_before(tables, tally.within), added);
     let before = sums_of(tally);
-    if let Some(kind) = first_of_peaks(before, most) {
+    if let Some(kind) = first_of_maxima(before, most) {
         return Ok(Expansion::Limit(kind));
     }
     let Some(steps) = steps(alloc, tables, action)? else {
@@ -147,15 +147,15 @@ fn add_expansion<D: DocTables>(
     Ok(settled(steps, sums, most))
 }
 
-// The peaks where so many columns come to a table, and rows that describe a table and columns.
-fn extent_described<D: DocTables>(
+// The maxima where so many columns come to a table, and rows that describe a table and columns.
+fn maxima_described<D: DocTables>(
     tables: &D,
     columns: u64,
     new_tables: u64,
     new_columns: u64,
-) -> Extent
+) -> CountedMaxima
     requires { IsWhole (D.document tables.now) }
-    ensures { IsExtentDescribed (D.document tables.now) columns new_tables new_columns result }
+    ensures { AreMaximaDescribed (D.document tables.now) columns new_tables new_columns result }
 {
     let of_tables = tables_table(tables);
     let of_columns = columns_table(tables);
@@ -163,7 +163,7 @@ fn extent_described<D: DocTables>(
     let columns_rows = rows_in(tables, of_columns).len() as u64;
     let last_table = last_row(tables, of_tables) as u64;
     let last_column = last_row(tables, of_columns) as u64;
-    Extent {
+    CountedMaxima {
         columns,
         rows: tables_rows
             .saturating_add(new_tables)
@@ -174,19 +174,19 @@ fn extent_described<D: DocTables>(
     }
 }
 
-fn extent_grown<D: DocTables>(tables: &D, table: &Name, action: &UserAction) -> Extent
+fn maxima_grown<D: DocTables>(tables: &D, table: &Name, action: &UserAction) -> CountedMaxima
     requires whole { IsWhole (D.document tables.now) }
     requires named { table.now ≡ table_of action.now }
-    ensures { IsExtentGrown (D.document tables.now) action.now result }
+    ensures { AreMaximaGrown (D.document tables.now) action.now result }
 {
     match action {
         UserAction::AddTable { columns, .. } => {
             let count = columns.len() as u64;
-            extent_described(tables, count, 1, count)
+            maxima_described(tables, count, 1, count)
         }
         _ => {
             let columns = (column_count(tables, table) as u64).saturating_add(1);
-            extent_described(tables, columns, 0, 1)
+            maxima_described(tables, columns, 0, 1)
         }
     }
 }
@@ -222,11 +222,11 @@ fn schema_expansion<D: DocTables>(
 {
     let grown = {
         let table = name_of(alloc, table_of(action))?;
-        extent_grown(tables, &table, action)
+        maxima_grown(tables, &table, action)
     };
-    let most = wider(peaks_before(tables, tally.within), grown);
+    let most = wider(maxima_before(tables, tally.within), grown);
     let Some(steps) = steps(alloc, tables, action)? else {
-        let Some(kind) = first_of_peaks(with_new_tables(tally, action), most) else {
+        let Some(kind) = first_of_maxima(with_new_tables(tally, action), most) else {
             unreachable!()
         };
         return Ok(Expansion::Limit(kind));
@@ -238,7 +238,7 @@ fn schema_expansion<D: DocTables>(
 /// The document actions of a user action, or the first limit that would be passed after them, by the
 /// tally of the document.
 ///
-/// Errors: want of memory.
+/// Errors: out of memory.
 /// Cost: the rows and values that are given; a new type of a column costs all its cells, and a new id
 /// the ids beside it. Where a table was above its bounds before, a walk over all tables and columns.
 /// Source: docs/DEFINITIONS.md, "action_limits".

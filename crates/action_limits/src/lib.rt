@@ -8,13 +8,13 @@
 //! action, or the first limit that would be passed after them, by a `Tally` that is kept from one
 //! action to the next (specs/Tallies.antt).
 //! Not promised: that memory is found.
-//! Read first: specs/Tallies.antt, then expansion.rt and peaks.rt.
+//! Read first: specs/Tallies.antt, then expansion.rt and maxima.rt.
 #![tactic(auto)]
 
 mod expansion;
 mod limits;
+mod maxima;
 mod moves;
-mod peaks;
 mod tally;
 mod weighing;
 

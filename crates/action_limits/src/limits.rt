@@ -26,7 +26,7 @@ pub(crate) struct Counted {
 
 /// The most columns, the most rows and the greatest row id of tables.
 #[derive(Clone, Copy)]
-pub(crate) struct Extent {
+pub(crate) struct CountedMaxima {
     pub(crate) columns: u64,
     pub(crate) rows: u64,
     pub(crate) row_id: u64,
@@ -64,27 +64,27 @@ pub(crate) fn table_count<D: DocTables>(tables: &D) -> usize
     rows_in(tables, tables_table(tables)).len() + 4
 }
 
-/// The id of the table at a place.
-pub(crate) fn table_id<D: DocTables>(tables: &D, place: usize) -> &Name
+/// The id of the table at an index.
+pub(crate) fn table_id<D: DocTables>(tables: &D, index: usize) -> &Name
     requires whole { IsWhole (D.document tables.now) }
-    requires there { place < length (D.document tables.now) }
-    ensures id { result.now ≡ (table_in (D.document tables.now) place).id }
-    ensures grid { grid_at (D.document tables.now) result.now ≡ (table_in (D.document tables.now) place).grid }
+    requires there { index < length (D.document tables.now) }
+    ensures id { result.now ≡ (table_in (D.document tables.now) index).id }
+    ensures grid { grid_at (D.document tables.now) result.now ≡ (table_in (D.document tables.now) index).grid }
 {
-    let Some(id) = tables.table(place) else {
+    let Some(id) = tables.table(index) else {
         unreachable!()
     };
     id
 }
 
-fn table_extent<D: DocTables>(tables: &D, table: &Name) -> Extent
+fn table_maxima<D: DocTables>(tables: &D, table: &Name) -> CountedMaxima
     requires { IsWhole (D.document tables.now) }
     ensures columns { result.columns ≡ length (grid_at (D.document tables.now) table.now).columns }
     ensures rows { result.rows ≡ length (grid_at (D.document tables.now) table.now).rows }
     ensures row_id { result.row_id ≡ greatest (grid_at (D.document tables.now) table.now).rows }
     ensures small { result.row_id ≤ 4294967295 }
 {
-    Extent {
+    CountedMaxima {
         columns: column_count(tables, table) as u64,
         rows: rows_in(tables, table).len() as u64,
         row_id: last_row(tables, table) as u64,
@@ -92,12 +92,12 @@ fn table_extent<D: DocTables>(tables: &D, table: &Name) -> Extent
 }
 
 /// The greater one of each.
-pub(crate) fn wider(left: Extent, right: Extent) -> Extent
+pub(crate) fn wider(left: CountedMaxima, right: CountedMaxima) -> CountedMaxima
     ensures columns { result.columns ≡ max left.columns right.columns }
     ensures rows { result.rows ≡ max left.rows right.rows }
     ensures row_id { result.row_id ≡ max left.row_id right.row_id }
 {
-    Extent {
+    CountedMaxima {
         columns: left.columns.max(right.columns),
         rows: left.rows.max(right.rows),
         row_id: left.row_id.max(right.row_id),
@@ -105,42 +105,42 @@ pub(crate) fn wider(left: Extent, right: Extent) -> Extent
 }
 
 /// The most columns, the most rows and the greatest row id of any table.
-pub(crate) fn greatest_extent<D: DocTables>(tables: &D) -> Extent
+pub(crate) fn greatest_maxima<D: DocTables>(tables: &D) -> CountedMaxima
     requires { IsWhole (D.document tables.now) }
     ensures columns { result.columns ≡ (counts (D.document tables.now)).columns }
     ensures rows { result.rows ≡ (counts (D.document tables.now)).rows }
     ensures row_id { result.row_id ≡ (counts (D.document tables.now)).row_id }
     ensures small { result.row_id ≤ 4294967295 }
 {
-    let mut most = Extent {
+    let mut most = CountedMaxima {
         columns: 0,
         rows: 0,
         row_id: 0,
     };
-    for place in 0..table_count(tables) {
-        most = wider(most, table_extent(tables, table_id(tables, place)));
+    for index in 0..table_count(tables) {
+        most = wider(most, table_maxima(tables, table_id(tables, index)));
     }
     most
 }
 
-fn counted_cells<D: DocTables>(tables: &D, place: usize) -> u64
+fn counted_cells<D: DocTables>(tables: &D, index: usize) -> u64
     requires whole { IsWhole (D.document tables.now) }
-    requires there { place < length (D.document tables.now) }
-    ensures { result ≡ capped (counted_cells (table_in (D.document tables.now) place)) }
+    requires there { index < length (D.document tables.now) }
+    ensures { result ≡ capped (counted_cells (table_in (D.document tables.now) index)) }
 {
-    let id = table_id(tables, place);
+    let id = table_id(tables, index);
     if is_schema_id(id.as_str()) {
         return 0;
     }
     table_cells(tables, id)
 }
 
-fn counted_weight<D: DocTables>(tables: &D, place: usize) -> u64
+fn counted_weight<D: DocTables>(tables: &D, index: usize) -> u64
     requires whole { IsWhole (D.document tables.now) }
-    requires there { place < length (D.document tables.now) }
-    ensures { result ≡ capped (counted_weight (table_in (D.document tables.now) place)) }
+    requires there { index < length (D.document tables.now) }
+    ensures { result ≡ capped (counted_weight (table_in (D.document tables.now) index)) }
 {
-    let id = table_id(tables, place);
+    let id = table_id(tables, index);
     if is_schema_id(id.as_str()) {
         return 0;
     }
@@ -152,8 +152,8 @@ fn all_cells<D: DocTables>(tables: &D) -> u64
     ensures { result ≡ capped (counts (D.document tables.now)).cells }
 {
     let mut cells = 0u64;
-    for place in 0..table_count(tables) {
-        cells = cells.saturating_add(counted_cells(tables, place));
+    for index in 0..table_count(tables) {
+        cells = cells.saturating_add(counted_cells(tables, index));
     }
     cells
 }
@@ -163,8 +163,8 @@ fn all_weight<D: DocTables>(tables: &D) -> u64
     ensures { result ≡ capped (counts (D.document tables.now)).weight }
 {
     let mut weight = 0u64;
-    for place in 0..table_count(tables) {
-        weight = weight.saturating_add(counted_weight(tables, place));
+    for index in 0..table_count(tables) {
+        weight = weight.saturating_add(counted_weight(tables, index));
     }
     weight
 }
@@ -176,7 +176,7 @@ pub(crate) fn counts_of<D: DocTables>(tables: &D) -> Counted
     requires { IsWhole (D.document tables.now) }
     ensures { IsCounted (D.document tables.now) result }
 {
-    let most = greatest_extent(tables);
+    let most = greatest_maxima(tables);
     Counted {
         tables: table_count(tables) as u64 - 4,
         columns: most.columns,

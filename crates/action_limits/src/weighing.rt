@@ -89,21 +89,21 @@ pub(crate) fn column_count<D: DocTables>(tables: &D, table: &Name) -> usize
     requires { IsWhole (D.document tables.now) }
     ensures { result ≡ length (grid_at (D.document tables.now) table.now).columns }
 {
-    let mut place = 0;
-    while let Some(column) = tables.column(table, place) {
-        // Asked for so that the proof knows it for a row id: no place is greater than that.
+    let mut index = 0;
+    while let Some(column) = tables.column(table, index) {
+        // Asked for so that the proof knows it for a row id: no index is greater than that.
         let _row = row_of(column);
-        place += 1;
+        index += 1;
     }
-    place
+    index
 }
 
-/// The column at a place.
-pub(crate) fn column_at<'a, D: DocTables>(tables: &'a D, table: &Name, place: usize) -> &'a ColDef
-    requires { place < length (grid_at (D.document tables.now) table.now).columns }
-    ensures { slice_get (grid_at (D.document tables.now) table.now).columns place ≡ Some result.now }
+/// The column at an index.
+pub(crate) fn column_at<'a, D: DocTables>(tables: &'a D, table: &Name, index: usize) -> &'a ColDef
+    requires { index < length (grid_at (D.document tables.now) table.now).columns }
+    ensures { slice_get (grid_at (D.document tables.now) table.now).columns index ≡ Some result.now }
 {
-    let Some(column) = tables.column(table, place) else {
+    let Some(column) = tables.column(table, index) else {
         unreachable!()
     };
     column
@@ -115,8 +115,8 @@ pub(crate) fn rows_weight<D: DocTables>(tables: &D, table: &Name, rows: &[u32]) 
     ensures { result ≡ capped (rows_weight (grid_at (D.document tables.now) table.now) rows.now) }
 {
     let mut weight = 0u64;
-    for place in 0..column_count(tables, table) {
-        let column = column_at(tables, table, place);
+    for index in 0..column_count(tables, table) {
+        let column = column_at(tables, table, index);
         weight = weight.saturating_add(column_weight(tables, table, &column.id, rows));
     }
     weight
@@ -127,8 +127,8 @@ fn formulas_weight<D: DocTables>(tables: &D, table: &Name) -> u64
     ensures { result ≡ capped (total (map formula_bytes (grid_at (D.document tables.now) table.now).columns)) }
 {
     let mut weight = 0u64;
-    for place in 0..column_count(tables, table) {
-        let column = column_at(tables, table, place);
+    for index in 0..column_count(tables, table) {
+        let column = column_at(tables, table, index);
         weight = weight.saturating_add(column.info.formula.len() as u64);
     }
     weight

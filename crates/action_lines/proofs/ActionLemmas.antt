@@ -66,7 +66,7 @@ remove_word false t rest = refl
 
 pub action_again : (a : UserAction) (d : Data) → IsAction a d → action_from d ≡ Some a
 unfolding action_from add_table_from remove_table_from rename_table_from add_column_from remove_column_from rename_column_from modify_column_from only_text text_beside
-action_again (Add t single count explicit cs) d h = ap action_from h.2 ∙ add_word single t h.0 ∙ add_again single t count explicit cs h.0 h.1
+action_again (Add t single count has_row_ids cs) d h = ap action_from h.2 ∙ add_word single t h.0 ∙ add_again single t count has_row_ids cs h.0 h.1
 action_again (Update t single ids cs) d h = ap action_from h.2 ∙ update_word single t h.0 ∙ update_again single t ids cs h.0 h.1
 action_again (Remove t single ids) d h = ap action_from h.2 ∙ remove_word single t h.0 ∙ remove_again single t ids h.0 h.1
 action_again (AddTable t cs) d h = ap action_from h.2 ∙ rw (all_again column_from IsColumn column_again cs h.0 h.1) refl

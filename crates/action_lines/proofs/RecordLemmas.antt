@@ -39,14 +39,14 @@ add_takes single t rest a e =
     } in
     subst (λ x. IsAction x (action_data (add_kind single) t rest)) (some_same (Add t single rows.0.0 rows.0.1 cs.0) a cs.2) (rest, is, refl)
 
-new_rows_again : (single : Bool) (count : ℕ) (explicit : Bool) (cs : List UserColumn) (rest : Items) (h : IsAdd single count explicit cs rest) → new_rows_from single h.rows ≡ Some (count, explicit)
+new_rows_again : (single : Bool) (count : ℕ) (has_row_ids : Bool) (cs : List UserColumn) (rest : Items) (h : IsAdd single count has_row_ids cs rest) → new_rows_from single h.rows ≡ Some (count, has_row_ids)
 unfolding new_rows_from
-new_rows_again single count explicit cs rest h = rw (given_again new_row_from IsNewRow new_row_read single h.ids h.rows h.given, h.counted, h.few, h.told) refl
+new_rows_again single count has_row_ids cs rest h = rw (given_again new_row_from IsNewRow new_row_read single h.ids h.rows h.given, h.counted, h.few, h.told) refl
 
-pub add_again : (single : Bool) (t : List ℕ) (count : ℕ) (explicit : Bool) (cs : List UserColumn) (rest : Items) → IsAdd single count explicit cs rest → add_from single t rest ≡ Some (Add t single count explicit cs)
+pub add_again : (single : Bool) (t : List ℕ) (count : ℕ) (has_row_ids : Bool) (cs : List UserColumn) (rest : Items) → IsAdd single count has_row_ids cs rest → add_from single t rest ≡ Some (Add t single count has_row_ids cs)
 unfolding add_from
-add_again single t count explicit cs rest h =
-    ap (add_from single t) h.whole ∙ rw (new_rows_again single count explicit cs rest h, columns_in_again single count cs h.members h.filled) refl
+add_again single t count has_row_ids cs rest h =
+    ap (add_from single t) h.whole ∙ rw (new_rows_again single count has_row_ids cs rest h, columns_in_again single count cs h.members h.filled) refl
 
 pub update_takes : (single : Bool) (t : List ℕ) (rest : Items) (a : UserAction) → update_from single t rest ≡ Some a → IsAction a (action_data (update_kind single) t rest)
 unfolding update_from

@@ -31,7 +31,7 @@ remove_kind false = kind.BulkRemoveRecord
 
 -- the JSON of a user action
 abbrev pub IsAction : UserAction → Data → Type 0
-IsAction (Add t single count explicit cs) d = (rest : Items) × IsAdd single count explicit cs rest × (d ≡ action_data (add_kind single) t rest)
+IsAction (Add t single count has_row_ids cs) d = (rest : Items) × IsAdd single count has_row_ids cs rest × (d ≡ action_data (add_kind single) t rest)
 IsAction (Update t single ids cs) d = (rest : Items) × IsUpdate single ids cs rest × (d ≡ action_data (update_kind single) t rest)
 IsAction (Remove t single ids) d = (rest : Items) × IsRemove single ids rest × (d ≡ action_data (remove_kind single) t rest)
 IsAction (AddTable t cs) d = (infos : Items) × AreAll IsColumn cs infos × (d ≡ action_data kind.AddTable t (item (array infos) no_items))

@@ -19,14 +19,14 @@ abbrev pub is_explicit : List (Option ℤ) → Bool
 is_explicit ids = list_any is_some ids
 
 -- row,{col:value} or [row,..],{col:[value,..]}: so many rows and these columns are added
-pub record IsAdd (single : Bool) (count : ℕ) (explicit : Bool) (columns : List UserColumn) (rest : Items) : Type 0 where
+pub record IsAdd (single : Bool) (count : ℕ) (has_row_ids : Bool) (columns : List UserColumn) (rest : Items) : Type 0 where
   pub ids : List (Option ℤ)
   pub rows : Data
   pub members : Members
   pub given : AreGiven IsNewRow single ids rows
   pub counted : length ids ≡ count
   pub few : is_count count ≡ true
-  pub told : is_explicit ids ≡ explicit
+  pub told : is_explicit ids ≡ has_row_ids
   pub filled : AreColumns single count None columns members
   pub whole : rest ≡ item rows (item (object members) no_items)
 

@@ -34,9 +34,9 @@ fn new_rows_of(alloc: Global, single: bool, rows: &Value) -> Result<Option<(u32,
     let Some(ids) = read_given::<Option<i64>>(alloc, single, rows)? else {
         return Ok(None);
     };
-    let explicit = is_explicit(ids.as_slice());
+    let has_row_ids = is_explicit(ids.as_slice());
     match count_of(ids.as_slice()) {
-        Some(count) => Ok(Some((count, explicit))),
+        Some(count) => Ok(Some((count, has_row_ids))),
         None => Ok(None),
     }
 }
@@ -46,17 +46,17 @@ fn adding(
     table: &str,
     single: bool,
     count: u32,
-    explicit: bool,
+    has_row_ids: bool,
     columns: UserColumnList,
 ) -> Result<Option<UserAction>, AllocError>
-    ensures { IfOk result (λ o. o ≡ Some (Add table.now single count explicit columns)) }
+    ensures { IfOk result (λ o. o ≡ Some (Add table.now single count has_row_ids columns)) }
 {
     let table = CellText::copy_of(alloc, table)?;
     Ok(Some(UserAction::Add {
         table,
         single,
         count,
-        explicit,
+        has_row_ids,
         columns,
     }))
 }
@@ -74,11 +74,11 @@ pub(crate) fn add_of(
     let Some((rows, members)) = items.two() else {
         return Ok(None);
     };
-    let Some((count, explicit)) = new_rows_of(alloc, single, rows)? else {
+    let Some((count, has_row_ids)) = new_rows_of(alloc, single, rows)? else {
         return Ok(None);
     };
     match columns_in(alloc, single, count as usize, members)? {
-        Some(columns) => adding(alloc, table, single, count, explicit, columns),
+        Some(columns) => adding(alloc, table, single, count, has_row_ids, columns),
         None => Ok(None),
     }
 }

@@ -4,7 +4,7 @@ use Rattle.std.proofs.lemmas.List.{map-append, append-nil}
 use Rattle.std.specs.List.{AllByRecursion}
 use Rattle.doc_model.specs.declared.entry.Entry.{Entry}
 use Rattle.doc_model.specs.declared.user.User.{User}
-use Rattle.doc_model.specs.ByIds.{find_id, place, without_id, precedes}
+use Rattle.doc_model.specs.ByIds.{find_id, put_by_id, without_id, precedes}
 use Rattle.doc_model.specs.Changes.{changes}
 use Rattle.doc_model.specs.Document.{Document}
 use Rattle.doc_model.specs.DocumentLaws.{IsWhole}
@@ -17,7 +17,7 @@ use Rattle.bundle_core.specs.SessionState.{SessionState, open_of}
 use Rattle.bundle_core.specs.State.{State, Open, Holder, Verdicts, session_name, session_of, mailbox_of, answered, from_outside, from_inside, from_behind, verdicts, posted_all, with_session, step, given}
 use Rattle.bundle_core.specs.View.{view}
 use Rattle.bundle_core.proofs.ViewLaws.{changes-again}
-use Rattle.bundle_core.proofs.Spots.{find_absent_at, find_at, without_absent, without_at, place_absent, place_at}
+use Rattle.bundle_core.proofs.Spots.{find_absent_at, find_at, without_absent, without_at, index_absent, index_at}
 
 abbrev pub opens : Document → List SessionState → List Open
 opens s xs = map (open_of s) xs
@@ -123,9 +123,9 @@ module _ (users : List User) (doc : Document) (before behind : List SessionState
       → Answers users doc doc (before ++ behind) (before ++ x ∷ behind) e (replies e.request shows_view (view user doc))
   answers_opened user x p f =
       let new : Open = open_with doc e.session (record { user = user; bundles = 0 }) 0 [] false in
-      let placed : place session_name new (opens doc (before ++ behind)) ≡ opens doc (before ++ x ∷ behind) =
-      ap (place session_name new) (opens-append doc before behind)
-      ∙ place_absent session_name e.session (opens doc before) (opens doc behind) new refl below above
+      let placed : put_by_id session_name new (opens doc (before ++ behind)) ≡ opens doc (before ++ x ∷ behind) =
+      ap (put_by_id session_name new) (opens-append doc before behind)
+      ∙ index_absent session_name e.session (opens doc before) (opens doc behind) new refl below above
       ∙ ap (λ o. opens doc before ++ o ∷ opens doc behind) (sym f)
       ∙ sym (opens-append doc before (x ∷ behind)) in
       record {
@@ -188,9 +188,9 @@ module _ (users : List User) (doc : Document) (before behind : List SessionState
         let m : Mailbox = (open_of doc x).mailbox in
         let new : Open = open_with doc e.session x.holder x.made [] x.lagging in
         let none : changes m.view m.view ≡ [] = changes-again x.holder.user doc w in
-        let placed : place session_name new (opens doc (before ++ x ∷ behind)) ≡ opens doc (before ++ y ∷ behind) =
-        ap (place session_name new) (opens-append doc before (x ∷ behind))
-        ∙ place_at session_name e.session (opens doc before) (opens doc behind) new (open_of doc x) refl named below
+        let placed : put_by_id session_name new (opens doc (before ++ x ∷ behind)) ≡ opens doc (before ++ y ∷ behind) =
+        ap (put_by_id session_name new) (opens-append doc before (x ∷ behind))
+        ∙ index_at session_name e.session (opens doc before) (opens doc behind) new (open_of doc x) refl named below
         ∙ ap (λ o. opens doc before ++ o ∷ opens doc behind) (sym f)
         ∙ sym (opens-append doc before (y ∷ behind)) in
         record {

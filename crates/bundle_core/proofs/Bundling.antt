@@ -6,7 +6,7 @@ use Rattle.doc_model.specs.declared.entry.Entry.{Entry}
 use Rattle.doc_model.specs.declared.user.User.{User}
 use Rattle.doc_model.specs.declared.view.ViewAction.{ViewAction}
 use Rattle.doc_model.specs.declared.view.ViewTable.{ViewTable}
-use Rattle.doc_model.specs.ByIds.{place, precedes}
+use Rattle.doc_model.specs.ByIds.{put_by_id, precedes}
 use Rattle.doc_model.specs.Changes.{changes}
 use Rattle.doc_model.specs.Document.{Document}
 use Rattle.doc_model.specs.DocumentLaws.{IsWhole}
@@ -20,7 +20,7 @@ use Rattle.bundle_core.specs.SessionState.{SessionState, open_of, IsReady, after
 use Rattle.bundle_core.specs.State.{State, Open, Holder, Verdicts, session_name, posted_to, with_session}
 use Rattle.bundle_core.specs.View.{is_owner, view}
 use Rattle.bundle_core.proofs.Answering.{open_with, opens, opens-append, opens_below, step_by, given_by, ComesTo, verdicts_inside, mailbox_inside}
-use Rattle.bundle_core.proofs.Spots.{place_at}
+use Rattle.bundle_core.proofs.Spots.{index_at}
 use Rattle.bundle_core.proofs.ViewLaws.{same_view}
 
 -- a session in which these changes are posted; where there are none, the view is the same
@@ -124,9 +124,9 @@ module _ (users : List User) (s s' : Document) (before behind : List SessionStat
       let below : AllByRecursion (λ (o : Open). precedes o.session e.session ≡ true) (opens s' (map posted_state before)) =
       let P : List Open → Type 0 = λ os. AllByRecursion (λ (o : Open). precedes o.session e.session ≡ true) os in
       subst P posted_before (each_mapped (λ (o : Open). precedes o.session e.session ≡ true) (posted_to s') (opens s before) (opens_below s e.session before spot.below)) in
-      let placed : place session_name new (map (posted_to s') (opens s (before ++ x ∷ behind))) ≡ opens s' (map posted_state before ++ y ∷ map posted_state behind) =
-      ap (place session_name new) split
-      ∙ place_at session_name e.session (opens s' (map posted_state before)) (opens s' (map posted_state behind)) new (posted_to s' (open_of s x)) refl named below
+      let placed : put_by_id session_name new (map (posted_to s') (opens s (before ++ x ∷ behind))) ≡ opens s' (map posted_state before ++ y ∷ map posted_state behind) =
+      ap (put_by_id session_name new) split
+      ∙ index_at session_name e.session (opens s' (map posted_state before)) (opens s' (map posted_state behind)) new (posted_to s' (open_of s x)) refl named below
       ∙ ap (λ o. opens s' (map posted_state before) ++ o ∷ opens s' (map posted_state behind)) (sym f)
       ∙ sym (opens-append s' (map posted_state before) (y ∷ map posted_state behind)) in
       let open_line : posted_if_any view' (changes m.view view') (emptied m) ≡ (let n : Mailbox = record { view = view'; made = made; waiting = option_to_list x.ready; lagging = false } in n) =

@@ -25,7 +25,7 @@ whole_columns count ks h =
 
 -- what has its form gives each column once, with a value for each of its rows
 pub well_formed : (a : UserAction) → is_in_form a ≡ true → is_well_formed a ≡ true
-well_formed (Add table single count explicit ks) h = whole_columns count ks (and_parts (is_for_one single count) (are_by_id ks && have_values count ks) h).1
+well_formed (Add table single count has_row_ids ks) h = whole_columns count ks (and_parts (is_for_one single count) (are_by_id ks && have_values count ks) h).1
 well_formed (Update table single rows ks) h = whole_columns (length rows) ks (and_parts (is_for_one single (length rows)) (are_by_id ks && have_values (length rows) ks) h).1
 well_formed (Remove table single rows) h = refl
 well_formed (AddTable table columns) h = refl

@@ -77,7 +77,7 @@ pub code_gone : (s : Document) (n : ℕ) (l : List SessionState) (lagging : Bool
 code_gone s n l true h kept r is = ap (from_behind (state_of s n l)) is
 code_gone s n l false h kept r is = ap (from_inside (state_of s n l) h kept) is
 
--- the sessions around a place
+-- the sessions around an index
 pub around : (xs : List SessionState) (p : ℕ) (d : SessionState) → p < length xs → take p xs ++ get_or xs p d ∷ drop (suc p) xs ≡ xs
 around xs p d lt = ap (λ r. take p xs ++ r) (sym (drop-cons xs p d lt)) ∙ take-append-drop p xs
 
@@ -171,7 +171,7 @@ spot_same name n xs qs h s = record {
 }
 
 module _ (users : List User) (s s' : Document) (xs : List SessionState) (p : ℕ) (e : Entry) (f : Finds e.session xs p) (d : SessionState) (w : IsWhole s) (w' : IsWhole s') where
-  -- an accepted bundle of the session of that place
+  -- an accepted bundle of the session of that index
   pub find_bundle : (actions : List UserAction) (ms : List Made) (told : Bool → List ViewAction) (new : List SessionState) (lines : List (List ℕ))
       → e.request ≡ request.Apply actions → e.kept ≡ true → (get_or xs p d).lagging ≡ false
       → judge (is_owner (get_or xs p d).holder.user) s actions ≡ accepted s' ms

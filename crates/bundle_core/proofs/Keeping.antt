@@ -8,10 +8,10 @@ use Rattle.doc_model.specs.declared.request.Request.TheVariants as request
 use Rattle.doc_model.specs.declared.user.User.{User}
 use Rattle.doc_model.specs.declared.view.ViewAction.{ViewAction}
 use Rattle.doc_model.specs.declared.view.ViewTable.{ViewTable}
-use Rattle.doc_model.specs.ByIds.{precedes, find_id, IsByIds, place, without_id}
+use Rattle.doc_model.specs.ByIds.{precedes, find_id, IsByIds, put_by_id, without_id}
 use Rattle.doc_model.specs.Changes.{changes}
 use Rattle.doc_model.specs.Document.{Document}
-use Rattle.doc_model.proofs.ByIdsLaws.{IsByIds-place, IsByIds-filter, found_all}
+use Rattle.doc_model.proofs.ByIdsLaws.{IsByIds-put_by_id, IsByIds-filter, found_all}
 use Rattle.doc_model.proofs.Choices.{each_weaker, each_filter, each_mapped}
 use Rattle.doc_model.specs.declared.limit.LimitKind.TheVariants as limit
 use Rattle.grist_json.specs.declared.verdict.Verdict.TheVariants as verdict
@@ -165,21 +165,21 @@ without_good n name os g = record {
   below = each_filter (IsBelow n) _ os g.below;
 }
 
-place_each : (P : Open → Type 0) (o : Open) (os : List Open) → P o → AllByRecursion P os → AllByRecursion P (place session_name o os)
-place_each P o [] h k = (h, tt)
-place_each P o (x ∷ os) h k =
-    elim (precedes o.session x.session) as (λ b. AllByRecursion P (cond b (o ∷ x ∷ os) (cond (bytes_eq o.session x.session) (o ∷ os) (x ∷ place session_name o os)))) [
+index_each : (P : Open → Type 0) (o : Open) (os : List Open) → P o → AllByRecursion P os → AllByRecursion P (put_by_id session_name o os)
+index_each P o [] h k = (h, tt)
+index_each P o (x ∷ os) h k =
+    elim (precedes o.session x.session) as (λ b. AllByRecursion P (cond b (o ∷ x ∷ os) (cond (bytes_eq o.session x.session) (o ∷ os) (x ∷ put_by_id session_name o os)))) [
       | true ↦ (h, k)
-      | false ↦ elim (bytes_eq o.session x.session) as (λ b. AllByRecursion P (cond b (o ∷ os) (x ∷ place session_name o os))) [
+      | false ↦ elim (bytes_eq o.session x.session) as (λ b. AllByRecursion P (cond b (o ∷ os) (x ∷ put_by_id session_name o os))) [
         | true ↦ (h, k.1)
-        | false ↦ (k.0, place_each P o os h k.1)
+        | false ↦ (k.0, index_each P o os h k.1)
       ]
     ]
 
 session_good : (n : ℕ) (name : List ℕ) (h : Option Holder) (m : Option Mailbox) (os : List Open) → HoldsFew n h → MadeFew n m → IsGood n os → IsGood n (with_session name h m os)
 session_good n name (Some h) (Some m) os few made g = record {
-  by_name = IsByIds-place session_name _ os g.by_name;
-  below = place_each (IsBelow n) _ os (record { made = made; bundles = few }) g.below;
+  by_name = IsByIds-put_by_id session_name _ os g.by_name;
+  below = index_each (IsBelow n) _ os (record { made = made; bundles = few }) g.below;
 }
 session_good n name (Some h) None os few made g = without_good n name os g
 session_good n name None m os few made g = without_good n name os g

@@ -6,7 +6,7 @@ pub mod Inside
 pub mod Keeping
 pub mod MadeLemmas
 pub mod Outside
-pub mod Places
+pub mod Indexes
 pub mod Prepared
 pub mod Readied
 pub mod RulingLemmas

@@ -49,24 +49,24 @@ gone_outside users st request.Close e other = absurd (cc)
 pub answers_by : (users : List User) (s s' : Document) (xs ys : List SessionState) (e : Entry) (ls ms : List (List ℕ)) → ms ≡ ls → Answers users s s' xs ys e ls → Answers users s s' xs ys e ms
 answers_by users s s' xs ys e ls ms same h = let P : List (List ℕ) → Type 0 = λ l. Answers users s s' xs ys e l in subst P (sym same) h
 
-module _ (users : List User) (s : Document) (xs : List SessionState) (place : ℕ) (e : Entry) (m : Misses e.session xs place) where
+module _ (users : List User) (s : Document) (xs : List SessionState) (index : ℕ) (e : Entry) (m : Misses e.session xs index) where
   abbrev split : ℕ → State
-  split k = state_of s k (take place xs ++ drop place xs)
+  split k = state_of s k (take index xs ++ drop index xs)
 
   pub miss_refused : (n : ℕ) → refusal_outside e.request ≡ Some n → Answers users s s xs xs e (reply_text (refusal n) ∷ [])
   miss_refused n q =
       let P : List SessionState → Type 0 = λ l. Answers users s s l l e (reply_text (refusal n) ∷ []) in
-      subst P (take-append-drop place xs) (answers_outside users s (take place xs) (drop place xs) e m.spot (refusal n) (λ k. code_outside users (split k) e.request n q))
+      subst P (take-append-drop index xs) (answers_outside users s (take index xs) (drop index xs) e m.spot (refusal n) (λ k. code_outside users (split k) e.request n q))
 
   pub miss_gone : refusal_outside e.request ≡ None → ((token : List ℕ) → e.request ≡ request.Open token → ⊥) → Answers users s s xs xs e []
   miss_gone q other =
       let P : List SessionState → Type 0 = λ l. Answers users s s l l e [] in
-      subst P (take-append-drop place xs) (answers_gone users s (take place xs) (drop place xs) e m.spot (λ k. gone_outside users (split k) e.request q other))
+      subst P (take-append-drop index xs) (answers_gone users s (take index xs) (drop index xs) e m.spot (λ k. gone_outside users (split k) e.request q other))
 
   pub miss_unknown : (token : List ℕ) → e.request ≡ request.Open token → user_of users token ≡ None → Answers users s s xs xs e (reply_text (refusal 5) ∷ [])
   miss_unknown token asks none =
       let P : List SessionState → Type 0 = λ l. Answers users s s l l e (reply_text (refusal 5) ∷ []) in
-      subst P (take-append-drop place xs) (answers_outside users s (take place xs) (drop place xs) e m.spot (refusal 5)
+      subst P (take-append-drop index xs) (answers_outside users s (take index xs) (drop index xs) e m.spot (refusal 5)
       (λ k. ap (from_outside users (split k)) asks
       ∙ ap (λ o. elim o as (λ _. Verdicts) [
         | None ↦ answered s None (refusal 5)
@@ -90,20 +90,20 @@ module _ (users : List User) (s : Document) (xs : List SessionState) (place : �
       ∙ ap (λ f. if f
       then answered s None (verdict.Limited limit.Sessions session_bound None)
       else record { outcome = shows_view; document = s; is_bundle = false; holder = Some (record { user = user; bundles = 0 }) })
-      (ap (nat_le session_bound) (length_map (open_of s) (take place xs ++ drop place xs) ∙ ap length (take-append-drop place xs)) ∙ count)
+      (ap (nat_le session_bound) (length_map (open_of s) (take index xs ++ drop index xs) ∙ ap length (take-append-drop index xs)) ∙ count)
 
   pub miss_full : (token : List ℕ) (user : User) → e.request ≡ request.Open token → user_of users token ≡ Some user → nat_le session_bound (length xs) ≡ true
       → Answers users s s xs xs e (reply_text (verdict.Limited limit.Sessions session_bound None) ∷ [])
   miss_full token user asks some count =
       let P : List SessionState → Type 0 = λ l. Answers users s s l l e (reply_text (verdict.Limited limit.Sessions session_bound None) ∷ []) in
-      subst P (take-append-drop place xs) (answers_outside users s (take place xs) (drop place xs) e m.spot (verdict.Limited limit.Sessions session_bound None) (by_room token user true asks some count))
+      subst P (take-append-drop index xs) (answers_outside users s (take index xs) (drop index xs) e m.spot (verdict.Limited limit.Sessions session_bound None) (by_room token user true asks some count))
 
   pub miss_opened : (token : List ℕ) (user : User) (x : SessionState) → e.request ≡ request.Open token → user_of users token ≡ Some user → nat_le session_bound (length xs) ≡ false
       → open_of s x ≡ open_with s e.session (record { user = user; bundles = 0 }) 0 [] false
-      → Answers users s s xs (take place xs ++ x ∷ drop place xs) e (reply_text (verdict.Changes (changes [] (view user s))) ∷ [])
+      → Answers users s s xs (take index xs ++ x ∷ drop index xs) e (reply_text (verdict.Changes (changes [] (view user s))) ∷ [])
   miss_opened token user x asks some count f =
-      let P : List SessionState → Type 0 = λ l. Answers users s s l (take place xs ++ x ∷ drop place xs) e (reply_text (verdict.Changes (changes [] (view user s))) ∷ []) in
-      let Q : List (List ℕ) → Type 0 = λ ls. Answers users s s (take place xs ++ drop place xs) (take place xs ++ x ∷ drop place xs) e ls in
+      let P : List SessionState → Type 0 = λ l. Answers users s s l (take index xs ++ x ∷ drop index xs) e (reply_text (verdict.Changes (changes [] (view user s))) ∷ []) in
+      let Q : List (List ℕ) → Type 0 = λ ls. Answers users s s (take index xs ++ drop index xs) (take index xs ++ x ∷ drop index xs) e ls in
       let line : replies e.request shows_view (view user s) ≡ reply_text (verdict.Changes (changes [] (view user s))) ∷ [] =
       ap (λ r. replies r shows_view (view user s)) asks in
-      subst P (take-append-drop place xs) (subst Q line (answers_opened users s (take place xs) (drop place xs) e m.spot user x (by_room token user false asks some count) f))
+      subst P (take-append-drop index xs) (subst Q line (answers_opened users s (take index xs) (drop index xs) e m.spot user x (by_room token user false asks some count) f))

@@ -31,7 +31,7 @@ set-split [] i y lt = absurd (omega (arith, lt))
 set-split (x ∷ xs) zero y lt = refl
 set-split (x ∷ xs) (suc i) y lt = ap (λ r. x ∷ r) (set-split xs i y (omega (arith, lt)))
 
--- what stands at a place, whatever the default
+-- what stands at an index, whatever the default
 pub at_any : {X : Type 0} (xs : List X) (i : ℕ) (x d : X) → i < length xs → x ≡ get_or xs i x → get_or xs i d ≡ x
 at_any [] i x d lt is = absurd (omega (arith, lt))
 at_any (z ∷ xs) zero x d lt is = sym is
@@ -79,20 +79,20 @@ posts_one f xs now i x y lt e is is_y =
     let here : x ≡ get_or (map f (take i xs) ++ drop i xs) i x = is ∙ ap (λ l. get_or l i x) e in
     rw (add-one i) (ap (λ w. set now i w) is_y ∙ ap (λ l. set l i (f x)) e ∙ posts f xs i x lt here)
 
--- what stands at a place of those that were posted and those that are not yet
+-- what stands at an index of those that were posted and those that are not yet
 pub unposted : {X : Type 0} (P : X → Type 0) (f : X → X) (xs : List X) (i : ℕ) (x : X) → AllByRecursion P xs → i < length xs → x ≡ get_or (map f (take i xs) ++ drop i xs) i x → P x
 unposted P f [] i x h lt is = absurd (omega (arith, lt))
 unposted P f (z ∷ xs) zero x h lt is = subst P (sym is) h.0
 unposted P f (z ∷ xs) (suc i) x h lt is = unposted P f xs i x h.1 (omega (arith, lt)) is
 
 -- the session stays, its lines given
-pub stays_after : (old : List SessionState) (place : ℕ) (x p y : SessionState) (reply : List ℕ) (lines : List (List ℕ)) → place < length old → x ≡ get_or old place x
-    → IsPrepared x p → IsEmptied p y → y.made ≡ p.made → y.holder.bundles ≡ p.holder.bundles → lines ≡ p.waiting ++ reply ∷ [] → Stays old (set old place y) place reply lines
-stays_after old place x p y reply lines lt is h k made bundles given =
-    let at : (d : SessionState) → get_or old place d ≡ x = λ d. at_any old place x d lt is in
+pub stays_after : (old : List SessionState) (index : ℕ) (x p y : SessionState) (reply : List ℕ) (lines : List (List ℕ)) → index < length old → x ≡ get_or old index x
+    → IsPrepared x p → IsEmptied p y → y.made ≡ p.made → y.holder.bundles ≡ p.holder.bundles → lines ≡ p.waiting ++ reply ∷ [] → Stays old (set old index y) index reply lines
+stays_after old index x p y reply lines lt is h k made bundles given =
+    let at : (d : SessionState) → get_or old index d ≡ x = λ d. at_any old index x d lt is in
     record {
       after = y;
-      stands = set-split old place y lt;
+      stands = set-split old index y lt;
       emptied_box = λ d. let P : SessionState → Type 0 = λ z. IsEmptied z y in subst P (sym (at d)) (record {
         session = k.session ∙ h.session;
         user = k.user ∙ ap (λ o. o.user) h.holder;
@@ -110,15 +110,15 @@ posts_stand f (x ∷ xs) zero y lt = refl
 posts_stand f (x ∷ xs) (suc i) y lt = ap (λ r. f x ∷ r) (posts_stand f xs i y (omega (arith, lt)))
 
 -- the session of a bundle was given its lines, and the others were posted theirs
-pub posts_after : (old new : List SessionState) (place : ℕ) (x y : SessionState) (reply : List ℕ) (lines : List (List ℕ)) → place < length old → x ≡ get_or old place x
-    → new ≡ insert (map posted_state (take place old ++ drop (suc place) old)) place y
+pub posts_after : (old new : List SessionState) (index : ℕ) (x y : SessionState) (reply : List ℕ) (lines : List (List ℕ)) → index < length old → x ≡ get_or old index x
+    → new ≡ insert (map posted_state (take index old ++ drop (suc index) old)) index y
     → IsEmptied x y → y.made ≡ x.made + length (option_to_list x.ready) → y.holder.bundles ≡ x.holder.bundles + 1 → lines ≡ x.waiting ++ option_to_list x.ready ++ reply ∷ []
-    → Posts old new place reply lines
-posts_after old new place x y reply lines lt is stands emptied made bundles given =
-    let at : (d : SessionState) → x ≡ get_or old place d = λ d. sym (at_any old place x d lt is) in
+    → Posts old new index reply lines
+posts_after old new index x y reply lines lt is stands emptied made bundles given =
+    let at : (d : SessionState) → x ≡ get_or old index d = λ d. sym (at_any old index x d lt is) in
     record {
       after = y;
-      stands = stands ∙ posts_stand posted_state old place y lt;
+      stands = stands ∙ posts_stand posted_state old index y lt;
       emptied_box = λ d. let P : SessionState → Type 0 = λ z. IsEmptied z y in subst P (at d) emptied;
       made = λ d. made ∙ ap (λ (z : SessionState). z.made + length (option_to_list z.ready)) (at d);
       bundles = λ d. bundles ∙ ap (λ (z : SessionState). z.holder.bundles + 1) (at d);

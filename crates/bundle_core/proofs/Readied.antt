@@ -41,7 +41,7 @@ get_or-map f [] i d = refl
 get_or-map f (x ∷ xs) zero d = refl
 get_or-map f (x ∷ xs) (suc i) d = get_or-map f xs i d
 
--- the session of a place is the same
+-- the session of an index is the same
 pub same_at : (old new : List SessionState) (i : ℕ) (d : SessionState) → AreSame old new → open_of new_document (get_or new i d) ≡ open_of new_document (get_or old i d)
 same_at old new i d h =
     sym (get_or-map (open_of new_document) new i d) ∙ ap (λ os. get_or os i (open_of new_document d)) (h new_document) ∙ get_or-map (open_of new_document) old i d
@@ -56,13 +56,13 @@ ready_at told [] i d lt h = absurd (omega (arith, lt))
 ready_at told (x ∷ xs) zero d lt h = h.0
 ready_at told (x ∷ xs) (suc i) d lt h = ready_at told xs i d (omega (arith, lt)) h.1
 
--- the user of a place
+-- the user of an index
 pub user_at-is : (xs : List SessionState) (p : ℕ) (d : SessionState) → p < length xs → user_at xs p ≡ Some (get_or xs p d).holder.user
 user_at-is [] p d lt = absurd (omega (arith, lt))
 user_at-is (x ∷ xs) zero d lt = refl
 user_at-is (x ∷ xs) (suc p) d lt = user_at-is xs p d (omega (arith, lt))
 
--- the reply to a bundle of the session of a place
+-- the reply to a bundle of the session of an index
 pub reply_is : (xs : List SessionState) (p : ℕ) (d : SessionState) (s : Document) (ms : List Made) → p < length xs
     → reply_text (Bundle ((get_or xs p d).holder.bundles + 1) (map (told_of (view (get_or xs p d).holder.user s)) ms)) ≡ bundle_reply xs p s ms
 reply_is xs p d s ms lt =

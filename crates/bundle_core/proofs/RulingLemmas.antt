@@ -34,7 +34,7 @@ use Rattle.bundle_core.specs.Plans.{IsPlan, verdict_of}
 use Rattle.bundle_core.specs.Rulings.{IsAt, IsNext, with_all}
 use Rattle.bundle_core.proofs.WayLemmas.{nothing_left}
 
--- what holds of each holds of the one at a place
+-- what holds of each holds of the one at an index
 pub holds_at : {X : Type 0} (test : X → Bool) (xs : List X) (i : ℕ) (x : X) → list_all test xs ≡ true → i < length xs → x ≡ get_or xs i x → test x ≡ true
 holds_at test [] i x h lt is = absurd (omega (arith, lt))
 holds_at test (y ∷ xs) zero x h lt is = ap test is ∙ (and_parts (test y) (list_all test xs) h).0

@@ -2,7 +2,7 @@
 use Rattle.std.proofs.Common.{◌≡◌, ℕ, true, false, cond, List, [], ◌∷◌, map, Option, Some, None, refl, ap, ◌∙◌, option_map, if◌then◌else◌}
 use Rattle.std.specs.Str.{bytes_eq}
 use Rattle.doc_model.specs.ByIds.{find_id, without_id}
-use Rattle.doc_model.proofs.ByIdsLaws.{bytes_itself, find-place, find-without_id}
+use Rattle.doc_model.proofs.ByIdsLaws.{bytes_itself, find-put_by_id, find-without_id}
 use Rattle.doc_model.specs.declared.request.Request.{Request}
 use Rattle.doc_model.specs.declared.view.ViewTable.{ViewTable}
 use Rattle.doc_model.specs.Document.{Document}
@@ -26,17 +26,17 @@ mailbox-own name None f (Some m) r shows_view os = none_without name os
 mailbox-own name None f (Some m) r (says v) os = none_without name os
 mailbox-own name (Some h) f None r o os =
     let x : Open = record { session = name; holder = h; mailbox = _ } in
-    ap mailbox_in (find-place session_name x os name ∙ ap (λ b. cond b (Some x) (find_id session_name name os)) (bytes_itself name))
+    ap mailbox_in (find-put_by_id session_name x os name ∙ ap (λ b. cond b (Some x) (find_id session_name name os)) (bytes_itself name))
 mailbox-own name (Some h) f (Some m) r o os =
     let x : Open = record { session = name; holder = h; mailbox = _ } in
-    ap mailbox_in (find-place session_name x os name ∙ ap (λ b. cond b (Some x) (find_id session_name name os)) (bytes_itself name))
+    ap mailbox_in (find-put_by_id session_name x os name ∙ ap (λ b. cond b (Some x) (find_id session_name name os)) (bytes_itself name))
 
 -- another session is found as it was
 pub find-with_session : (name other : List ℕ) (h : Option Holder) (m : Option Mailbox) (os : List Open) → bytes_eq other name ≡ false
     → find_id session_name name (with_session other h m os) ≡ find_id session_name name os
 find-with_session name other (Some h) (Some m) os apart =
     let x : Open = record { session = other; holder = h; mailbox = m } in
-    find-place session_name x os name ∙ ap (λ b. cond b (Some x) (find_id session_name name os)) apart
+    find-put_by_id session_name x os name ∙ ap (λ b. cond b (Some x) (find_id session_name name os)) apart
 find-with_session name other (Some h) None os apart =
     find-without_id session_name other os name ∙ ap (λ b. cond b None (find_id session_name name os)) apart
 find-with_session name other None m os apart =

@@ -15,6 +15,6 @@ read_again [] i lt = absurd (omega (arith, lt))
 read_again (z ∷ xs) zero lt = refl
 read_again (z ∷ xs) (suc i) lt = read_again xs i (omega (arith, lt))
 
--- the same of numbers, that are read by their place
+-- the same of numbers, that are read by their index
 pub map_take_read : {Y : Type 0} (f : ℕ → Y) (xs : List ℕ) (i : ℕ) → i < length xs → map f (take i xs) ++ f (get_or xs i 0) ∷ [] ≡ map f (take (i + 1) xs)
 map_take_read f xs i lt = map_take_next f xs i (get_or xs i 0) lt (read_again xs i lt)

@@ -14,7 +14,7 @@ nothing_left zero (x ∷ xs) le = absurd (omega (arith, le))
 nothing_left (suc i) [] le = refl
 nothing_left (suc i) (x ∷ xs) le = nothing_left i xs (omega (arith, le))
 
--- what stands at a place, and what is behind it
+-- what stands at an index, and what is behind it
 pub left_at : {X : Type 0} (i : ℕ) (xs : List X) (x : X) → i < length xs → x ≡ get_or xs i x → drop i xs ≡ x ∷ drop (i + 1) xs
 left_at i xs x lt is = rw (add-one i) (drop-cons xs i x lt ∙ ap (λ y. y ∷ drop (suc i) xs) (sym is))
 

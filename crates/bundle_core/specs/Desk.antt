@@ -23,7 +23,7 @@ abbrev pub state_of : Document → ℕ → List SessionState → State
 state_of s added sessions =
     record { document = s; added = added; open_sessions = map (open_of s) sessions }
 
--- the sessions before the place of a name, and those behind it
+-- the sessions before the index of a name, and those behind it
 pub record IsSpot (name : List ℕ) (before behind : List SessionState) : Type 0 where
   pub below : AllByRecursion (λ x. precedes x.session name ≡ true) before
   pub above : AllByRecursion (λ x. precedes name x.session ≡ true) behind
@@ -40,70 +40,70 @@ pub record IsCounted (entries : ℕ) (x : SessionState) : Type 0 where
   pub made : x.made ≤ entries
   pub bundles : x.holder.bundles ≤ entries
 
--- the session of that name stands at that place
-pub record Finds (name : List ℕ) (sessions : List SessionState) (place : ℕ) : Type 0 where
-  pub within : place < length sessions
-  pub named : (d : SessionState) → (get_or sessions place d).session ≡ name
-  pub spot : IsSpot name (take place sessions) (drop (suc place) sessions)
+-- the session of that name stands at that index
+pub record Finds (name : List ℕ) (sessions : List SessionState) (index : ℕ) : Type 0 where
+  pub within : index < length sessions
+  pub named : (d : SessionState) → (get_or sessions index d).session ≡ name
+  pub spot : IsSpot name (take index sessions) (drop (suc index) sessions)
 
--- there is no session of that name, and it would stand at that place
-pub record Misses (name : List ℕ) (sessions : List SessionState) (place : ℕ) : Type 0 where
-  pub within : place ≤ length sessions
-  pub spot : IsSpot name (take place sessions) (drop place sessions)
+-- there is no session of that name, and it would stand at that index
+pub record Misses (name : List ℕ) (sessions : List SessionState) (index : ℕ) : Type 0 where
+  pub within : index ≤ length sessions
+  pub spot : IsSpot name (take index sessions) (drop index sessions)
 
 -- the same sessions, though more lines may be ready and there may be more room
 abbrev pub AreSame : List SessionState → List SessionState → Type 0
 AreSame old new = (s : Document) → map (open_of s) new ≡ map (open_of s) old
 
--- the session of that place is gone, and was given what waited and the reply
-pub record Leaves (old new : List SessionState) (place : ℕ) (reply : List ℕ) (lines : List (List ℕ)) : Type 0 where
-  pub gone : new ≡ take place old ++ drop (suc place) old
-  pub given_lines : (d : SessionState) → lines ≡ (get_or old place d).waiting ++ reply ∷ []
+-- the session of that index is gone, and was given what waited and the reply
+pub record Leaves (old new : List SessionState) (index : ℕ) (reply : List ℕ) (lines : List (List ℕ)) : Type 0 where
+  pub gone : new ≡ take index old ++ drop (suc index) old
+  pub given_lines : (d : SessionState) → lines ≡ (get_or old index d).waiting ++ reply ∷ []
 
--- the session of that place was given what waited and the reply
-pub record Stays (old new : List SessionState) (place : ℕ) (reply : List ℕ) (lines : List (List ℕ)) : Type 0 where
+-- the session of that index was given what waited and the reply
+pub record Stays (old new : List SessionState) (index : ℕ) (reply : List ℕ) (lines : List (List ℕ)) : Type 0 where
   pub after : SessionState
-  pub stands : new ≡ take place old ++ after ∷ drop (suc place) old
-  pub emptied_box : (d : SessionState) → IsEmptied (get_or old place d) after
-  pub made : (d : SessionState) → after.made ≡ (get_or old place d).made
-  pub bundles : (d : SessionState) → after.holder.bundles ≡ (get_or old place d).holder.bundles
-  pub given_lines : (d : SessionState) → lines ≡ (get_or old place d).waiting ++ reply ∷ []
+  pub stands : new ≡ take index old ++ after ∷ drop (suc index) old
+  pub emptied_box : (d : SessionState) → IsEmptied (get_or old index d) after
+  pub made : (d : SessionState) → after.made ≡ (get_or old index d).made
+  pub bundles : (d : SessionState) → after.holder.bundles ≡ (get_or old index d).holder.bundles
+  pub given_lines : (d : SessionState) → lines ≡ (get_or old index d).waiting ++ reply ∷ []
 
--- the number of the bundle that the session of that place has accepted next
+-- the number of the bundle that the session of that index has accepted next
 abbrev pub bundle_number : List SessionState → ℕ → ℕ
-bundle_number [] place = 0
+bundle_number [] index = 0
 bundle_number (x ∷ xs) zero = x.holder.bundles + 1
-bundle_number (x ∷ xs) (suc place) = bundle_number xs place
+bundle_number (x ∷ xs) (suc index) = bundle_number xs index
 
--- the user of the session of that place
+-- the user of the session of that index
 abbrev pub user_at : List SessionState → ℕ → Option User
-user_at [] place = None
+user_at [] index = None
 user_at (x ∷ xs) zero = Some x.holder.user
-user_at (x ∷ xs) (suc place) = user_at xs place
+user_at (x ∷ xs) (suc index) = user_at xs index
 
 -- what a user is told of what was made, in a document
 abbrev pub values_told : Option User → Document → List Made → List RetValue
 values_told None s ms = []
 values_told (Some user) s ms = map (told_of (view user s)) ms
 
--- the reply to a bundle of the session of that place that leads to this document
+-- the reply to a bundle of the session of that index that leads to this document
 abbrev pub bundle_reply : List SessionState → ℕ → Document → List Made → List ℕ
-bundle_reply sessions place s ms =
-    reply_text (Bundle (bundle_number sessions place) (values_told (user_at sessions place) s ms))
+bundle_reply sessions index s ms =
+    reply_text (Bundle (bundle_number sessions index) (values_told (user_at sessions index) s ms))
 
--- the session of that place was given what waited, its ready line and the reply; the others were posted theirs
-pub record Posts (old new : List SessionState) (place : ℕ) (reply : List ℕ) (lines : List (List ℕ)) : Type 0 where
+-- the session of that index was given what waited, its ready line and the reply; the others were posted theirs
+pub record Posts (old new : List SessionState) (index : ℕ) (reply : List ℕ) (lines : List (List ℕ)) : Type 0 where
   pub after : SessionState
-  pub stands : new ≡ map posted_state (take place old) ++ after ∷ map posted_state (drop (suc place) old)
-  pub emptied_box : (d : SessionState) → IsEmptied (get_or old place d) after
-  pub made : (d : SessionState) → after.made ≡ (get_or old place d).made + length (option_to_list (get_or old place d).ready)
-  pub bundles : (d : SessionState) → after.holder.bundles ≡ (get_or old place d).holder.bundles + 1
-  pub given_lines : (d : SessionState) → lines ≡ (get_or old place d).waiting ++ option_to_list (get_or old place d).ready ++ reply ∷ []
+  pub stands : new ≡ map posted_state (take index old) ++ after ∷ map posted_state (drop (suc index) old)
+  pub emptied_box : (d : SessionState) → IsEmptied (get_or old index d) after
+  pub made : (d : SessionState) → after.made ≡ (get_or old index d).made + length (option_to_list (get_or old index d).ready)
+  pub bundles : (d : SessionState) → after.holder.bundles ≡ (get_or old index d).holder.bundles + 1
+  pub given_lines : (d : SessionState) → lines ≡ (get_or old index d).waiting ++ option_to_list (get_or old index d).ready ++ reply ∷ []
 
--- the session of that place had a bundle accepted that owners are told so, and others; each session was
+-- the session of that index had a bundle accepted that owners are told so, and others; each session was
 -- posted what its user is told
-pub record Bundles (old new : List SessionState) (place : ℕ) (told : Bool → List ViewAction) (reply : List ℕ) (lines : List (List ℕ)) : Type 0 where
+pub record Bundles (old new : List SessionState) (index : ℕ) (told : Bool → List ViewAction) (reply : List ℕ) (lines : List (List ℕ)) : Type 0 where
   pub prepared : List SessionState
   pub same : AreSame old prepared
   pub ready : AllByRecursion (IsReady told) prepared
-  pub posts : Posts prepared new place reply lines
+  pub posts : Posts prepared new index reply lines

@@ -23,7 +23,7 @@ is_for_one single count = not single || nat_eq count 1
 -- whether an action has its form: the form for one record, its columns by id, and a value for each of
 -- its rows in each column
 abbrev pub is_in_form : UserAction → Bool
-is_in_form (Add table single count explicit ks) =
+is_in_form (Add table single count has_row_ids ks) =
     is_for_one single count && (are_by_id ks && have_values count ks)
 is_in_form (Update table single rows ks) =
     is_for_one single (length rows) && (are_by_id ks && have_values (length rows) ks)

@@ -24,7 +24,7 @@ pub data Judgement : Type 0 where
   accepted : Document → List Made → Judgement
   refused : Verdict → Judgement
 
--- the limit that the action at that place of its bundle would pass
+-- the limit that the action at that index of its bundle would pass
 abbrev pub limited : ℕ → Option LimitKind → Option Verdict
 limited i None = None
 limited i (Some kind) = Some (Limited kind (bound_of kind) (Some i))
@@ -34,7 +34,7 @@ abbrev pub opposed : ℕ → Option Objection → Option LimitKind → Option Ve
 opposed i (Some this) kind = Some (Refused (code_of this) (Some i))
 opposed i None kind = limited i kind
 
--- why the action at that place of its bundle is refused: by the user's view of the document there, or
+-- why the action at that index of its bundle is refused: by the user's view of the document there, or
 -- by a limit that the document after its steps passes
 abbrev pub refusal_at : Bool → Document → ℕ → UserAction → Option Verdict
 refusal_at owner s i a = opposed i (objection_to (view owner s) a) (over (after s a))
@@ -48,7 +48,7 @@ with_made m (refused v) = refused v
 abbrev pub made_at : Document → UserAction → Made
 made_at s a = made_of a (map action_of (steps_of s a))
 
--- the judgement of actions from that place of their bundle on
+-- the judgement of actions from that index of their bundle on
 abbrev pub judge_from : Bool → Document → ℕ → List UserAction → Judgement
 judge_from owner s i [] = accepted s []
 judge_from owner s i (a ∷ as') =

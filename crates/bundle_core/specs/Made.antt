@@ -14,7 +14,7 @@ use Rattle.bundle_core.specs.declared.made.Made.TheVariants as made
 
 -- whether the form for one record was used
 abbrev pub is_single : UserAction → Bool
-is_single (Add table single count explicit ks) = single
+is_single (Add table single count has_row_ids ks) = single
 is_single _ = false
 
 -- the record, or the records, under the id of their table

@@ -13,14 +13,14 @@ use Rattle.bundle_core.specs.declared.made.Made.{Made}
 use Rattle.bundle_core.specs.Judgement.{Judgement, judge_from, made_at, refusal_at, with_made}
 use Rattle.bundle_core.specs.Plans.{MayBeDone}
 
--- nothing stands against the action at that place: its steps and what it made
+-- nothing stands against the action at that index: its steps and what it made
 pub record IsNext (owner : Bool) (s : Document) (i : ℕ) (a : UserAction) (n : Next) : Type 0 where
   pub unopposed : refusal_at owner s i a ≡ None
   pub leads : apply_all s n.actions.items ≡ after s a
   pub made : n.made ≡ made_at s a
   pub may : MayBeDone s n.actions.items n.tally
 
--- what the action at that place comes to
+-- what the action at that index comes to
 abbrev pub IsRuling : Bool → Document → ℕ → UserAction → Ruling → Type 0
 IsRuling owner s i a (ruling.Accepted n) = IsNext owner s i a n
 IsRuling owner s i a (ruling.Refused v) = refusal_at owner s i a ≡ Some v

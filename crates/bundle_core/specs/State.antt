@@ -7,7 +7,7 @@ use Rattle.doc_model.specs.declared.user.User.{User}
 use Rattle.doc_model.specs.declared.limit.LimitKind.TheVariants as limit
 use Rattle.doc_model.specs.declared.request.Request.{Request}
 use Rattle.doc_model.specs.declared.request.Request.TheVariants as request
-use Rattle.doc_model.specs.ByIds.{find_id, place, without_id}
+use Rattle.doc_model.specs.ByIds.{find_id, put_by_id, without_id}
 use Rattle.doc_model.specs.Document.{Document}
 use Rattle.grist_json.specs.declared.verdict.Verdict.{Verdict}
 use Rattle.grist_json.specs.declared.verdict.Verdict.TheVariants as verdict
@@ -148,7 +148,7 @@ posted_all v os = if v.is_bundle then map (posted_to v.document) os else os
 -- the session as it is after its own turn
 abbrev pub with_session : List ℕ → Option Holder → Option Mailbox → List Open → List Open
 with_session name (Some h) (Some m) os =
-    place session_name (record { session = name; holder = h; mailbox = m }) os
+    put_by_id session_name (record { session = name; holder = h; mailbox = m }) os
 with_session name _ _ os = without_id session_name name os
 
 abbrev pub mailbox_of : List ℕ → State → Option Mailbox

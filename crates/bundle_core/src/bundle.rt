@@ -26,30 +26,30 @@ use grist_json::{Line, Verdict};
 use std::alloc::{AllocError, Global};
 use view_parts::part_law;
 
-/// Does the actions of a bundle of the session of that place, and posts every other open session the
+/// Does the actions of a bundle of the session of that index, and posts every other open session the
 /// line that tells them. All memory is taken before anything that can be seen changes.
 pub(crate) fn accept<D: DocTables>(
     alloc: Global,
     tables: &mut D,
     sessions: &mut Vec<OpenSession>,
-    place: usize,
+    index: usize,
     plan: &Plan,
 ) -> Result<Vec<Line>, AllocError>
-    requires within { place < length sessions.old.items }
+    requires within { index < length sessions.old.items }
     requires whole { IsWhole (D.document tables.old) }
     requires valid { all_valid (D.document tables.old) plan.now.actions.items ≡ true }
     requires few { AllByRecursion (λ x. x.made < 2 ^ 62) sessions.old.items }
     requires few_bundles { AllByRecursion (λ x. x.holder.bundles < 2 ^ 62) sessions.old.items }
     ensures document { OnOk result (D.document tables.new ≡ apply_all (D.document tables.old) plan.now.actions.items) }
-    ensures sessions { IfOk result (λ v. Bundles sessions.old.items sessions.new.items place
+    ensures sessions { IfOk result (λ v. Bundles sessions.old.items sessions.new.items index
         (told_changes (D.document tables.old) plan.now.actions.items)
-        (bundle_reply sessions.old.items place (apply_all (D.document tables.old) plan.now.actions.items) plan.now.made.items) v.items) }
+        (bundle_reply sessions.old.items index (apply_all (D.document tables.old) plan.now.actions.items) plan.now.made.items) v.items) }
     ensures err_document { OnErr result (D.document tables.new ≡ D.document tables.old) }
     ensures err { OnErr result (AreSame sessions.old.items sessions.new.items) }
 {
     let mut backs = Vec::new(alloc);
-    match ready_bundle(alloc, tables, sessions, place, plan, &mut backs) {
-        Ok(reply) => Ok(post(alloc, sessions, place, reply)),
+    match ready_bundle(alloc, tables, sessions, index, plan, &mut backs) {
+        Ok(reply) => Ok(post(alloc, sessions, index, reply)),
         Err(fault) => {
             take_back_all(tables, backs);
             Err(fault)
@@ -62,11 +62,11 @@ fn ready_bundle<D: DocTables>(
     alloc: Global,
     tables: &mut D,
     sessions: &mut Vec<OpenSession>,
-    place: usize,
+    index: usize,
     plan: &Plan,
     backs: &mut Vec<D::Back>,
 ) -> Result<Line, AllocError>
-    requires within { place < length sessions.old.items }
+    requires within { index < length sessions.old.items }
     requires whole { IsWhole (D.document tables.old) }
     requires valid { all_valid (D.document tables.old) plan.now.actions.items ≡ true }
     requires few { AllByRecursion (λ x. x.made < 2 ^ 63) sessions.old.items }
@@ -75,16 +75,16 @@ fn ready_bundle<D: DocTables>(
     ensures document { OnOk result (D.document tables.new ≡ apply_all (D.document tables.old) plan.now.actions.items) }
     ensures fit { AllFit D.undone D.fits backs.new.items (D.document tables.new) }
     ensures back { went_back D.undone D.fits backs.new.items (D.document tables.new) ≡ D.document tables.old }
-    ensures reply { IfOk result (λ l. l ≡ bundle_reply sessions.old.items place (apply_all (D.document tables.old) plan.now.actions.items) plan.now.made.items) }
+    ensures reply { IfOk result (λ l. l ≡ bundle_reply sessions.old.items index (apply_all (D.document tables.old) plan.now.actions.items) plan.now.made.items) }
     ensures same { AreSame sessions.old.items sessions.new.items }
     ensures ready { OnOk result (AllByRecursion (IsReady (told_changes (D.document tables.old) plan.now.actions.items)) sessions.new.items) }
-    ensures room { IfOk result (λ _. (d : SessionState) → 1 < (get_or sessions.new.items place d).room) }
+    ensures room { IfOk result (λ _. (d : SessionState) → 1 < (get_or sessions.new.items index d).room) }
     ensures length { length sessions.new.items ≡ length sessions.old.items }
 {
     let mixed = are_mixed(sessions);
     let told = done_and_told(alloc, tables, &plan.actions, mixed, backs)?;
-    let reply = reply_to(alloc, tables, &sessions[place], &plan.made)?;
-    ready_all(alloc, sessions, place, &told)?;
+    let reply = reply_to(alloc, tables, &sessions[index], &plan.made)?;
+    ready_all(alloc, sessions, index, &told)?;
     Ok(reply)
 }
 
@@ -138,18 +138,18 @@ fn reply_to<D: DocTables>(
 fn ready_all(
     alloc: Global,
     sessions: &mut Vec<OpenSession>,
-    place: usize,
+    index: usize,
     told: &Told,
 ) -> Result<(), AllocError>
-    requires within { place < length sessions.old.items }
+    requires within { index < length sessions.old.items }
     requires few { AllByRecursion (λ x. x.made < 2 ^ 63) sessions.old.items }
     ensures same { AreSame sessions.old.items sessions.new.items }
     ensures ready { OnOk result (AllByRecursion (IsReady (told_by told.now)) sessions.new.items) }
-    ensures room { IfOk result (λ _. (d : SessionState) → 1 < (get_or sessions.new.items place d).room) }
+    ensures room { IfOk result (λ _. (d : SessionState) → 1 < (get_or sessions.new.items index d).room) }
     ensures length { length sessions.new.items ≡ length sessions.old.items }
 {
     prepare_vec(alloc, sessions, told)?;
-    let session = &mut sessions[place];
+    let session = &mut sessions[index];
     session.make_room(2)
 }
 
@@ -167,17 +167,17 @@ fn prepare_vec(
 }
 
 // Gives the session its own lines, and posts the others theirs.
-fn post(alloc: Global, sessions: &mut Vec<OpenSession>, place: usize, reply: Line) -> Vec<Line>
-    requires within { place < length sessions.old.items }
-    requires room { (d : SessionState) → 1 < (get_or sessions.old.items place d).room }
+fn post(alloc: Global, sessions: &mut Vec<OpenSession>, index: usize, reply: Line) -> Vec<Line>
+    requires within { index < length sessions.old.items }
+    requires room { (d : SessionState) → 1 < (get_or sessions.old.items index d).room }
     requires may { AllByRecursion MayPost sessions.old.items }
     requires few_bundles { AllByRecursion (λ x. x.holder.bundles < 2 ^ 63) sessions.old.items }
-    ensures { Posts sessions.old.items sessions.new.items place reply result.items }
+    ensures { Posts sessions.old.items sessions.new.items index reply result.items }
 {
-    let mut own = sessions.remove(place);
+    let mut own = sessions.remove(index);
     post_rest(sessions);
     let lines = own.give_bundle(alloc, reply);
-    put_back(sessions, place, own);
+    put_back(sessions, index, own);
     lines
 }
 
@@ -190,11 +190,11 @@ fn post_rest(sessions: &mut Vec<OpenSession>)
     post_all(sessions.as_mut_slice());
 }
 
-/// Puts the session in at that place, where there is room.
-pub(crate) fn put_back(sessions: &mut Vec<OpenSession>, place: usize, own: OpenSession)
-    requires within { place ≤ vec_len sessions.old }
+/// Puts the session in at that index, where there is room.
+pub(crate) fn put_back(sessions: &mut Vec<OpenSession>, index: usize, own: OpenSession)
+    requires within { index ≤ vec_len sessions.old }
     requires room { vec_len sessions.old < vec_capacity sessions.old }
-    ensures { sessions.new.items ≡ insert sessions.old.items place own }
+    ensures { sessions.new.items ≡ insert sessions.old.items index own }
 {
-    drop(sessions.insert(place, own));
+    drop(sessions.insert(index, own));
 }

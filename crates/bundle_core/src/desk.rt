@@ -19,7 +19,7 @@ ghost use Rattle.bundle_core.specs.View.{view};
 
 use crate::bundle::{accept, put_back};
 use crate::judging::{Judged, judge};
-use crate::seek::place_of;
+use crate::seek::index_of;
 use crate::session::{OpenSession, is_owner};
 use crate::turns::{leave, reply_alone, stay};
 use action_limits::Tally;
@@ -70,7 +70,7 @@ fn user_of<'a>(users: &'a [User], token: &str) -> Option<&'a User>
 }
 
 /// Answers an entry: the lines that its session is given, with the document and the sessions as they are
-/// after it. At want of memory nothing that can be seen has changed.
+/// after it. When out of memory, nothing that can be seen has changed.
 pub(crate) fn answer<D: DocTables>(
     alloc: Global,
     users: &[User],
@@ -91,9 +91,9 @@ pub(crate) fn answer<D: DocTables>(
     ensures err_document { OnErr result (D.document tables.new ≡ D.document tables.old) }
     ensures err { OnErr result (AreSame sessions.old.items sessions.new.items) }
 {
-    match place_of(sessions, &entry.session) {
-        Err(place) => answer_outside(alloc, users, tables, sessions, place, entry),
-        Ok(place) => answer_inside(alloc, users, tables, tally, sessions, place, entry),
+    match index_of(sessions, &entry.session) {
+        Err(index) => answer_outside(alloc, users, tables, sessions, index, entry),
+        Ok(index) => answer_inside(alloc, users, tables, tally, sessions, index, entry),
     }
 }
 
@@ -103,10 +103,10 @@ fn answer_outside<D: DocTables>(
     users: &[User],
     tables: &D,
     sessions: &mut Vec<OpenSession>,
-    place: usize,
+    index: usize,
     entry: &Entry,
 ) -> Result<Vec<Line>, AllocError>
-    requires misses { Misses entry.now.session sessions.old.items place }
+    requires misses { Misses entry.now.session sessions.old.items index }
     requires whole { IsWhole (D.document tables.now) }
     ensures ok { IfOk result (λ v. Answers users.now (D.document tables.now) (D.document tables.now) sessions.old.items sessions.new.items entry.now v.items) }
     ensures err { OnErr result (AreSame sessions.old.items sessions.new.items) }
@@ -115,7 +115,7 @@ fn answer_outside<D: DocTables>(
         return reply_alone(alloc, refused(code));
     }
     if let Request::Open { token } = &entry.request {
-        return open(alloc, users, tables, sessions, place, entry, token.as_str());
+        return open(alloc, users, tables, sessions, index, entry, token.as_str());
     }
     Ok(Vec::new(alloc))
 }
@@ -126,11 +126,11 @@ fn open<D: DocTables>(
     users: &[User],
     tables: &D,
     sessions: &mut Vec<OpenSession>,
-    place: usize,
+    index: usize,
     entry: &Entry,
     token: &str,
 ) -> Result<Vec<Line>, AllocError>
-    requires misses { Misses entry.now.session sessions.old.items place }
+    requires misses { Misses entry.now.session sessions.old.items index }
     requires asks { entry.now.request ≡ Open token.now }
     requires whole { IsWhole (D.document tables.now) }
     ensures ok { IfOk result (λ v. Answers users.now (D.document tables.now) (D.document tables.now) sessions.old.items sessions.new.items entry.now v.items) }
@@ -138,7 +138,7 @@ fn open<D: DocTables>(
 {
     match user_of(users, token) {
         None => reply_alone(alloc, refused(5)),
-        Some(user) => open_for(alloc, users, tables, sessions, place, entry, token, user),
+        Some(user) => open_for(alloc, users, tables, sessions, index, entry, token, user),
     }
 }
 
@@ -148,12 +148,12 @@ fn open_for<D: DocTables>(
     users: &[User],
     tables: &D,
     sessions: &mut Vec<OpenSession>,
-    place: usize,
+    index: usize,
     entry: &Entry,
     token: &str,
     user: &User,
 ) -> Result<Vec<Line>, AllocError>
-    requires misses { Misses entry.now.session sessions.old.items place }
+    requires misses { Misses entry.now.session sessions.old.items index }
     requires asks { entry.now.request ≡ Open token.now }
     requires known { user_of users.now token.now ≡ Some user.now }
     requires whole { IsWhole (D.document tables.now) }
@@ -166,7 +166,7 @@ fn open_for<D: DocTables>(
     sessions.reserve(1)?;
     let lines = show_all(alloc, tables, user)?;
     let session = OpenSession::of(alloc, &entry.session, user)?;
-    put_back(sessions, place, session);
+    put_back(sessions, index, session);
     Ok(lines)
 }
 
@@ -193,17 +193,17 @@ fn too_many() -> Verdict
     }
 }
 
-// The entry is of the open session of that place.
+// The entry is of the open session of that index.
 fn answer_inside<D: DocTables>(
     alloc: Global,
     users: &[User],
     tables: &mut D,
     tally: &mut Tally,
     sessions: &mut Vec<OpenSession>,
-    place: usize,
+    index: usize,
     entry: &Entry,
 ) -> Result<Vec<Line>, AllocError>
-    requires finds { Finds entry.now.session sessions.old.items place }
+    requires finds { Finds entry.now.session sessions.old.items index }
     requires whole { IsWhole (D.document tables.old) }
     requires tally { IsTally (D.document tables.old) tally.old }
     requires few { AllByRecursion (λ x. x.made < 2 ^ 62) sessions.old.items }
@@ -216,25 +216,25 @@ fn answer_inside<D: DocTables>(
     ensures err { OnErr result (AreSame sessions.old.items sessions.new.items) }
 {
     if let Request::Gone = &entry.request {
-        drop(sessions.remove(place));
+        drop(sessions.remove(index));
         return Ok(Vec::new(alloc));
     }
-    if sessions[place].is_lagging() {
-        return leave(alloc, sessions, place, refused(21));
+    if sessions[index].is_lagging() {
+        return leave(alloc, sessions, index, refused(21));
     }
     if let Some(code) = refusal_inside(&entry.request) {
-        return stay(alloc, sessions, place, refused(code));
+        return stay(alloc, sessions, index, refused(code));
     }
     match &entry.request {
         Request::Apply { actions } => {
-            answer_bundle(alloc, users, tables, tally, sessions, place, entry, actions)
+            answer_bundle(alloc, users, tables, tally, sessions, index, entry, actions)
         }
-        Request::Close => leave(alloc, sessions, place, Verdict::Done),
-        _ => stay(alloc, sessions, place, Verdict::Done),
+        Request::Close => leave(alloc, sessions, index, Verdict::Done),
+        _ => stay(alloc, sessions, index, Verdict::Done),
     }
 }
 
-// Judges a bundle of the open session of that place, which does not lag, and does it where it is
+// Judges a bundle of the open session of that index, which does not lag, and does it where it is
 // accepted.
 fn answer_bundle<D: DocTables>(
     alloc: Global,
@@ -242,12 +242,12 @@ fn answer_bundle<D: DocTables>(
     tables: &mut D,
     tally: &mut Tally,
     sessions: &mut Vec<OpenSession>,
-    place: usize,
+    index: usize,
     entry: &Entry,
     actions: &UserActionList,
 ) -> Result<Vec<Line>, AllocError>
-    requires finds { Finds entry.now.session sessions.old.items place }
-    requires quick { (d : SessionState) → (get_or sessions.old.items place d).lagging ≡ false }
+    requires finds { Finds entry.now.session sessions.old.items index }
+    requires quick { (d : SessionState) → (get_or sessions.old.items index d).lagging ≡ false }
     requires asks { entry.now.request ≡ Apply actions.now }
     requires whole { IsWhole (D.document tables.old) }
     requires tally { IsTally (D.document tables.old) tally.old }
@@ -260,11 +260,11 @@ fn answer_bundle<D: DocTables>(
     ensures err_document { OnErr result (D.document tables.new ≡ D.document tables.old) }
     ensures err { OnErr result (AreSame sessions.old.items sessions.new.items) }
 {
-    let owner = sessions[place].is_owner();
+    let owner = sessions[index].is_owner();
     match judge(alloc, tables, *tally, owner, actions.as_slice())? {
-        Judged::Refused(verdict) => stay(alloc, sessions, place, verdict),
+        Judged::Refused(verdict) => stay(alloc, sessions, index, verdict),
         Judged::Accepted(plan) => {
-            let lines = accept(alloc, tables, sessions, place, &plan)?;
+            let lines = accept(alloc, tables, sessions, index, &plan)?;
             *tally = plan.tally;
             Ok(lines)
         }

@@ -6,7 +6,7 @@ ghost use Rattle.bundle_core.specs.Steps.{IsAnswer};
 ghost use Rattle.bundle_core.specs.State.{session_of};
 
 use crate::desk::answer;
-use crate::seek::place_of;
+use crate::seek::index_of;
 use crate::session::OpenSession;
 use action_limits::Tally;
 use cell_types::{Name, Sequence};
@@ -59,7 +59,7 @@ impl Model for Core {
 impl Core {
     /// A core of a new document that nobody may open yet.
     ///
-    /// Errors: want of memory.
+    /// Errors: out of memory.
     pub fn new(alloc: Global) -> Result<Self, AllocError>
         ensures { IfOk result (λ c. c ≡ record { users = []; history = [] }) }
     {
@@ -162,7 +162,7 @@ impl Core {
     fn is_open(&self, session: &Name) -> bool
         ensures { result ≡ is_some (session_of session.now (state_after self.now.users self.now.history)) }
     {
-        place_of(&self.sessions, session).is_ok()
+        index_of(&self.sessions, session).is_ok()
     }
 }
 

@@ -24,7 +24,7 @@ use doc_model::{DocAction, DocTables, LimitKind, MAX_ACTIONS, Refusal, StepList,
 use grist_json::Verdict;
 use std::alloc::{AllocError, Global};
 use user_actions::refuse;
-use view_parts::{allowed_law, asked_law, asked_view};
+use view_parts::{allowed_law, requested_law, requested_view};
 
 /// A bundle that is accepted: its document actions, what its user actions made, and the tally of the
 /// document after it.
@@ -77,13 +77,13 @@ fn verdict_of(refusal: Refusal) -> Verdict
     }
 }
 
-fn limited(kind: LimitKind, place: u32) -> Verdict
-    ensures { Some result ≡ limited place (Some kind) }
+fn limited(kind: LimitKind, index: u32) -> Verdict
+    ensures { Some result ≡ limited index (Some kind) }
 {
     Verdict::Limited {
         what: kind,
         bound: kind.bound(),
-        action: Some(place),
+        action: Some(index),
     }
 }
 
@@ -134,17 +134,17 @@ fn rule_on_steps<D: DocTables>(
     tally: Tally,
     owner: bool,
     action: &UserAction,
-    place: u32,
+    index: u32,
 ) -> Result<Ruling, AllocError>
     requires whole { IsWhole (D.document tables.now) }
     requires form { is_in_form action.now ≡ true }
     requires unopposed { objection_to (view owner (D.document tables.now)) action.now ≡ None }
     requires tally { IsTally (D.document tables.now) tally }
-    ensures { IfOk result (λ r. IsRuling owner (D.document tables.now) place action.now r) }
+    ensures { IfOk result (λ r. IsRuling owner (D.document tables.now) index action.now r) }
 {
     allowed_law();
     match expand(alloc, tables, tally, action)? {
-        Expansion::Limit(kind) => Ok(Ruling::Refused(limited(kind, place))),
+        Expansion::Limit(kind) => Ok(Ruling::Refused(limited(kind, index))),
         Expansion::Steps { steps, tally } => {
             let next = next_of(alloc, tables, tally, action, steps)?;
             Ok(Ruling::Accepted(next))
@@ -152,25 +152,25 @@ fn rule_on_steps<D: DocTables>(
     }
 }
 
-// What the action at that place of its bundle comes to.
+// What the action at that index of its bundle comes to.
 fn rule_on<D: DocTables>(
     alloc: Global,
     tables: &D,
     tally: Tally,
     owner: bool,
     action: &UserAction,
-    place: u32,
+    index: u32,
 ) -> Result<Ruling, AllocError>
     requires whole { IsWhole (D.document tables.now) }
     requires form { is_in_form action.now ≡ true }
     requires tally { IsTally (D.document tables.now) tally }
-    ensures { IfOk result (λ r. IsRuling owner (D.document tables.now) place action.now r) }
+    ensures { IfOk result (λ r. IsRuling owner (D.document tables.now) index action.now r) }
 {
-    let view = asked_view(alloc, tables, owner, action)?;
-    asked_law();
-    match refuse(alloc, &view, action, place)? {
+    let view = requested_view(alloc, tables, owner, action)?;
+    requested_law();
+    match refuse(alloc, &view, action, index)? {
         Some(refusal) => Ok(Ruling::Refused(verdict_of(refusal))),
-        None => rule_on_steps(alloc, tables, tally, owner, action, place),
+        None => rule_on_steps(alloc, tables, tally, owner, action, index),
     }
 }
 
@@ -197,10 +197,10 @@ fn judge_each<D: DocTables>(
     let mut actions = Vec::new(alloc);
     let mut made = Vec::new(alloc);
     let mut next = Vec::new(alloc);
-    for place in 0..asked.len() {
+    for index in 0..asked.len() {
         put_all(tables, &next, backs)?;
         actions.append(&mut next)?;
-        match rule_on(alloc, tables, tally, owner, &asked[place], place as u32)? {
+        match rule_on(alloc, tables, tally, owner, &asked[index], index as u32)? {
             Ruling::Refused(verdict) => {
                 drop((actions, made, next));
                 return Ok(Judged::Refused(verdict));

@@ -6,12 +6,12 @@
 //! what a bundle comes to in specs/Judgement.antt, over plain lists, for every document.
 //!
 //! Promises: `Core::step` gives the lines that the state after the history says, and adds the entry; a
-//! full history and want of memory change nothing. `isolation_law`: a session is given exactly what its
+//! full history and running out of memory change nothing. `isolation_law`: a session is given exactly what its
 //! own requests, verdicts and views tell; `equal_bytes_law`: histories that it observes alike give it
 //! equal bytes.
 //! Not built yet: undo and fetching a table, formulas, references, access rules.
 //! Costs: a bundle costs what its actions touch, and a line for each session; see bundle.rt. A session's
-//! place is found by a walk.
+//! index is found by a walk.
 //! Read first: specs/State.antt, specs/Judgement.antt, specs/Told.antt and specs/Core.antt, then
 //! history_core.rt, desk.rt, judging.rt and bundle.rt.
 #![tactic(auto)]

@@ -22,7 +22,7 @@ pub const MAX_WAITING_BYTES: u64 = 4_194_304;
 
 /// A session that is open.
 ///
-/// A line is posted in two steps, so that want of memory changes nothing: `prepare` makes the line and
+/// A line is posted in two steps, so that running out of memory changes nothing: `prepare` makes the line and
 /// the room for it, and `post`, which cannot fail, puts it behind those that wait.
 #[derive(Drop)]
 pub(crate) struct OpenSession {

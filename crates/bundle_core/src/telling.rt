@@ -10,7 +10,7 @@ ghost use Rattle.bundle_core.specs.Telling.{seen_by, told_by};
 use doc_model::{DocAction, DocTables, View, ViewActionList, ViewTableList};
 use plain_view::changes;
 use std::alloc::{AllocError, Global};
-use view_parts::touched_view;
+use view_parts::affected_view;
 
 /// The part of what owners see, and of what others see, that actions are about; nothing for others where
 /// nobody asks for it.
@@ -39,7 +39,7 @@ fn others_part<D: DocTables>(
     ensures is_view { IfOk result (λ v. IsView v.tables) }
 {
     if mixed {
-        return touched_view(alloc, tables, false, actions);
+        return affected_view(alloc, tables, false, actions);
     }
     Ok(View {
         tables: ViewTableList::new(alloc),
@@ -58,7 +58,7 @@ pub(crate) fn see_parts<D: DocTables>(
     ensures views { IfOk result (λ s. (owner : Bool) → IsView (seen_by s owner)) }
 {
     Ok(Seen {
-        owners: touched_view(alloc, tables, true, actions)?,
+        owners: affected_view(alloc, tables, true, actions)?,
         others: others_part(alloc, tables, actions, mixed)?,
     })
 }

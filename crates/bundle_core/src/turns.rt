@@ -28,44 +28,44 @@ pub(crate) fn reply_alone(alloc: Global, verdict: Verdict) -> Result<Vec<Line>, 
     Ok(lines)
 }
 
-/// Gives the session of that place what waits and the reply, and closes it. At want of memory the
+/// Gives the session of that index what waits and the reply, and closes it. When out of memory, the
 /// sessions are the same.
 pub(crate) fn leave(
     alloc: Global,
     sessions: &mut Vec<OpenSession>,
-    place: usize,
+    index: usize,
     verdict: Verdict,
 ) -> Result<Vec<Line>, AllocError>
-    requires { place < length sessions.old.items }
-    ensures ok { IfOk result (λ v. Leaves sessions.old.items sessions.new.items place (reply_text verdict) v.items) }
+    requires { index < length sessions.old.items }
+    ensures ok { IfOk result (λ v. Leaves sessions.old.items sessions.new.items index (reply_text verdict) v.items) }
     ensures err { OnErr result (AreSame sessions.old.items sessions.new.items) }
 {
     let reply = reply_with(alloc, verdict)?;
-    let session = &mut sessions[place];
+    let session = &mut sessions[index];
     session.make_room(1)?;
-    let session = sessions.remove(place);
+    let session = sessions.remove(index);
     Ok(session.leave(reply))
 }
 
-/// Gives the session of that place what waits and the reply. At want of memory the sessions are the
+/// Gives the session of that index what waits and the reply. When out of memory, the sessions are the
 /// same.
 pub(crate) fn stay(
     alloc: Global,
     sessions: &mut Vec<OpenSession>,
-    place: usize,
+    index: usize,
     verdict: Verdict,
 ) -> Result<Vec<Line>, AllocError>
-    requires { place < length sessions.old.items }
-    ensures ok { IfOk result (λ v. Stays sessions.old.items sessions.new.items place (reply_text verdict) v.items) }
+    requires { index < length sessions.old.items }
+    ensures ok { IfOk result (λ v. Stays sessions.old.items sessions.new.items index (reply_text verdict) v.items) }
     ensures err { OnErr result (AreSame sessions.old.items sessions.new.items) }
 {
     let reply = reply_with(alloc, verdict)?;
-    let session = &mut sessions[place];
+    let session = &mut sessions[index];
     session.make_room(1)?;
     Ok(session.give(alloc, reply))
 }
 
-/// Makes ready the line that tells each session what its user is told. At want of memory the sessions
+/// Makes ready the line that tells each session what its user is told. When out of memory, the sessions
 /// are the same.
 pub(crate) fn prepare_all(
     alloc: Global,

@@ -7,7 +7,7 @@ ghost use Rattle.bundle_core.specs.Ways.{AllFit, went_back};
 use doc_model::{DocAction, DocTables};
 use std::alloc::AllocError;
 
-/// Does valid actions, and notes what takes each back behind what is there. At want of memory some of
+/// Does valid actions, and notes what takes each back behind what is there. When out of memory, some of
 /// them are done.
 pub(crate) fn put_all<D: DocTables>(
     tables: &mut D,

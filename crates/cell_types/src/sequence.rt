@@ -64,7 +64,7 @@ impl<T> Sequence<T> {
 
     /// Adds an item at the end.
     ///
-    /// Errors: want of memory hands the item back; the list is then as it was.
+    /// Errors: out of memory; it hands the item back; the list is then as it was.
     pub fn push(&mut self, item: T) -> Result<(), AllocFailed<T>>
         ensures ok { OnOk result (self.new ≡ self.old ++ item ∷ []) }
         ensures err { OnErr result (self.new ≡ self.old) }

@@ -8,7 +8,7 @@ use Rattle.doc_model.specs.Column.{column_id, is_sound_info}
 use Rattle.doc_model.specs.Document.{Document}
 use Rattle.doc_model.specs.Grid.{Grid}
 use Rattle.doc_model.specs.MetadataIds.{columns_id}
-use Rattle.doc_model.specs.Rows.{all_in, is_once, none_in}
+use Rattle.doc_model.specs.Rows.{all_in, has_no_duplicates, none_in}
 use Rattle.doc_model.specs.Valid.{all_null, are_free, from_one, gives_data, is_new_column}
 
 -- whether the numbers ascend from that one on
@@ -19,16 +19,16 @@ ascends_from least (r ∷ rows) = nat_le least r && ascends_from (r + 1) rows
 -- what a BulkAdd asks of its table
 abbrev pub takes_records : List ℕ → List CellColumn → Grid ColDef → Bool
 takes_records rows ks g =
-    is_once rows && from_one rows && none_in rows g.rows && gives_data g rows ks
+    has_no_duplicates rows && from_one rows && none_in rows g.rows && gives_data g rows ks
 
 -- what a BulkUpdate asks of its table
 abbrev pub has_records : List ℕ → List CellColumn → Grid ColDef → Bool
 has_records rows ks g =
-    is_once rows && from_one rows && all_in rows g.rows && gives_data g rows ks
+    has_no_duplicates rows && from_one rows && all_in rows g.rows && gives_data g rows ks
 
 -- what a BulkRemove asks of its table
 abbrev pub has_rows : List ℕ → Grid ColDef → Bool
-has_rows rows g = is_once rows && all_in rows g.rows
+has_rows rows g = has_no_duplicates rows && all_in rows g.rows
 
 -- what an AddColumn asks of its table
 abbrev pub takes_column : Document → ColDef → Grid ColDef → Bool

@@ -49,7 +49,7 @@ impl From<AllocError> for ApplyFault {
 
 /// Does an action where it is valid, and hands out what takes it back.
 ///
-/// Errors: `Invalid`, and want of memory; the document is then as it was.
+/// Errors: `Invalid`, and out of memory; the document is then as it was.
 /// Memory: what the store takes to change the document, and a copy of given rows that do not
 /// ascend; want of the latter is no fault.
 pub fn apply<D: DocTables>(

@@ -7,7 +7,7 @@ ghost use Rattle.doc_model.specs.DocumentLaws.{IsWhole};
 ghost use Rattle.doc_model.specs.Records.{given_id};
 ghost use Rattle.doc_model.specs.Valid.{gives_column, gives_data};
 
-use crate::told::is_data;
+use crate::table_readers::is_data;
 use cell_types::Name;
 use doc_model::{CellColumn, DocTables};
 use doc_readers::are_base;
@@ -24,8 +24,8 @@ fn is_given(columns: &[CellColumn], id: &Name) -> bool
 fn are_apart(columns: &[CellColumn]) -> bool
     ensures { result ≡ are_distinct given_id columns.now }
 {
-    for (place, column) in columns.iter().enumerate() {
-        if is_given(&columns[place + 1..], &column.id) {
+    for (index, column) in columns.iter().enumerate() {
+        if is_given(&columns[index + 1..], &column.id) {
             return false;
         }
     }

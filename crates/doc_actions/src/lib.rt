@@ -5,22 +5,22 @@
 //!
 //! Promises: `apply` does a valid action and no other, over any store of a document, and says that
 //! an action is not valid exactly where it is not; `is_valid` is that test, and never wants memory.
-//! The document has to be whole, as `apply` leaves it: a store tells columns by place, and could
-//! have some behind the last place; the schema tables are found by theirs; and the rows of a table,
+//! The document has to be whole, as `apply` leaves it: a store tells columns by index, and could
+//! have some behind the last index; the schema tables are found by theirs; and the rows of a table,
 //! which are searched by halves, have to ascend.
 //! Not promised: that the document keeps within limits. The columns of one action are compared in
 //! pairs, and given rows that do not ascend too where there is no memory to sort them.
-//! Read first: applying.rt, validity.rt, then record_tests.rt and schema_tests.rt.
+//! Read first: applying.rt, validity.rt, then record_validity.rt and schema_validity.rt.
 #![tactic(auto)]
 
 mod applying;
 mod base_values;
 mod given_columns;
-mod record_tests;
+mod record_validity;
 mod row_ids;
 mod schema_rows;
-mod schema_tests;
-mod told;
+mod schema_validity;
+mod table_readers;
 mod validity;
 
 pub use applying::{ApplyFault, apply};

@@ -3,10 +3,10 @@
 ghost use Rattle.std.specs.Prelude.{◌≡◌, IfOk};
 ghost use Rattle.std.specs.List.Sorted.{IsNonDecreasing, IsPermutation};
 ghost use Rattle.doc_actions.specs.Parts.{ascends_from};
-ghost use Rattle.doc_model.specs.Rows.{IsAscending, all_in, has, is_once, none_in};
+ghost use Rattle.doc_model.specs.Rows.{IsAscending, all_in, has, has_no_duplicates, none_in};
 ghost use Rattle.doc_model.specs.Valid.{from_one};
 
-use doc_model::are_rows_once;
+use doc_model::have_no_duplicates;
 use doc_readers::holds_row;
 use std::alloc::{AllocError, Global};
 
@@ -70,14 +70,14 @@ fn sorted(alloc: Global, rows: &[u32]) -> Result<Vec<u32>, AllocError>
 /// Cost: linear where the rows ascend, and else that of sorting, or of comparing in pairs.
 #[tactic(auto, using(crate::proofs::RowIdLemmas::once_by_order))]
 pub(crate) fn are_once(alloc: Global, rows: &[u32]) -> bool
-    ensures { result ≡ is_once rows.now }
+    ensures { result ≡ has_no_duplicates rows.now }
 {
     if ascends(rows) {
         return true;
     }
     match sorted(alloc, rows) {
         Ok(rows) => ascends(&rows),
-        Err(_) => are_rows_once(rows),
+        Err(_) => have_no_duplicates(rows),
     }
 }
 

@@ -5,7 +5,7 @@ ghost use Rattle.std.specs.List.{list_all};
 ghost use Rattle.doc_model.specs.Column.{column_row};
 ghost use Rattle.doc_model.specs.DocumentLaws.{IsWhole};
 ghost use Rattle.doc_model.specs.MetadataIds.{columns_id, tables_id};
-ghost use Rattle.doc_model.specs.Rows.{IsAscending, has, is_once, none_in};
+ghost use Rattle.doc_model.specs.Rows.{IsAscending, has, has_no_duplicates, none_in};
 ghost use Rattle.doc_model.specs.Valid.{are_free, from_one, rows_of};
 
 use doc_model::{ColDef, DocTables};
@@ -70,10 +70,10 @@ fn has_row(columns: &[ColDef], row: u32) -> bool
 
 // Whether no row describes two of the columns.
 fn are_rows_apart(columns: &[ColDef]) -> bool
-    ensures { result ≡ is_once (map column_row columns.now) }
+    ensures { result ≡ has_no_duplicates (map column_row columns.now) }
 {
-    for (place, column) in columns.iter().enumerate() {
-        if has_row(&columns[place + 1..], column.row) {
+    for (index, column) in columns.iter().enumerate() {
+        if has_row(&columns[index + 1..], column.row) {
             return false;
         }
     }

@@ -4,8 +4,8 @@ ghost use Rattle.std.specs.Prelude.{◌≡◌};
 ghost use Rattle.doc_model.specs.DocumentLaws.{IsWhole};
 ghost use Rattle.doc_model.specs.Valid.{valid};
 
-use crate::record_tests::{may_add, may_remove, may_update};
-use crate::schema_tests::{
+use crate::record_validity::{may_add, may_remove, may_update};
+use crate::schema_validity::{
     may_add_column, may_add_table, may_modify_column, may_remove_column, may_remove_table,
     may_rename_column, may_rename_table,
 };

@@ -9,7 +9,7 @@ use Rattle.std.specs.Ordering.{nat_cmp, is_lt, is_eq, ordering_reverse}
 use Rattle.std.specs.Cmp.Lexicographic.{slice_cmp}
 use Rattle.std.specs.List.{AllByRecursion}
 use Rattle.std.specs.Str.{bytes_eq}
-use Rattle.doc_model.specs.ByIds.{precedes, find_id, has_id, AreDistinct, are_distinct, IsByIds, place, by_id, without_id}
+use Rattle.doc_model.specs.ByIds.{precedes, find_id, has_id, AreDistinct, are_distinct, IsByIds, put_by_id, by_id, without_id}
 use Rattle.doc_model.proofs.Choices.{cond_true, cond_false, each_weaker, keep, not_true}
 
 pub bytes_itself : (c : List ℕ) → bytes_eq c c ≡ true
@@ -77,19 +77,19 @@ module _ {X : Type 0} (id : X → List ℕ) where
   find_low c [] h = refl
   find_low c (y ∷ xs) h = cond_false (bytes_eq (id y) c) (Some y) (find_id id c xs) (bytes_apart c (id y) (precedes_apart c (id y) h.0)) ∙ find_low c xs h.1
 
-  pub find-place : (x : X) (xs : List X) (c : List ℕ) → find_id id c (place id x xs) ≡ cond (bytes_eq (id x) c) (Some x) (find_id id c xs)
-  find-place x [] c = refl
-  find-place x (y ∷ xs) c =
-      elim (precedes (id x) (id y)) as (λ b. find_id id c (cond b (x ∷ y ∷ xs) (cond (bytes_eq (id x) (id y)) (x ∷ xs) (y ∷ place id x xs))) ≡ cond (bytes_eq (id x) c) (Some x) (find_id id c (y ∷ xs))) [
+  pub find-put_by_id : (x : X) (xs : List X) (c : List ℕ) → find_id id c (put_by_id id x xs) ≡ cond (bytes_eq (id x) c) (Some x) (find_id id c xs)
+  find-put_by_id x [] c = refl
+  find-put_by_id x (y ∷ xs) c =
+      elim (precedes (id x) (id y)) as (λ b. find_id id c (cond b (x ∷ y ∷ xs) (cond (bytes_eq (id x) (id y)) (x ∷ xs) (y ∷ put_by_id id x xs))) ≡ cond (bytes_eq (id x) c) (Some x) (find_id id c (y ∷ xs))) [
         | true ↦ refl
-        | false ↦ elim (bytes_eq (id x) (id y)) as (λ b. bytes_eq (id x) (id y) ≡ b → find_id id c (cond b (x ∷ xs) (y ∷ place id x xs)) ≡ cond (bytes_eq (id x) c) (Some x) (cond (bytes_eq (id y) c) (Some y) (find_id id c xs))) [
+        | false ↦ elim (bytes_eq (id x) (id y)) as (λ b. bytes_eq (id x) (id y) ≡ b → find_id id c (cond b (x ∷ xs) (y ∷ put_by_id id x xs)) ≡ cond (bytes_eq (id x) c) (Some x) (cond (bytes_eq (id y) c) (Some y) (find_id id c xs))) [
           | true ↦ λ is. let same : id x ≡ id y = (bytes_eq-Decides (id x) (id y)).0 is in
               elim (bytes_eq (id x) c) as (λ b. bytes_eq (id x) c ≡ b → cond b (Some x) (find_id id c xs) ≡ cond b (Some x) (cond (bytes_eq (id y) c) (Some y) (find_id id c xs))) [
                 | true ↦ λ _. refl
                 | false ↦ λ n. sym (cond_false (bytes_eq (id y) c) (Some y) (find_id id c xs) (ap (λ e. bytes_eq e c) (sym same) ∙ n))
               ] refl
           | false ↦ λ apart.
-              ap (λ o. cond (bytes_eq (id y) c) (Some y) o) (find-place x xs c)
+              ap (λ o. cond (bytes_eq (id y) c) (Some y) o) (find-put_by_id x xs c)
               ∙ elim (bytes_eq (id x) c) as (λ b. bytes_eq (id x) c ≡ b → cond (bytes_eq (id y) c) (Some y) (cond b (Some x) (find_id id c xs)) ≡ cond b (Some x) (cond (bytes_eq (id y) c) (Some y) (find_id id c xs))) [
                 | true ↦ λ is. cond_false (bytes_eq (id y) c) (Some y) (Some x) (let same : id x ≡ c = (bytes_eq-Decides (id x) c).0 is in ap (bytes_eq (id y)) (sym same) ∙ bytes_apart (id x) (id y) apart)
                 | false ↦ λ _. refl
@@ -111,23 +111,23 @@ module _ {X : Type 0} (id : X → List ℕ) where
         ] refl
       ] refl
 
-  below_place : (p : List ℕ) (x : X) (xs : List X) → precedes p (id x) ≡ true → AllByRecursion (λ y. precedes p (id y) ≡ true) xs → AllByRecursion (λ y. precedes p (id y) ≡ true) (place id x xs)
-  below_place p x [] l h = (l, tt)
-  below_place p x (y ∷ xs) l h =
-      elim (precedes (id x) (id y)) as (λ b. AllByRecursion (λ y. precedes p (id y) ≡ true) (cond b (x ∷ y ∷ xs) (cond (bytes_eq (id x) (id y)) (x ∷ xs) (y ∷ place id x xs)))) [
+  below_index : (p : List ℕ) (x : X) (xs : List X) → precedes p (id x) ≡ true → AllByRecursion (λ y. precedes p (id y) ≡ true) xs → AllByRecursion (λ y. precedes p (id y) ≡ true) (put_by_id id x xs)
+  below_index p x [] l h = (l, tt)
+  below_index p x (y ∷ xs) l h =
+      elim (precedes (id x) (id y)) as (λ b. AllByRecursion (λ y. precedes p (id y) ≡ true) (cond b (x ∷ y ∷ xs) (cond (bytes_eq (id x) (id y)) (x ∷ xs) (y ∷ put_by_id id x xs)))) [
         | true ↦ (l, h)
-        | false ↦ elim (bytes_eq (id x) (id y)) as (λ b. AllByRecursion (λ y. precedes p (id y) ≡ true) (cond b (x ∷ xs) (y ∷ place id x xs))) [ true ↦ (l, h.1) | false ↦ (h.0, below_place p x xs l h.1) ]
+        | false ↦ elim (bytes_eq (id x) (id y)) as (λ b. AllByRecursion (λ y. precedes p (id y) ≡ true) (cond b (x ∷ xs) (y ∷ put_by_id id x xs))) [ true ↦ (l, h.1) | false ↦ (h.0, below_index p x xs l h.1) ]
       ]
 
-  pub IsByIds-place : (x : X) (xs : List X) → IsByIds id xs → IsByIds id (place id x xs)
-  IsByIds-place x [] s = (tt, tt)
-  IsByIds-place x (y ∷ xs) s =
-      elim (precedes (id x) (id y)) as (λ b. precedes (id x) (id y) ≡ b → IsByIds id (cond b (x ∷ y ∷ xs) (cond (bytes_eq (id x) (id y)) (x ∷ xs) (y ∷ place id x xs)))) [
+  pub IsByIds-put_by_id : (x : X) (xs : List X) → IsByIds id xs → IsByIds id (put_by_id id x xs)
+  IsByIds-put_by_id x [] s = (tt, tt)
+  IsByIds-put_by_id x (y ∷ xs) s =
+      elim (precedes (id x) (id y)) as (λ b. precedes (id x) (id y) ≡ b → IsByIds id (cond b (x ∷ y ∷ xs) (cond (bytes_eq (id x) (id y)) (x ∷ xs) (y ∷ put_by_id id x xs)))) [
         | true ↦ λ l. ((l, each_weaker (λ z. precedes (id y) (id z) ≡ true) (λ z. precedes (id x) (id z) ≡ true) (λ z m. precedes_trans (id x) (id y) (id z) l m) xs s.0), s)
-        | false ↦ λ l. elim (bytes_eq (id x) (id y)) as (λ b. bytes_eq (id x) (id y) ≡ b → IsByIds id (cond b (x ∷ xs) (y ∷ place id x xs))) [
+        | false ↦ λ l. elim (bytes_eq (id x) (id y)) as (λ b. bytes_eq (id x) (id y) ≡ b → IsByIds id (cond b (x ∷ xs) (y ∷ put_by_id id x xs))) [
           | true ↦ λ is. let same : id y ≡ id x = sym ((bytes_eq-Decides (id x) (id y)).0 is) in
               (subst (λ d. AllByRecursion (λ z. precedes d (id z) ≡ true) xs) same s.0, s.1)
-          | false ↦ λ apart. (below_place (id y) x xs (precedes_else (id x) (id y) l apart) s.0, IsByIds-place x xs s.1)
+          | false ↦ λ apart. (below_index (id y) x xs (precedes_else (id x) (id y) l apart) s.0, IsByIds-put_by_id x xs s.1)
         ] refl
       ] refl
 
@@ -269,9 +269,9 @@ module _ {X : Type 0} (id : X → List ℕ) where
         ] refl
       ] refl
 
-  pub has_id-place : (x : X) (xs : List X) (c : List ℕ) → has_id id (place id x xs) c ≡ (bytes_eq (id x) c || has_id id xs c)
-  has_id-place x xs c =
-      has_id-find c (place id x xs) ∙ ap is_some (find-place x xs c)
+  pub has_id-put_by_id : (x : X) (xs : List X) (c : List ℕ) → has_id id (put_by_id id x xs) c ≡ (bytes_eq (id x) c || has_id id xs c)
+  has_id-put_by_id x xs c =
+      has_id-find c (put_by_id id x xs) ∙ ap is_some (find-put_by_id x xs c)
       ∙ elim (bytes_eq (id x) c) as (λ b. is_some (cond b (Some x) (find_id id c xs)) ≡ (b || has_id id xs c)) [ true ↦ refl | false ↦ sym (has_id-find c xs) ]
 
   pub has_id-without : (c : List ℕ) (xs : List X) (e : List ℕ) → has_id id (without_id id c xs) e ≡ (not (bytes_eq c e) && has_id id xs e)
@@ -280,35 +280,35 @@ module _ {X : Type 0} (id : X → List ℕ) where
       ∙ elim (bytes_eq c e) as (λ b. is_some (cond b None (find_id id e xs)) ≡ (not b && has_id id xs e)) [ true ↦ refl | false ↦ sym (has_id-find e xs) ]
 
   -- a thing before all others stands first
-  pub place_low : (x : X) (xs : List X) → AllByRecursion (λ y. precedes (id x) (id y) ≡ true) xs → place id x xs ≡ x ∷ xs
-  place_low x [] h = refl
-  place_low x (y ∷ ys) h = cond_true (precedes (id x) (id y)) (x ∷ y ∷ ys) (cond (bytes_eq (id x) (id y)) (x ∷ ys) (y ∷ place id x ys)) h.0
+  pub index_low : (x : X) (xs : List X) → AllByRecursion (λ y. precedes (id x) (id y) ≡ true) xs → put_by_id id x xs ≡ x ∷ xs
+  index_low x [] h = refl
+  index_low x (y ∷ ys) h = cond_true (precedes (id x) (id y)) (x ∷ y ∷ ys) (cond (bytes_eq (id x) (id y)) (x ∷ ys) (y ∷ put_by_id id x ys)) h.0
 
   -- what is in order stays as it is
   pub by_id_again : (xs : List X) → IsByIds id xs → by_id id xs ≡ xs
   by_id_again [] s = refl
-  by_id_again (x ∷ xs) s = ap (place id x) (by_id_again xs s.1) ∙ place_low x xs s.0
+  by_id_again (x ∷ xs) s = ap (put_by_id id x) (by_id_again xs s.1) ∙ index_low x xs s.0
 
-  each_place : (P : X → Type 0) (x : X) (xs : List X) → P x → AllByRecursion P xs → AllByRecursion P (place id x xs)
-  each_place P x [] p h = (p, tt)
-  each_place P x (y ∷ ys) p h =
-      elim (precedes (id x) (id y)) as (λ b. AllByRecursion P (cond b (x ∷ y ∷ ys) (cond (bytes_eq (id x) (id y)) (x ∷ ys) (y ∷ place id x ys)))) [
+  each_index : (P : X → Type 0) (x : X) (xs : List X) → P x → AllByRecursion P xs → AllByRecursion P (put_by_id id x xs)
+  each_index P x [] p h = (p, tt)
+  each_index P x (y ∷ ys) p h =
+      elim (precedes (id x) (id y)) as (λ b. AllByRecursion P (cond b (x ∷ y ∷ ys) (cond (bytes_eq (id x) (id y)) (x ∷ ys) (y ∷ put_by_id id x ys)))) [
         | true ↦ (p, h)
-        | false ↦ elim (bytes_eq (id x) (id y)) as (λ b. AllByRecursion P (cond b (x ∷ ys) (y ∷ place id x ys))) [ true ↦ (p, h.1) | false ↦ (h.0, each_place P x ys p h.1) ]
+        | false ↦ elim (bytes_eq (id x) (id y)) as (λ b. AllByRecursion P (cond b (x ∷ ys) (y ∷ put_by_id id x ys))) [ true ↦ (p, h.1) | false ↦ (h.0, each_index P x ys p h.1) ]
       ]
 
   pub each_by_id : (P : X → Type 0) (xs : List X) → AllByRecursion P xs → AllByRecursion P (by_id id xs)
   each_by_id P [] h = tt
-  each_by_id P (x ∷ xs) h = each_place P x (by_id id xs) h.0 (each_by_id P xs h.1)
+  each_by_id P (x ∷ xs) h = each_index P x (by_id id xs) h.0 (each_by_id P xs h.1)
 
   pub IsByIds-by_id : (xs : List X) → IsByIds id (by_id id xs)
   IsByIds-by_id [] = tt
-  IsByIds-by_id (x ∷ xs) = IsByIds-place x (by_id id xs) (IsByIds-by_id xs)
+  IsByIds-by_id (x ∷ xs) = IsByIds-put_by_id x (by_id id xs) (IsByIds-by_id xs)
 
   pub has_id-by_id : (xs : List X) (c : List ℕ) → has_id id (by_id id xs) c ≡ has_id id xs c
   has_id-by_id [] c = refl
   has_id-by_id (x ∷ xs) c =
-      has_id-find c (place id x (by_id id xs)) ∙ ap is_some (find-place x (by_id id xs) c)
+      has_id-find c (put_by_id id x (by_id id xs)) ∙ ap is_some (find-put_by_id x (by_id id xs) c)
       ∙ elim (bytes_eq (id x) c) as (λ b. is_some (cond b (Some x) (find_id id c (by_id id xs))) ≡ (b || has_id id xs c)) [
         | true ↦ refl
         | false ↦ sym (has_id-find c (by_id id xs)) ∙ has_id-by_id xs c

@@ -7,10 +7,10 @@ use Rattle.std.specs.Str.{bytes_eq}
 use Rattle.std.specs.Prelude.{insert, ◌+◌}
 use Rattle.doc_model.specs.declared.column.ColDef.{ColDef}
 use Rattle.doc_model.specs.ByIds.{find_id, has_id, AreDistinct, with_id, without_id}
-use Rattle.doc_model.specs.Rows.{has, is_once, IsAscending}
+use Rattle.doc_model.specs.Rows.{has, has_no_duplicates, IsAscending}
 use Rattle.doc_model.specs.Column.{column_row}
 use Rattle.doc_model.specs.Document.{put_by_row, by_row}
-use Rattle.doc_model.specs.Places.{column_place}
+use Rattle.doc_model.specs.Indexes.{column_index}
 use Rattle.doc_model.proofs.Choices.{cond_true, cond_false, each_weaker, filter_all, not_true, or_swap}
 use Rattle.doc_model.proofs.ByIdsLaws.{has_id-find, find-without_id, bytes_itself, bytes_apart, has_apart, apart_has}
 use Rattle.doc_model.proofs.RowsLaws.{number_itself}
@@ -76,10 +76,10 @@ module _ {X : Type 0} (row : X → ℕ) where
       later true b e = absurd (true≢false e)
       later false b e = e
 
-  pub IsAscending-by_row : (xs : List X) → is_once (map row xs) ≡ true → IsAscending (map row (by_row row xs))
+  pub IsAscending-by_row : (xs : List X) → has_no_duplicates (map row xs) ≡ true → IsAscending (map row (by_row row xs))
   IsAscending-by_row [] h = tt
   IsAscending-by_row (x ∷ xs) h =
-      let both : (not (has (map row xs) (row x)) ≡ true) × (is_once (map row xs) ≡ true) = and_parts (not (has (map row xs) (row x))) (is_once (map row xs)) h in
+      let both : (not (has (map row xs) (row x)) ≡ true) × (has_no_duplicates (map row xs) ≡ true) = and_parts (not (has (map row xs) (row x))) (has_no_duplicates (map row xs)) h in
       IsAscending-put_by_row x (by_row row xs) (IsAscending-by_row xs both.1) (has-by_row xs (row x) ∙ not_true (has (map row xs) (row x)) both.0)
 
   put_low : (x : X) (xs : List X) → AllByRecursion (λ q. row x < q) (map row xs) → put_by_row row x xs ≡ x ∷ xs
@@ -353,11 +353,11 @@ with_id-put_by_row id row f x (y ∷ ys) same fresh =
     ∙ ap (λ n. cond (ltb n (row y)) (f x ∷ y ∷ ys) (y ∷ put_by_row row (f x) ys)) (sym same)
 
 -- a column goes to its place
-pub put_by_row-column_place : (d : ColDef) (cs : List ColDef) → put_by_row column_row d cs ≡ insert cs (column_place d.row cs) d
-put_by_row-column_place d [] = refl
-put_by_row-column_place d (e ∷ cs) =
-    let next : suc (column_place d.row cs) ≡ column_place d.row cs + 1 = omega arith in
-    elim (ltb d.row e.row) as (λ b. cond b (d ∷ e ∷ cs) (e ∷ put_by_row column_row d cs) ≡ insert (e ∷ cs) (cond b 0 (column_place d.row cs + 1)) d) [
+pub put_by_row-column_index : (d : ColDef) (cs : List ColDef) → put_by_row column_row d cs ≡ insert cs (column_index d.row cs) d
+put_by_row-column_index d [] = refl
+put_by_row-column_index d (e ∷ cs) =
+    let next : suc (column_index d.row cs) ≡ column_index d.row cs + 1 = omega arith in
+    elim (ltb d.row e.row) as (λ b. cond b (d ∷ e ∷ cs) (e ∷ put_by_row column_row d cs) ≡ insert (e ∷ cs) (cond b 0 (column_index d.row cs + 1)) d) [
       | true ↦ refl
-      | false ↦ ap (λ xs. e ∷ xs) (put_by_row-column_place d cs) ∙ ap (λ n. insert (e ∷ cs) n d) next
+      | false ↦ ap (λ xs. e ∷ xs) (put_by_row-column_index d cs) ∙ ap (λ n. insert (e ∷ cs) n d) next
     ]

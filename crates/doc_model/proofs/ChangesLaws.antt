@@ -10,7 +10,7 @@ use Rattle.doc_model.specs.declared.view.ViewCol.{ViewCol}
 use Rattle.doc_model.specs.declared.view.ViewTable.{ViewTable}
 use Rattle.doc_model.specs.declared.view.ViewAction.{ViewAction}
 use Rattle.doc_model.specs.declared.view.ViewAction.TheVariants.{AddTable, RemoveTable, AddColumn, RemoveColumn, ModifyColumn, BulkAdd, BulkUpdate, BulkRemove}
-use Rattle.doc_model.specs.ByIds.{precedes, find_id, has_id, IsByIds, place}
+use Rattle.doc_model.specs.ByIds.{precedes, find_id, has_id, IsByIds, put_by_id}
 use Rattle.doc_model.specs.Rows.{has, insert_rows, IsAscending}
 use Rattle.doc_model.specs.Grid.{Grid, grid_of, cell}
 use Rattle.doc_model.specs.Records.{or_else, given}
@@ -18,7 +18,7 @@ use Rattle.doc_model.specs.ViewEdits.{shown_id, shown_start, IsShown, Edit, remo
 use Rattle.doc_model.specs.Changes.{shown_table_id, grid, table, IsView, on_table, introduced, revised, for_each, changes}
 use Rattle.doc_model.specs.Patch.{bare, edit_table, patched, patch}
 use Rattle.doc_model.proofs.Choices.{cond_true, cond_false, keep, each_filter, filter_none, or_false}
-use Rattle.doc_model.proofs.ByIdsLaws.{bytes_apart, found_id, found_all, find_low, find-place, find-without_id, IsByIds-place, IsByIds-filter, same_by_ids, has_id-find, find-filter, by_id_again, AreDistinct-IsByIds, each_found, has_found}
+use Rattle.doc_model.proofs.ByIdsLaws.{bytes_apart, found_id, found_all, find_low, find-put_by_id, find-without_id, IsByIds-put_by_id, IsByIds-filter, same_by_ids, has_id-find, find-filter, by_id_again, AreDistinct-IsByIds, each_found, has_found}
 use Rattle.doc_model.proofs.RowsLaws.{has-insert_rows, IsAscending-insert_rows, same_ascending}
 use Rattle.doc_model.proofs.GridLaws.{cell-grid_of, same_grid, IsGrid-grid_of}
 use Rattle.doc_model.proofs.RecordsLaws.{given_own}
@@ -118,8 +118,8 @@ pub named-introduced : (t : ViewTable) (v : List ViewTable) (c : List ℕ) → I
 named-introduced t v c g =
     let es : List Edit = filling (grid t) t.rows in
     let t0 : ViewTable = table t.id (bare t.columns) in
-    named-edits t.id es (place shown_table_id t0 v) c
-    ∙ ap (λ o. cond (bytes_eq t.id c) (option_map (with_edits es) o) o) (find-place shown_table_id t0 v c)
+    named-edits t.id es (put_by_id shown_table_id t0 v) c
+    ∙ ap (λ o. cond (bytes_eq t.id c) (option_map (with_edits es) o) o) (find-put_by_id shown_table_id t0 v c)
     ∙ elim (bytes_eq t.id c) as (λ b. cond b (option_map (with_edits es) (cond b (Some t0) (named c v))) (cond b (Some t0) (named c v)) ≡ cond b (Some t) (named c v)) [
       | true ↦ ap (λ (g : Grid ViewCol). let x : Option ViewTable = Some (table t.id g) in x) (ap (all_edited es) (bare_empty (grid t) g) ∙ filled_new (grid t) t.rows refl g)
       | false ↦ refl
@@ -161,7 +161,7 @@ IsByIds-edited t e (s ∷ v) h =
     (subst (λ n. AllByRecursion (λ y. precedes n (shown_table_id y) ≡ true) (edit_table t e v)) (sym (same_id t e s)) (below_edited t e s.id v h.0), IsByIds-edited t e v h.1)
 
 IsByIds-patched : (c : ViewAction) (v : List ViewTable) → IsByIds shown_table_id v → IsByIds shown_table_id (patched c v)
-IsByIds-patched (AddTable t cs) v h = IsByIds-place shown_table_id (table t (bare cs)) v h
+IsByIds-patched (AddTable t cs) v h = IsByIds-put_by_id shown_table_id (table t (bare cs)) v h
 IsByIds-patched (RemoveTable t) v h = IsByIds-filter shown_table_id (λ s. not (bytes_eq (shown_table_id s) t)) v h
 IsByIds-patched (AddColumn t d) v h = IsByIds-edited t (add_column d) v h
 IsByIds-patched (RemoveColumn t c) v h = IsByIds-edited t (remove_column c) v h

@@ -11,7 +11,7 @@ use Rattle.doc_model.specs.declared.column.ColDef.{ColDef}
 use Rattle.doc_model.specs.declared.column.ColInfo.{ColInfo}
 use Rattle.doc_model.specs.MetadataIds.{columns_id}
 use Rattle.doc_model.specs.ByIds.{find_id, has_id, with_id, without_id}
-use Rattle.doc_model.specs.Rows.{has, is_once, all_in, IsAscending}
+use Rattle.doc_model.specs.Rows.{has, has_no_duplicates, all_in, IsAscending}
 use Rattle.doc_model.specs.Grid.{Grid, cell}
 use Rattle.doc_model.specs.Records.{update_rows, column_of}
 use Rattle.doc_model.specs.Column.{column_id, column_row, default_of, start_of, is_null, is_sound_info}
@@ -179,10 +179,10 @@ module _ (r u : Grid ColDef) (p : List Table) (good : IsGood r u p) (table : Lis
       back_filled : d.info.is_formula ≡ false → LeadsBack after whole (AddColumn table d ∷ BulkUpdate table t.grid.rows mine ∷ [])
       back_filled data' =
           two_back whole between after (AddColumn table d) (BulkUpdate table t.grid.rows mine) valid_again comes
-          (ap (λ o. passes o (λ x. is_once t.grid.rows && from_one t.grid.rows && all_in t.grid.rows x.grid.rows && gives_data x.grid t.grid.rows mine)) (record_table_plain r u (changed again) table plain ∙ found_after again)
-          ∙ both_true ((is_once t.grid.rows && from_one t.grid.rows) && all_in t.grid.rows t.grid.rows) (gives_data (again t.grid) t.grid.rows mine)
-          (both_true (is_once t.grid.rows && from_one t.grid.rows) (all_in t.grid.rows t.grid.rows)
-          (both_true (is_once t.grid.rows) (from_one t.grid.rows) (once_ascending t.grid.rows sound_t.is_grid.ascending) (from_one_in t.grid.rows t.grid sound_t (all_in_itself t.grid.rows)))
+          (ap (λ o. passes o (λ x. has_no_duplicates t.grid.rows && from_one t.grid.rows && all_in t.grid.rows x.grid.rows && gives_data x.grid t.grid.rows mine)) (record_table_plain r u (changed again) table plain ∙ found_after again)
+          ∙ both_true ((has_no_duplicates t.grid.rows && from_one t.grid.rows) && all_in t.grid.rows t.grid.rows) (gives_data (again t.grid) t.grid.rows mine)
+          (both_true (has_no_duplicates t.grid.rows && from_one t.grid.rows) (all_in t.grid.rows t.grid.rows)
+          (both_true (has_no_duplicates t.grid.rows) (from_one t.grid.rows) (once_ascending t.grid.rows sound_t.is_grid.ascending) (from_one_in t.grid.rows t.grid sound_t (all_in_itself t.grid.rows)))
           (all_in_itself t.grid.rows))
           (gives_column_of t.grid (again t.grid) t.grid.rows d sound_t is_there
           (ap (λ o. passes o (λ (d : ColDef). not d.info.is_formula))

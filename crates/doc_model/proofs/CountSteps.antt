@@ -9,7 +9,7 @@ use Rattle.doc_model.specs.declared.column.CellColumn.{CellColumn}
 use Rattle.doc_model.specs.declared.column.ColDef.{ColDef}
 use Rattle.doc_model.specs.MetadataIds.{is_schema_id, is_metadata_id}
 use Rattle.doc_model.specs.ByIds.{find_id, has_id, AreDistinct, are_distinct, with_id}
-use Rattle.doc_model.specs.Rows.{insert_rows, without, is_once, all_in, none_in, IsAscending}
+use Rattle.doc_model.specs.Rows.{insert_rows, without, has_no_duplicates, all_in, none_in, IsAscending}
 use Rattle.doc_model.specs.Grid.{Grid}
 use Rattle.doc_model.specs.Records.{given_id, add_rows, update_rows, remove_rows}
 use Rattle.doc_model.specs.Column.{column_id, column_row, start_of}
@@ -27,7 +27,7 @@ use Rattle.doc_model.proofs.WeightLaws.{weight-add_rows, weight-update_rows, wei
 use Rattle.doc_model.proofs.DocumentParts.{passes_parts}
 
 -- the cells of rows
-length-insert_rows : (qs rows : List ℕ) → is_once qs ≡ true → none_in qs rows ≡ true → length (insert_rows qs rows) ≡ length qs + length rows
+length-insert_rows : (qs rows : List ℕ) → has_no_duplicates qs ≡ true → none_in qs rows ≡ true → length (insert_rows qs rows) ≡ length qs + length rows
 length-insert_rows qs rows o n =
     let all : sum_of (λ _. 1) (insert_rows qs rows) ≡ sum_of (λ _. 1) qs + sum_of (λ _. 1) rows = total-insert_rows (λ _. 1) qs rows o n in
     let a : sum_of (λ _. 1) (insert_rows qs rows) ≡ length (insert_rows qs rows) = length-total (insert_rows qs rows) in
@@ -35,7 +35,7 @@ length-insert_rows qs rows o n =
     let c : sum_of (λ _. 1) rows ≡ length rows = length-total rows in
     omega arith
 
-pub length-without : (qs rows : List ℕ) → IsAscending rows → is_once qs ≡ true → all_in qs rows ≡ true → length (without qs rows) + length qs ≡ length rows
+pub length-without : (qs rows : List ℕ) → IsAscending rows → has_no_duplicates qs ≡ true → all_in qs rows ≡ true → length (without qs rows) + length qs ≡ length rows
 length-without qs rows asc o t =
     let all : sum_of (λ _. 1) (without qs rows) + sum_of (λ _. 1) qs ≡ sum_of (λ _. 1) rows = total-without (λ _. 1) qs rows asc o t in
     let a : sum_of (λ _. 1) (without qs rows) ≡ length (without qs rows) = length-total (without qs rows) in
@@ -123,10 +123,10 @@ given_parts g rows ks e =
 module _ (s : Document) (sound : IsSound s) (table : List ℕ) where
   pub add_sums : (rows : List ℕ) (ks : List CellColumn) → valid s (BulkAdd table rows ks) ≡ true → SumsMove s (effect s (BulkAdd table rows ks)) (BulkAdd table rows ks)
   add_sums rows ks v =
-      let parts : (t : Table) × ((record_table s table ≡ Some t) × ((((is_once rows && from_one rows) && none_in rows t.grid.rows) && gives_data t.grid rows ks) ≡ true))
-      = passes_parts (record_table s table) (λ t. is_once rows && from_one rows && none_in rows t.grid.rows && gives_data t.grid rows ks) v in
+      let parts : (t : Table) × ((record_table s table ≡ Some t) × ((((has_no_duplicates rows && from_one rows) && none_in rows t.grid.rows) && gives_data t.grid rows ks) ≡ true))
+      = passes_parts (record_table s table) (λ t. has_no_duplicates rows && from_one rows && none_in rows t.grid.rows && gives_data t.grid rows ks) v in
       let t : Table = parts.0 in
-      let tests : (is_once rows ≡ true) × (from_one rows ≡ true) × (none_in rows t.grid.rows ≡ true) × (gives_data t.grid rows ks ≡ true) = parts_4 (is_once rows) (from_one rows) (none_in rows t.grid.rows) (gives_data t.grid rows ks) parts.1.1 in
+      let tests : (has_no_duplicates rows ≡ true) × (from_one rows ≡ true) × (none_in rows t.grid.rows ≡ true) × (gives_data t.grid rows ks ≡ true) = parts_4 (has_no_duplicates rows) (from_one rows) (none_in rows t.grid.rows) (gives_data t.grid rows ks) parts.1.1 in
       let f : Grid ColDef → Grid ColDef = add_rows column_id start_of rows ks in
       let g : IsSoundGrid t.grid = grid_sound s sound table t parts.1.0 f in
       let given : AreDistinct given_id ks × AllByRecursion (λ k. has_id column_id t.grid.columns k.id ≡ true) ks × AllByRecursion (λ k. length k.values ≡ length rows) ks = given_parts t.grid rows ks tests.3 in
@@ -145,10 +145,10 @@ module _ (s : Document) (sound : IsSound s) (table : List ℕ) where
 
   pub update_sums : (rows : List ℕ) (ks : List CellColumn) → valid s (BulkUpdate table rows ks) ≡ true → SumsMove s (effect s (BulkUpdate table rows ks)) (BulkUpdate table rows ks)
   update_sums rows ks v =
-      let parts : (t : Table) × ((record_table s table ≡ Some t) × ((((is_once rows && from_one rows) && all_in rows t.grid.rows) && gives_data t.grid rows ks) ≡ true))
-      = passes_parts (record_table s table) (λ t. is_once rows && from_one rows && all_in rows t.grid.rows && gives_data t.grid rows ks) v in
+      let parts : (t : Table) × ((record_table s table ≡ Some t) × ((((has_no_duplicates rows && from_one rows) && all_in rows t.grid.rows) && gives_data t.grid rows ks) ≡ true))
+      = passes_parts (record_table s table) (λ t. has_no_duplicates rows && from_one rows && all_in rows t.grid.rows && gives_data t.grid rows ks) v in
       let t : Table = parts.0 in
-      let tests : (is_once rows ≡ true) × (from_one rows ≡ true) × (all_in rows t.grid.rows ≡ true) × (gives_data t.grid rows ks ≡ true) = parts_4 (is_once rows) (from_one rows) (all_in rows t.grid.rows) (gives_data t.grid rows ks) parts.1.1 in
+      let tests : (has_no_duplicates rows ≡ true) × (from_one rows ≡ true) × (all_in rows t.grid.rows ≡ true) × (gives_data t.grid rows ks ≡ true) = parts_4 (has_no_duplicates rows) (from_one rows) (all_in rows t.grid.rows) (gives_data t.grid rows ks) parts.1.1 in
       let f : Grid ColDef → Grid ColDef = update_rows column_id rows ks in
       let g : IsSoundGrid t.grid = grid_sound s sound table t parts.1.0 f in
       let given : AreDistinct given_id ks × AllByRecursion (λ k. has_id column_id t.grid.columns k.id ≡ true) ks × AllByRecursion (λ k. length k.values ≡ length rows) ks = given_parts t.grid rows ks tests.3 in
@@ -165,9 +165,9 @@ module _ (s : Document) (sound : IsSound s) (table : List ℕ) where
 
   pub remove_sums : (rows : List ℕ) → valid s (BulkRemove table rows) ≡ true → SumsMove s (effect s (BulkRemove table rows)) (BulkRemove table rows)
   remove_sums rows v =
-      let parts : (t : Table) × ((record_table s table ≡ Some t) × ((is_once rows && all_in rows t.grid.rows) ≡ true)) = passes_parts (record_table s table) (λ t. is_once rows && all_in rows t.grid.rows) v in
+      let parts : (t : Table) × ((record_table s table ≡ Some t) × ((has_no_duplicates rows && all_in rows t.grid.rows) ≡ true)) = passes_parts (record_table s table) (λ t. has_no_duplicates rows && all_in rows t.grid.rows) v in
       let t : Table = parts.0 in
-      let tests : (is_once rows ≡ true) × (all_in rows t.grid.rows ≡ true) = and_parts (is_once rows) (all_in rows t.grid.rows) parts.1.1 in
+      let tests : (has_no_duplicates rows ≡ true) × (all_in rows t.grid.rows ≡ true) = and_parts (has_no_duplicates rows) (all_in rows t.grid.rows) parts.1.1 in
       let f : Grid ColDef → Grid ColDef = remove_rows column_id rows in
       let g : IsSoundGrid t.grid = grid_sound s sound table t parts.1.0 f in
       let here : gone s (BulkRemove table rows) ≡ record { tables = 0; cells = length rows * length t.grid.columns; weight = rows_weight t.grid rows }

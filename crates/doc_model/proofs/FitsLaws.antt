@@ -8,15 +8,15 @@ use Rattle.doc_model.specs.declared.view.ViewCol.{ViewCol}
 use Rattle.doc_model.specs.declared.view.ViewTable.{ViewTable}
 use Rattle.doc_model.specs.declared.view.ViewAction.{ViewAction}
 use Rattle.doc_model.specs.declared.view.ViewAction.TheVariants.{RemoveTable}
-use Rattle.doc_model.specs.ByIds.{find_id, has_id, AreDistinct, are_distinct, place, without_id}
-use Rattle.doc_model.specs.Rows.{has, without, is_once, all_in, none_in}
+use Rattle.doc_model.specs.ByIds.{find_id, has_id, AreDistinct, are_distinct, put_by_id, without_id}
+use Rattle.doc_model.specs.Rows.{has, without, has_no_duplicates, all_in, none_in}
 use Rattle.doc_model.specs.Grid.{Grid}
 use Rattle.doc_model.specs.Records.{given_id, column_of, or_else}
 use Rattle.doc_model.specs.ViewEdits.{shown_id, IsShown, Edit, remove_column, add_column, modify_column, remove, add, update, edited, all_edited, if_any, whole, differs, edits}
 use Rattle.doc_model.specs.Changes.{shown_table_id, grid, table, IsView, on_table, introduced, revised, for_each, changes}
 use Rattle.doc_model.specs.Patch.{bare, edit_table, patched, patch, edit_fits, fits_table, fits, unfit_at}
 use Rattle.doc_model.proofs.Choices.{cond_true, cond_false, keep, each_weaker, each_both, each_filter, each_passed, both_true, true_each, not_true}
-use Rattle.doc_model.proofs.ByIdsLaws.{bytes_itself, bytes_apart, found_id, has_found, found_has, find_absent, each_found, has_id-find, find-filter, has_id-place, has_id-without, has_id-map, AreDistinct-IsByIds, are_distinct-AreDistinct, IsByIds-filter}
+use Rattle.doc_model.proofs.ByIdsLaws.{bytes_itself, bytes_apart, found_id, has_found, found_has, find_absent, each_found, has_id-find, find-filter, has_id-put_by_id, has_id-without, has_id-map, AreDistinct-IsByIds, are_distinct-AreDistinct, IsByIds-filter}
 use Rattle.doc_model.proofs.RowsLaws.{each_has, has-filter, IsAscending-filter}
 use Rattle.doc_model.proofs.ByRowLaws.{AreDistinct-filter}
 use Rattle.doc_model.proofs.TimesLaws.{once_ascending}
@@ -57,8 +57,8 @@ additions-fit [] g d h = tt
 additions-fit (d ∷ ds) g dist h = (
   ap not h.0,
   additions-fit ds (edited (add_column d) g) dist.1
-      (each_weaker (λ e. (bytes_eq d.id e.id ≡ false) × (has_id shown_id g.columns e.id ≡ false)) (λ e. has_id shown_id (place shown_id d g.columns) e.id ≡ false)
-      (λ e k. has_id-place shown_id d g.columns e.id ∙ ap (λ b. b || has_id shown_id g.columns e.id) k.0 ∙ k.1) ds
+      (each_weaker (λ e. (bytes_eq d.id e.id ≡ false) × (has_id shown_id g.columns e.id ≡ false)) (λ e. has_id shown_id (put_by_id shown_id d g.columns) e.id ≡ false)
+      (λ e k. has_id-put_by_id shown_id d g.columns e.id ∙ ap (λ b. b || has_id shown_id g.columns e.id) k.0 ∙ k.1) ds
       (each_both (λ e. bytes_eq d.id e.id ≡ false) (λ e. has_id shown_id g.columns e.id ≡ false) ds dist.0 h.1)),
 )
 
@@ -67,8 +67,8 @@ modifications-fit [] g h = tt
 modifications-fit (d ∷ ds) g h = (
   h.0,
   modifications-fit ds (edited (modify_column d) g)
-      (each_weaker (λ e. has_id shown_id g.columns e.id ≡ true) (λ e. has_id shown_id (place shown_id d g.columns) e.id ≡ true)
-      (λ e k. has_id-place shown_id d g.columns e.id ∙ or_right (bytes_eq d.id e.id) (has_id shown_id g.columns e.id) k) ds h.1),
+      (each_weaker (λ e. has_id shown_id g.columns e.id ≡ true) (λ e. has_id shown_id (put_by_id shown_id d g.columns) e.id ≡ true)
+      (λ e k. has_id-put_by_id shown_id d g.columns e.id ∙ or_right (bytes_eq d.id e.id) (has_id shown_id g.columns e.id) k) ds h.1),
 )
 
 any-fit : (rows : List ℕ) (e : Edit) (g : Grid ViewCol) → edit_fits e g ≡ true → EditsFit (if_any rows e) g
@@ -161,9 +161,9 @@ module _ (g w : Grid ViewCol) (s : IsShown g) (t : IsShown w) where
 
   come-fit : EditsFit (if_any (come g w) (add (come g w) (come_columns g w))) lost
   come-fit = any-fit (come g w) (add (come g w) (come_columns g w)) lost
-      (both_true ((is_once (come g w) && none_in (come g w) lost.rows) && are_distinct given_id (come_columns g w)) (list_all (λ (k : CellColumn). has_id shown_id lost.columns k.id) (come_columns g w))
-      (both_true (is_once (come g w) && none_in (come g w) lost.rows) (are_distinct given_id (come_columns g w))
-      (both_true (is_once (come g w)) (none_in (come g w) lost.rows)
+      (both_true ((has_no_duplicates (come g w) && none_in (come g w) lost.rows) && are_distinct given_id (come_columns g w)) (list_all (λ (k : CellColumn). has_id shown_id lost.columns k.id) (come_columns g w))
+      (both_true (has_no_duplicates (come g w) && none_in (come g w) lost.rows) (are_distinct given_id (come_columns g w))
+      (both_true (has_no_duplicates (come g w)) (none_in (come g w) lost.rows)
       (once_ascending (come g w) (IsAscending-filter (λ r. not (has g.rows r)) w.rows t.is_grid.ascending))
       (true_each (λ q. not (has lost.rows q)) (come g w) (each_has (λ q. not (has lost.rows q) ≡ true) (come g w) (λ q here. ap not (absent q here)))))
       (distinct_whole w (come g w) w.columns t.is_grid.distinct))
@@ -229,8 +229,8 @@ AllFit-append (a ∷ as') bs v h k = (h.0, AllFit-append as' bs (patched a v) h.
 pub unfit_none : (as' : List ViewAction) (v : List ViewTable) → AllFit as' v → unfit_at v as' ≡ None
 unfit_none [] v h = refl
 unfit_none (a ∷ as') v h =
-    cond_true (fits a v) (option_map (λ place. place + 1) (unfit_at (patched a v) as')) (Some 0) h.0
-    ∙ ap (option_map (λ place. place + 1)) (unfit_none as' (patched a v) h.1)
+    cond_true (fits a v) (option_map (λ index. index + 1) (unfit_at (patched a v) as')) (Some 0) h.0
+    ∙ ap (option_map (λ index. index + 1)) (unfit_none as' (patched a v) h.1)
 
 fits-on_table : (t : List ℕ) (e : Edit) (v : List ViewTable) → fits (on_table t e) v ≡ fits_table t e v
 fits-on_table t (remove_column c) v = refl
@@ -265,12 +265,12 @@ cut_tables-fit (t ∷ ts) v d h = (
 introduced-fit : (t : ViewTable) (v : List ViewTable) → IsShown (grid t) → has_id shown_table_id v t.id ≡ false → AllFit (introduced t) v
 introduced-fit t v s fresh = (
   both_true (not (has_id shown_table_id v t.id)) (are_distinct shown_id t.columns) (ap not fresh) (are_distinct-AreDistinct shown_id t.columns s.is_grid.distinct),
-  edits-fit-view t.id (if_any t.rows (add t.rows (whole (grid t) t.rows))) (place shown_table_id (table t.id (bare t.columns)) v) (table t.id (bare t.columns))
-      (Rattle.doc_model.proofs.ByIdsLaws.find-place shown_table_id (table t.id (bare t.columns)) v t.id ∙ cond_true (bytes_eq t.id t.id) (Some (table t.id (bare t.columns))) (named t.id v) (bytes_itself t.id))
+  edits-fit-view t.id (if_any t.rows (add t.rows (whole (grid t) t.rows))) (put_by_id shown_table_id (table t.id (bare t.columns)) v) (table t.id (bare t.columns))
+      (Rattle.doc_model.proofs.ByIdsLaws.find-put_by_id shown_table_id (table t.id (bare t.columns)) v t.id ∙ cond_true (bytes_eq t.id t.id) (Some (table t.id (bare t.columns))) (named t.id v) (bytes_itself t.id))
       (any-fit t.rows (add t.rows (whole (grid t) t.rows)) (bare t.columns)
-      (both_true ((is_once t.rows && none_in t.rows []) && are_distinct given_id (whole (grid t) t.rows)) (list_all (λ (k : CellColumn). has_id shown_id (bare t.columns).columns k.id) (whole (grid t) t.rows))
-      (both_true (is_once t.rows && none_in t.rows []) (are_distinct given_id (whole (grid t) t.rows))
-      (both_true (is_once t.rows) (none_in t.rows []) (once_ascending t.rows s.is_grid.ascending) (none_there t.rows))
+      (both_true ((has_no_duplicates t.rows && none_in t.rows []) && are_distinct given_id (whole (grid t) t.rows)) (list_all (λ (k : CellColumn). has_id shown_id (bare t.columns).columns k.id) (whole (grid t) t.rows))
+      (both_true (has_no_duplicates t.rows && none_in t.rows []) (are_distinct given_id (whole (grid t) t.rows))
+      (both_true (has_no_duplicates t.rows) (none_in t.rows []) (once_ascending t.rows s.is_grid.ascending) (none_there t.rows))
       (distinct_whole (grid t) t.rows t.columns s.is_grid.distinct))
       (there_whole (grid t) (bare t.columns).columns t.rows t.columns (subst (λ cs. AllByRecursion (λ d. has_id shown_id cs d.id ≡ true) t.columns) (sym (ap (λ (g : Grid ViewCol). g.columns) (bare_empty (grid t) s))) (all_there (grid t) s))))),
 )

@@ -6,7 +6,7 @@ use Rattle.std.specs.Str.{bytes_eq}
 use Rattle.doc_model.specs.declared.column.ColDef.{ColDef}
 use Rattle.doc_model.specs.MetadataIds.{is_metadata_id}
 use Rattle.doc_model.specs.ByIds.{find_id, has_id, AreDistinct, with_id, without_id}
-use Rattle.doc_model.specs.Rows.{has, is_once, IsAscending}
+use Rattle.doc_model.specs.Rows.{has, has_no_duplicates, IsAscending}
 use Rattle.doc_model.specs.Grid.{Grid}
 use Rattle.doc_model.specs.Column.{column_row}
 use Rattle.doc_model.specs.Document.{Table, table_id, table_row, renamed, put_by_row}
@@ -173,7 +173,7 @@ module _ (r u : Grid ColDef) (p : List Table) (good : IsGood r u p) where
     plain = each_with_id table_id (λ t. is_metadata_id t.id ≡ false) id (renamed new) p (λ x _ _. metadata_from new plain) good.plain;
     grids = each_with_id table_id (λ t. IsSoundGrid t.grid) id (renamed new) p (λ x _ s. s) good.grids;
     names = each_with_id_found table_id (λ t. has_names t ≡ true) id (renamed new) p t good.distinct found names good.names;
-    once = ap is_once (same p) ∙ good.once;
+    once = ap has_no_duplicates (same p) ∙ good.once;
     tables_ascend = subst IsAscending (sym (map-with_id table_id table_row id (renamed new) p (λ x. refl))) good.tables_ascend;
     columns_ascend = each_with_id table_id (λ t. IsAscending (own t)) id (renamed new) p (λ x _ s. s) good.columns_ascend;
     table_rows = subst (AllByRecursion (λ q. 0 < q)) (sym (map-with_id table_id table_row id (renamed new) p (λ x. refl))) good.table_rows;

@@ -28,6 +28,6 @@ pub mod WeightLaws
 pub mod CountSteps
 pub mod SchemaCounts
 pub mod AddedRow
-pub mod PeakSums
-pub mod PeakSteps
-pub mod SchemaPeaks
+pub mod MaximaSums
+pub mod MaximaSteps
+pub mod SchemaMaxima

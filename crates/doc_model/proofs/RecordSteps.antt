@@ -10,7 +10,7 @@ use Rattle.doc_model.specs.declared.column.CellColumn.{CellColumn}
 use Rattle.doc_model.specs.declared.column.ColDef.{ColDef}
 use Rattle.doc_model.specs.MetadataIds.{tables_id, columns_id, resources_id, rules_id, is_schema_id, is_metadata_id}
 use Rattle.doc_model.specs.ByIds.{find_id, has_id}
-use Rattle.doc_model.specs.Rows.{is_once, all_in, none_in}
+use Rattle.doc_model.specs.Rows.{has_no_duplicates, all_in, none_in}
 use Rattle.doc_model.specs.Grid.{Grid}
 use Rattle.doc_model.specs.Records.{add_rows, update_rows, remove_rows}
 use Rattle.doc_model.specs.Column.{column_id, column_row, start_of}
@@ -29,7 +29,7 @@ use Rattle.doc_model.proofs.WholeLaws.{IsGood, IsPlain, resources_rules_apart}
 use Rattle.doc_model.proofs.DocumentParts.{record_table_plain, KeepsColumns, with_table-plain, passes_parts, one_back, LeadsBack, Outcome}
 use Rattle.doc_model.proofs.GoodLaws.{good_same_rows}
 
--- a table that stands at one of the two places of the access tables
+-- a table that stands at one of the two indexes of the access tables
 module _ (r u : Grid ColDef) (p : List Table) (id : List ℕ) (f : Grid ColDef → Grid ColDef) (nt : bytes_eq tables_id id ≡ false) (nc : bytes_eq columns_id id ≡ false) (absent : has_id table_id p id ≡ false) where
   with_table-resources : bytes_eq resources_id id ≡ true → bytes_eq rules_id id ≡ false → with_table id (on_grid f) (with_schema r u p) ≡ with_schema (f r) u p
   with_table-resources is nu =
@@ -234,10 +234,10 @@ module _ (r u : Grid ColDef) (p : List Table) (good : IsGood r u p) (sound : All
 
   pub add_outcome : (rows : List ℕ) (ks : List CellColumn) → valid whole (BulkAdd table rows ks) ≡ true → Outcome whole (BulkAdd table rows ks) (inverse whole (BulkAdd table rows ks))
   add_outcome rows ks v =
-      let parts : (t : Table) × ((record_table whole table ≡ Some t) × ((((is_once rows && from_one rows) && none_in rows t.grid.rows) && gives_data t.grid rows ks) ≡ true))
-      = passes_parts (record_table whole table) (λ t. is_once rows && from_one rows && none_in rows t.grid.rows && gives_data t.grid rows ks) v in
+      let parts : (t : Table) × ((record_table whole table ≡ Some t) × ((((has_no_duplicates rows && from_one rows) && none_in rows t.grid.rows) && gives_data t.grid rows ks) ≡ true))
+      = passes_parts (record_table whole table) (λ t. has_no_duplicates rows && from_one rows && none_in rows t.grid.rows && gives_data t.grid rows ks) v in
       let t : Table = parts.0 in
-      let tests : (is_once rows ≡ true) × (from_one rows ≡ true) × (none_in rows t.grid.rows ≡ true) × (gives_data t.grid rows ks ≡ true) = parts_4 (is_once rows) (from_one rows) (none_in rows t.grid.rows) (gives_data t.grid rows ks) parts.1.1 in
+      let tests : (has_no_duplicates rows ≡ true) × (from_one rows ≡ true) × (none_in rows t.grid.rows ≡ true) × (gives_data t.grid rows ks ≡ true) = parts_4 (has_no_duplicates rows) (from_one rows) (none_in rows t.grid.rows) (gives_data t.grid rows ks) parts.1.1 in
       let s : IsSoundGrid t.grid = sound_record t parts.1.0 in
       let f : Grid ColDef → Grid ColDef = add_rows column_id start_of rows ks in
       let c : Changed r u p table f t = changed r u p good table f (λ g. refl) t (IsSoundGrid-add_rows rows ks t.grid s (gives_from t.grid rows ks tests.3) tests.1) parts.1.0 in
@@ -248,17 +248,17 @@ module _ (r u : Grid ColDef) (p : List Table) (good : IsGood r u p) (sound : All
         becomes = c.becomes;
         good = c.good;
         leads = one_back whole (with_schema c.resources c.rules c.plain) (BulkRemove table rows)
-            (ap (λ o. passes o (λ t. is_once rows && all_in rows t.grid.rows)) c.there
-            ∙ both_true (is_once rows) (all_in rows (f t.grid).rows) tests.0 (all_in-insert_rows rows t.grid.rows))
+            (ap (λ o. passes o (λ t. has_no_duplicates rows && all_in rows t.grid.rows)) c.there
+            ∙ both_true (has_no_duplicates rows) (all_in rows (f t.grid).rows) tests.0 (all_in-insert_rows rows t.grid.rows))
             (c.back (remove_rows column_id rows) (λ g. refl) (remove_rows-add_rows rows ks t.grid s.is_grid tests.2));
       }
 
   pub update_outcome : (rows : List ℕ) (ks : List CellColumn) → valid whole (BulkUpdate table rows ks) ≡ true → Outcome whole (BulkUpdate table rows ks) (inverse whole (BulkUpdate table rows ks))
   update_outcome rows ks v =
-      let parts : (t : Table) × ((record_table whole table ≡ Some t) × ((((is_once rows && from_one rows) && all_in rows t.grid.rows) && gives_data t.grid rows ks) ≡ true))
-      = passes_parts (record_table whole table) (λ t. is_once rows && from_one rows && all_in rows t.grid.rows && gives_data t.grid rows ks) v in
+      let parts : (t : Table) × ((record_table whole table ≡ Some t) × ((((has_no_duplicates rows && from_one rows) && all_in rows t.grid.rows) && gives_data t.grid rows ks) ≡ true))
+      = passes_parts (record_table whole table) (λ t. has_no_duplicates rows && from_one rows && all_in rows t.grid.rows && gives_data t.grid rows ks) v in
       let t : Table = parts.0 in
-      let tests : (is_once rows ≡ true) × (from_one rows ≡ true) × (all_in rows t.grid.rows ≡ true) × (gives_data t.grid rows ks ≡ true) = parts_4 (is_once rows) (from_one rows) (all_in rows t.grid.rows) (gives_data t.grid rows ks) parts.1.1 in
+      let tests : (has_no_duplicates rows ≡ true) × (from_one rows ≡ true) × (all_in rows t.grid.rows ≡ true) × (gives_data t.grid rows ks ≡ true) = parts_4 (has_no_duplicates rows) (from_one rows) (all_in rows t.grid.rows) (gives_data t.grid rows ks) parts.1.1 in
       let s : IsSoundGrid t.grid = sound_record t parts.1.0 in
       let f : Grid ColDef → Grid ColDef = update_rows column_id rows ks in
       let gives : GivesData t.grid ks = gives_from t.grid rows ks tests.3 in
@@ -273,19 +273,19 @@ module _ (r u : Grid ColDef) (p : List Table) (good : IsGood r u p) (sound : All
         good = c.good;
         leads = subst (λ o. LeadsBack after whole (made_of o (λ t. BulkUpdate table rows (old_columns t.grid rows ks) ∷ []))) (sym (found_record whole table t parts.1.0))
             (one_back whole after (BulkUpdate table rows old)
-            (ap (λ o. passes o (λ t. is_once rows && from_one rows && all_in rows t.grid.rows && gives_data t.grid rows old)) c.there
-            ∙ both_true ((is_once rows && from_one rows) && all_in rows t.grid.rows) (gives_data (f t.grid) rows old)
-            (both_true (is_once rows && from_one rows) (all_in rows t.grid.rows) (both_true (is_once rows) (from_one rows) tests.0 tests.1) tests.2)
+            (ap (λ o. passes o (λ t. has_no_duplicates rows && from_one rows && all_in rows t.grid.rows && gives_data t.grid rows old)) c.there
+            ∙ both_true ((has_no_duplicates rows && from_one rows) && all_in rows t.grid.rows) (gives_data (f t.grid) rows old)
+            (both_true (has_no_duplicates rows && from_one rows) (all_in rows t.grid.rows) (both_true (has_no_duplicates rows) (from_one rows) tests.0 tests.1) tests.2)
             (gives_old_columns t.grid (f t.grid) rows ks s refl gives.data' tests.2))
             (c.back (update_rows column_id rows old) (λ g. refl) (update_rows-update_rows rows ks t.grid s.is_grid)));
       }
 
   pub remove_outcome : (rows : List ℕ) → valid whole (BulkRemove table rows) ≡ true → Outcome whole (BulkRemove table rows) (inverse whole (BulkRemove table rows))
   remove_outcome rows v =
-      let parts : (t : Table) × ((record_table whole table ≡ Some t) × ((is_once rows && all_in rows t.grid.rows) ≡ true))
-      = passes_parts (record_table whole table) (λ t. is_once rows && all_in rows t.grid.rows) v in
+      let parts : (t : Table) × ((record_table whole table ≡ Some t) × ((has_no_duplicates rows && all_in rows t.grid.rows) ≡ true))
+      = passes_parts (record_table whole table) (λ t. has_no_duplicates rows && all_in rows t.grid.rows) v in
       let t : Table = parts.0 in
-      let tests : (is_once rows ≡ true) × (all_in rows t.grid.rows ≡ true) = and_parts (is_once rows) (all_in rows t.grid.rows) parts.1.1 in
+      let tests : (has_no_duplicates rows ≡ true) × (all_in rows t.grid.rows ≡ true) = and_parts (has_no_duplicates rows) (all_in rows t.grid.rows) parts.1.1 in
       let s : IsSoundGrid t.grid = sound_record t parts.1.0 in
       let f : Grid ColDef → Grid ColDef = remove_rows column_id rows in
       let c : Changed r u p table f t = changed r u p good table f (λ g. refl) t (IsSoundGrid-remove_rows rows t.grid s) parts.1.0 in
@@ -299,9 +299,9 @@ module _ (r u : Grid ColDef) (p : List Table) (good : IsGood r u p) (sound : All
         good = c.good;
         leads = subst (λ o. LeadsBack after whole (made_of o (λ t. BulkAdd table rows (data_columns t.grid rows) ∷ []))) (sym (found_record whole table t parts.1.0))
             (one_back whole after (BulkAdd table rows old)
-            (ap (λ o. passes o (λ t. is_once rows && from_one rows && none_in rows t.grid.rows && gives_data t.grid rows old)) c.there
-            ∙ both_true ((is_once rows && from_one rows) && none_in rows (f t.grid).rows) (gives_data (f t.grid) rows old)
-            (both_true (is_once rows && from_one rows) (none_in rows (f t.grid).rows) (both_true (is_once rows) (from_one rows) tests.0 (from_one_in rows t.grid s tests.1)) (none_in-without rows t.grid.rows))
+            (ap (λ o. passes o (λ t. has_no_duplicates rows && from_one rows && none_in rows t.grid.rows && gives_data t.grid rows old)) c.there
+            ∙ both_true ((has_no_duplicates rows && from_one rows) && none_in rows (f t.grid).rows) (gives_data (f t.grid) rows old)
+            (both_true (has_no_duplicates rows && from_one rows) (none_in rows (f t.grid).rows) (both_true (has_no_duplicates rows) (from_one rows) tests.0 (from_one_in rows t.grid s tests.1)) (none_in-without rows t.grid.rows))
             (gives_data_columns t.grid (f t.grid) rows s refl tests.1))
             (c.back (add_rows column_id start_of rows old) (λ g. refl) (add_rows-remove_rows rows t.grid s tests.1)));
       }

@@ -9,7 +9,7 @@ use Rattle.doc_model.specs.declared.action.DocAction.TheVariants.{BulkAdd, AddTa
 use Rattle.doc_model.specs.declared.column.ColDef.{ColDef}
 use Rattle.doc_model.specs.MetadataIds.{tables_id, columns_id}
 use Rattle.doc_model.specs.ByIds.{find_id, has_id, are_distinct, without_id}
-use Rattle.doc_model.specs.Rows.{has, is_once, none_in, IsAscending}
+use Rattle.doc_model.specs.Rows.{has, has_no_duplicates, none_in, IsAscending}
 use Rattle.doc_model.specs.Grid.{Grid}
 use Rattle.doc_model.specs.Records.{add_rows}
 use Rattle.doc_model.specs.Column.{column_id, column_row, start_of, is_sound_info}
@@ -43,11 +43,11 @@ undescribed r u p q none =
     times-absent q (column_rows p) (ap (λ rows. has rows q) (sym (described_rows p)) ∙ sym (has-in_order (all_columns p) q) ∙ ap (λ rows. has rows q) (sym (rows_of-columns r u p)) ∙ none)
 
 -- rows that are free in a schema table
-pub free_parts : (s : Document) (id : List ℕ) (rows : List ℕ) → are_free s id rows ≡ true → (from_one rows ≡ true) × (is_once rows ≡ true) × (none_in rows (rows_of s id) ≡ true)
-free_parts s id rows e = parts_3 (from_one rows) (is_once rows) (none_in rows (rows_of s id)) e
+pub free_parts : (s : Document) (id : List ℕ) (rows : List ℕ) → are_free s id rows ≡ true → (from_one rows ≡ true) × (has_no_duplicates rows ≡ true) × (none_in rows (rows_of s id) ≡ true)
+free_parts s id rows e = parts_3 (from_one rows) (has_no_duplicates rows) (none_in rows (rows_of s id)) e
 
-pub free_from : (s : Document) (id : List ℕ) (rows : List ℕ) → from_one rows ≡ true → is_once rows ≡ true → none_in rows (rows_of s id) ≡ true → are_free s id rows ≡ true
-free_from s id rows a b c = both_true (from_one rows && is_once rows) (none_in rows (rows_of s id)) (both_true (from_one rows) (is_once rows) a b) c
+pub free_from : (s : Document) (id : List ℕ) (rows : List ℕ) → from_one rows ≡ true → has_no_duplicates rows ≡ true → none_in rows (rows_of s id) ≡ true → are_free s id rows ≡ true
+free_from s id rows a b c = both_true (from_one rows && has_no_duplicates rows) (none_in rows (rows_of s id)) (both_true (from_one rows) (has_no_duplicates rows) a b) c
 
 and_true : (b : Bool) → (b && true) ≡ true → b ≡ true
 and_true true e = refl
@@ -62,7 +62,7 @@ one_free s id row positive absent = free_from s id (row ∷ []) (true_and (ltb 0
 
 pub one_free_parts : (s : Document) (id : List ℕ) (row : ℕ) → are_free s id (row ∷ []) ≡ true → (0 < row) × (has (rows_of s id) row ≡ false)
 one_free_parts s id row e =
-    let three : (from_one (row ∷ []) ≡ true) × (is_once (row ∷ []) ≡ true) × (none_in (row ∷ []) (rows_of s id) ≡ true) = free_parts s id (row ∷ []) e in
+    let three : (from_one (row ∷ []) ≡ true) × (has_no_duplicates (row ∷ []) ≡ true) × (none_in (row ∷ []) (rows_of s id) ≡ true) = free_parts s id (row ∷ []) e in
     (ltb-true 0 row (and_true (ltb 0 row) three.0), not_true (has (rows_of s id) row) (and_true (not (has (rows_of s id) row)) three.2))
 
 module _ (r u : Grid ColDef) (p : List Table) (good : IsGood r u p) where
@@ -79,7 +79,7 @@ module _ (r u : Grid ColDef) (p : List Table) (good : IsGood r u p) where
       let new : (not (has_id table_id whole table) ≡ true) × (is_name table ≡ true) = and_parts (not (has_id table_id whole table)) (is_name table) six.0 in
       let absent : IsPlain table × (has_id table_id p table ≡ false) = absent_parts r u p table (not_true (has_id table_id whole table) new.0) in
       let row_free : (0 < row) × (has (rows_of whole tables_id) row ≡ false) = one_free_parts whole tables_id row six.1 in
-      let free : (from_one (map column_row columns) ≡ true) × (is_once (map column_row columns) ≡ true) × (none_in (map column_row columns) (rows_of whole columns_id) ≡ true) = free_parts whole columns_id (map column_row columns) six.4 in
+      let free : (from_one (map column_row columns) ≡ true) × (has_no_duplicates (map column_row columns) ≡ true) × (none_in (map column_row columns) (rows_of whole columns_id) ≡ true) = free_parts whole columns_id (map column_row columns) six.4 in
       let t : Table = new_table table row columns in
       let sound : IsSoundGrid t.grid = record {
         is_grid = record { distinct = AreDistinct-by_row column_row column_id columns (AreDistinct-are_distinct column_id columns six.2); ascending = tt; height = refl; width = tt };
@@ -103,7 +103,7 @@ module _ (r u : Grid ColDef) (p : List Table) (good : IsGood r u p) where
             (ap (with_schema r u) (without-put_by_row table_row table_id t p absent.1));
       }
     where
-      once : (q : ℕ) → is_once (map column_row columns) ≡ true → none_in (map column_row columns) (rows_of whole columns_id) ≡ true → times q (map column_row (by_row column_row columns)) + times q (column_rows p) ≤ 1
+      once : (q : ℕ) → has_no_duplicates (map column_row columns) ≡ true → none_in (map column_row columns) (rows_of whole columns_id) ≡ true → times q (map column_row (by_row column_row columns)) + times q (column_rows p) ≤ 1
       once q o n =
           let mine : times q (map column_row (by_row column_row columns)) ≡ times q (map column_row columns) = times-by_row column_row q columns in
           elim (has (map column_row columns) q) as (λ b. has (map column_row columns) q ≡ b → times q (map column_row (by_row column_row columns)) + times q (column_rows p) ≤ 1) [
@@ -201,10 +201,10 @@ module _ (r u : Grid ColDef) (p : List Table) (good : IsGood r u p) where
 
     valid_rows : valid between (BulkAdd t.id t.grid.rows (data_columns t.grid t.grid.rows)) ≡ true
     valid_rows =
-        ap (λ o. passes o (λ x. is_once t.grid.rows && from_one t.grid.rows && none_in t.grid.rows x.grid.rows && gives_data x.grid t.grid.rows (data_columns t.grid t.grid.rows))) found_between
-        ∙ both_true ((is_once t.grid.rows && from_one t.grid.rows) && none_in t.grid.rows []) (gives_data (bare t.grid) t.grid.rows (data_columns t.grid t.grid.rows))
-        (both_true (is_once t.grid.rows && from_one t.grid.rows) (none_in t.grid.rows [])
-        (both_true (is_once t.grid.rows) (from_one t.grid.rows) (once_ascending t.grid.rows sound_t.is_grid.ascending) (from_one_in t.grid.rows t.grid sound_t (all_in_itself t.grid.rows)))
+        ap (λ o. passes o (λ x. has_no_duplicates t.grid.rows && from_one t.grid.rows && none_in t.grid.rows x.grid.rows && gives_data x.grid t.grid.rows (data_columns t.grid t.grid.rows))) found_between
+        ∙ both_true ((has_no_duplicates t.grid.rows && from_one t.grid.rows) && none_in t.grid.rows []) (gives_data (bare t.grid) t.grid.rows (data_columns t.grid t.grid.rows))
+        (both_true (has_no_duplicates t.grid.rows && from_one t.grid.rows) (none_in t.grid.rows [])
+        (both_true (has_no_duplicates t.grid.rows) (from_one t.grid.rows) (once_ascending t.grid.rows sound_t.is_grid.ascending) (from_one_in t.grid.rows t.grid sound_t (all_in_itself t.grid.rows)))
         (none_there t.grid.rows))
         (gives_data_columns t.grid (bare t.grid) t.grid.rows sound_t refl (all_in_itself t.grid.rows))
       where

@@ -5,7 +5,7 @@ use Rattle.std.proofs.lemmas.Slice.Eq.{bytes_eq-Decides}
 use Rattle.std.specs.List.{list_all, AllByRecursion}
 use Rattle.std.specs.Str.{bytes_eq}
 use Rattle.doc_model.specs.ByIds.{find_id, AreDistinct, without_id}
-use Rattle.doc_model.specs.Rows.{has, is_once, none_in, IsAscending}
+use Rattle.doc_model.specs.Rows.{has, has_no_duplicates, none_in, IsAscending}
 use Rattle.doc_model.specs.Document.{put_by_row, by_row}
 use Rattle.doc_model.proofs.Choices.{not_true, both_true, filter_all, each_weaker}
 use Rattle.doc_model.proofs.ByIdsLaws.{bytes_apart}
@@ -43,10 +43,10 @@ there-times r (q ∷ rows) h =
       | false ↦ λ h. let later : 1 ≤ times r rows = there-times r rows h in omega arith
     ] h
 
-pub times-once : (r : ℕ) (rows : List ℕ) → is_once rows ≡ true → times r rows ≤ 1
+pub times-once : (r : ℕ) (rows : List ℕ) → has_no_duplicates rows ≡ true → times r rows ≤ 1
 times-once r [] h = omega arith
 times-once r (q ∷ rows) h =
-    let both : (not (has rows q) ≡ true) × (is_once rows ≡ true) = and_parts (not (has rows q)) (is_once rows) h in
+    let both : (not (has rows q) ≡ true) × (has_no_duplicates rows ≡ true) = and_parts (not (has rows q)) (has_no_duplicates rows) h in
     let later : times r rows ≤ 1 = times-once r rows both.1 in
     elim (eqb q r) as (λ b. eqb q r ≡ b → one_if b + times r rows ≤ 1) [
       | true ↦ λ is.
@@ -55,22 +55,22 @@ times-once r (q ∷ rows) h =
       | false ↦ λ _. omega arith
     ] refl
 
-pub once-times : (rows : List ℕ) → ((r : ℕ) → times r rows ≤ 1) → is_once rows ≡ true
+pub once-times : (rows : List ℕ) → ((r : ℕ) → times r rows ≤ 1) → has_no_duplicates rows ≡ true
 once-times [] h = refl
 once-times (q ∷ rows) h =
     let first : one_if (eqb q q) ≡ 1 = ap one_if (number_itself q) in
     let here : one_if (eqb q q) + times q rows ≤ 1 = h q in
     let none : times q rows ≡ 0 = omega arith in
-    both_true (not (has rows q)) (is_once rows) (ap not (absent-times q rows none))
+    both_true (not (has rows q)) (has_no_duplicates rows) (ap not (absent-times q rows none))
     (once-times rows (λ r. let some : one_if (eqb q r) + times r rows ≤ 1 = h r in omega arith))
 
 pub times-append : (r : ℕ) (xs ys : List ℕ) → times r (xs ++ ys) ≡ times r xs + times r ys
 times-append r [] ys = omega arith
 times-append r (x ∷ xs) ys = let later : times r (xs ++ ys) ≡ times r xs + times r ys = times-append r xs ys in omega arith
 
-pub once_ascending : (rows : List ℕ) → IsAscending rows → is_once rows ≡ true
+pub once_ascending : (rows : List ℕ) → IsAscending rows → has_no_duplicates rows ≡ true
 once_ascending [] a = refl
-once_ascending (r ∷ rows) a = both_true (not (has rows r)) (is_once rows) (ap not (has_below r rows a.0)) (once_ascending rows a.1)
+once_ascending (r ∷ rows) a = both_true (not (has rows r)) (has_no_duplicates rows) (ap not (has_below r rows a.0)) (once_ascending rows a.1)
 
 -- none of a list stands in another, told by how often
 pub none_in-times : (new rows : List ℕ) → ((r : ℕ) → has new r ≡ true → times r rows ≡ 0) → none_in new rows ≡ true

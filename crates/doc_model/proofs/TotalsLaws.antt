@@ -5,7 +5,7 @@ use Rattle.std.proofs.lemmas.Slice.Eq.{bytes_eq-Decides}
 use Rattle.std.specs.List.{AllByRecursion}
 use Rattle.std.specs.Str.{bytes_eq}
 use Rattle.doc_model.specs.ByIds.{find_id, has_id, AreDistinct, with_id, without_id}
-use Rattle.doc_model.specs.Rows.{has, insert_row, insert_rows, without, is_once, all_in, none_in, IsAscending}
+use Rattle.doc_model.specs.Rows.{has, insert_row, insert_rows, without, has_no_duplicates, all_in, none_in, IsAscending}
 use Rattle.doc_model.specs.Document.{put_by_row}
 use Rattle.doc_model.specs.Counts.{total}
 use Rattle.doc_model.proofs.Choices.{not_true, each_weaker, filter_all, map_each}
@@ -116,10 +116,10 @@ module _ (h : ℕ → ℕ) where
       second true b e = absurd (true≢false e)
       second false b e = e
 
-  pub total-insert_rows : (qs rows : List ℕ) → is_once qs ≡ true → none_in qs rows ≡ true → sum_of h (insert_rows qs rows) ≡ sum_of h qs + sum_of h rows
+  pub total-insert_rows : (qs rows : List ℕ) → has_no_duplicates qs ≡ true → none_in qs rows ≡ true → sum_of h (insert_rows qs rows) ≡ sum_of h qs + sum_of h rows
   total-insert_rows [] rows o n = omega arith
   total-insert_rows (q ∷ qs) rows o n =
-      let once : (not (has qs q) ≡ true) × (is_once qs ≡ true) = and_parts (not (has qs q)) (is_once qs) o in
+      let once : (not (has qs q) ≡ true) × (has_no_duplicates qs ≡ true) = and_parts (not (has qs q)) (has_no_duplicates qs) o in
       let fresh : (not (has rows q) ≡ true) × (none_in qs rows ≡ true) = and_parts (not (has rows q)) (none_in qs rows) n in
       let later : sum_of h (insert_rows qs rows) ≡ sum_of h qs + sum_of h rows = total-insert_rows qs rows once.1 fresh.1 in
       let here : sum_of h (insert_row q (insert_rows qs rows)) ≡ h q + sum_of h (insert_rows qs rows)
@@ -127,7 +127,7 @@ module _ (h : ℕ → ℕ) where
       omega arith
 
   -- rows that stand in a list, and the others
-  pub total-without : (qs rows : List ℕ) → IsAscending rows → is_once qs ≡ true → all_in qs rows ≡ true → sum_of h (without qs rows) + sum_of h qs ≡ sum_of h rows
+  pub total-without : (qs rows : List ℕ) → IsAscending rows → has_no_duplicates qs ≡ true → all_in qs rows ≡ true → sum_of h (without qs rows) + sum_of h qs ≡ sum_of h rows
   total-without qs rows a o t =
       let all : sum_of h (insert_rows qs (without qs rows)) ≡ sum_of h qs + sum_of h (without qs rows) = total-insert_rows qs (without qs rows) o (none_in-without qs rows) in
       let same : sum_of h (insert_rows qs (without qs rows)) ≡ sum_of h rows = ap (sum_of h) (insert_rows-again qs rows a t) in

@@ -7,14 +7,14 @@ use Rattle.std.specs.Str.{bytes_eq}
 use Rattle.cell_types.specs.declared.value.CellValue.{CellValue}
 use Rattle.doc_model.specs.declared.column.CellColumn.{CellColumn}
 use Rattle.doc_model.specs.declared.view.ViewCol.{ViewCol}
-use Rattle.doc_model.specs.ByIds.{precedes, find_id, has_id, IsByIds, place, without_id}
+use Rattle.doc_model.specs.ByIds.{precedes, find_id, has_id, IsByIds, put_by_id, without_id}
 use Rattle.doc_model.specs.Rows.{has, insert_rows, without}
 use Rattle.doc_model.specs.Grid.{Grid, cell}
 use Rattle.doc_model.specs.Records.{or_else, given, column_of}
 use Rattle.doc_model.specs.Same.{same_value, same_column}
 use Rattle.doc_model.specs.ViewEdits.{shown_id, shown_start, IsShown, Edit, remove_column, add_column, modify_column, remove, add, update, edited, all_edited, if_any, whole, differs, shape_edits, differing, cell_edits, edits}
 use Rattle.doc_model.proofs.Choices.{keep, filter_all, filter_none}
-use Rattle.doc_model.proofs.ByIdsLaws.{found_id, find_low, find-place, find-without_id, IsByIds-place, IsByIds-filter, same_by_ids, has_id-find, find-filter, AreDistinct-IsByIds, each_found, has_found}
+use Rattle.doc_model.proofs.ByIdsLaws.{found_id, find_low, find-put_by_id, find-without_id, IsByIds-put_by_id, IsByIds-filter, same_by_ids, has_id-find, find-filter, AreDistinct-IsByIds, each_found, has_found}
 use Rattle.doc_model.proofs.RowsLaws.{each_has, has-filter, insert_rows-without}
 use Rattle.doc_model.proofs.GridLaws.{cell-grid_of, same_grid, IsGrid-grid_of}
 use Rattle.doc_model.proofs.RecordsLaws.{given_own, given_absent, IsGrid-add_rows, IsGrid-update_rows, IsGrid-remove_rows}
@@ -36,11 +36,11 @@ IsShown-edited (remove_column c) g h =
     let ids : IsByIds shown_id (without_id shown_id c g.columns) = IsByIds-filter shown_id (λ d. not (bytes_eq (shown_id d) c)) g.columns h.by_ids in
     record { by_ids = ids; is_grid = IsGrid-grid_of shown_id (without_id shown_id c g.columns) g.rows (λ d r. at g (shown_id d) r) (AreDistinct-IsByIds shown_id (without_id shown_id c g.columns) ids) h.is_grid.ascending }
 IsShown-edited (add_column n) g h =
-    let ids : IsByIds shown_id (place shown_id n g.columns) = IsByIds-place shown_id n g.columns h.by_ids in
-    record { by_ids = ids; is_grid = IsGrid-grid_of shown_id (place shown_id n g.columns) g.rows (λ d r. cond (bytes_eq d.id n.id) (shown_start n) (at g d.id r)) (AreDistinct-IsByIds shown_id (place shown_id n g.columns) ids) h.is_grid.ascending }
+    let ids : IsByIds shown_id (put_by_id shown_id n g.columns) = IsByIds-put_by_id shown_id n g.columns h.by_ids in
+    record { by_ids = ids; is_grid = IsGrid-grid_of shown_id (put_by_id shown_id n g.columns) g.rows (λ d r. cond (bytes_eq d.id n.id) (shown_start n) (at g d.id r)) (AreDistinct-IsByIds shown_id (put_by_id shown_id n g.columns) ids) h.is_grid.ascending }
 IsShown-edited (modify_column n) g h =
-    let ids : IsByIds shown_id (place shown_id n g.columns) = IsByIds-place shown_id n g.columns h.by_ids in
-    record { by_ids = ids; is_grid = IsGrid-grid_of shown_id (place shown_id n g.columns) g.rows (λ d r. at g d.id r) (AreDistinct-IsByIds shown_id (place shown_id n g.columns) ids) h.is_grid.ascending }
+    let ids : IsByIds shown_id (put_by_id shown_id n g.columns) = IsByIds-put_by_id shown_id n g.columns h.by_ids in
+    record { by_ids = ids; is_grid = IsGrid-grid_of shown_id (put_by_id shown_id n g.columns) g.rows (λ d r. at g d.id r) (AreDistinct-IsByIds shown_id (put_by_id shown_id n g.columns) ids) h.is_grid.ascending }
 IsShown-edited (remove rows) g h = record { by_ids = h.by_ids; is_grid = IsGrid-remove_rows shown_id shown_start rows g h.is_grid }
 IsShown-edited (add rows ks) g h = record { by_ids = h.by_ids; is_grid = IsGrid-add_rows shown_id shown_start rows ks g h.is_grid }
 IsShown-edited (update rows ks) g h = record { by_ids = h.by_ids; is_grid = IsGrid-update_rows shown_id shown_start rows ks g h.is_grid }
@@ -64,9 +64,9 @@ pub rows-removed : (ds : List ViewCol) (g : Grid ViewCol) → (after (map (λ d.
 rows-removed [] g = refl
 rows-removed (d ∷ ds) g = rows-removed ds (edited (remove_column (shown_id d)) g)
 
-placed : (d : ViewCol) (ds cs : List ViewCol) (c : List ℕ) → IsByIds shown_id (d ∷ ds) → or_else (find_id shown_id c ds) (find_id shown_id c (place shown_id d cs)) ≡ or_else (find_id shown_id c (d ∷ ds)) (find_id shown_id c cs)
+placed : (d : ViewCol) (ds cs : List ViewCol) (c : List ℕ) → IsByIds shown_id (d ∷ ds) → or_else (find_id shown_id c ds) (find_id shown_id c (put_by_id shown_id d cs)) ≡ or_else (find_id shown_id c (d ∷ ds)) (find_id shown_id c cs)
 placed d ds cs c s =
-    ap (or_else (find_id shown_id c ds)) (find-place shown_id d cs c)
+    ap (or_else (find_id shown_id c ds)) (find-put_by_id shown_id d cs c)
     ∙ elim (bytes_eq (shown_id d) c) as (λ b. bytes_eq (shown_id d) c ≡ b → or_else (find_id shown_id c ds) (cond b (Some d) (find_id shown_id c cs)) ≡ or_else (cond b (Some d) (find_id shown_id c ds)) (find_id shown_id c cs)) [
       | true ↦ λ is. ap (λ o. or_else o (Some d)) (find_low shown_id c ds (subst (λ e. AllByRecursion (λ y. precedes e (shown_id y) ≡ true) ds) ((bytes_eq-Decides (shown_id d) c).0 is) s.0))
       | false ↦ λ _. refl

@@ -10,7 +10,7 @@ use Rattle.cell_types.specs.declared.value.CellValue.{CellValue}
 use Rattle.doc_model.specs.declared.column.CellColumn.{CellColumn}
 use Rattle.doc_model.specs.declared.column.ColDef.{ColDef}
 use Rattle.doc_model.specs.ByIds.{find_id, has_id, AreDistinct}
-use Rattle.doc_model.specs.Rows.{has, insert_rows, without, is_once, all_in, none_in}
+use Rattle.doc_model.specs.Rows.{has, insert_rows, without, has_no_duplicates, all_in, none_in}
 use Rattle.doc_model.specs.Grid.{Grid, grid_of, IsGrid, cell}
 use Rattle.doc_model.specs.Records.{or_else, value_for, given, given_id, add_rows, update_rows, remove_rows}
 use Rattle.doc_model.specs.Column.{column_id, default_of, start_of}
@@ -53,13 +53,13 @@ start_weight d = elim d.info.is_formula as (λ b. value_weight (cond b Rattle.ce
     default_weight (type.RefList t) = refl
 
 -- the values beside rows weigh what the values weigh
-beside_weight : (rows : List ℕ) (vs : List CellValue) (x : ℕ → CellValue) → is_once rows ≡ true → length vs ≡ length rows
+beside_weight : (rows : List ℕ) (vs : List CellValue) (x : ℕ → CellValue) → has_no_duplicates rows ≡ true → length vs ≡ length rows
     → sum_of (λ r. value_weight (unwrap_or (value_for rows vs r) (x r))) rows ≡ row_weight vs
 beside_weight [] [] x o e = refl
 beside_weight [] (v ∷ vs) x o e = absurd (omega arith)
 beside_weight (q ∷ rows) [] x o e = absurd (omega arith)
 beside_weight (q ∷ rows) (v ∷ vs) x o e =
-    let once : (not (has rows q) ≡ true) × (is_once rows ≡ true) = and_parts (not (has rows q)) (is_once rows) o in
+    let once : (not (has rows q) ≡ true) × (has_no_duplicates rows ≡ true) = and_parts (not (has rows q)) (has_no_duplicates rows) o in
     let absent : has rows q ≡ false = not_true (has rows q) once.0 in
     let first : value_weight (unwrap_or (or_else (value_for rows vs q) (cond (eqb q q) (Some v) None)) (x q)) ≡ value_weight v
     = ap (λ p. value_weight (unwrap_or (or_else p (cond (eqb q q) (Some v) None)) (x q))) (value_for_absent rows vs q absent)
@@ -123,7 +123,7 @@ per_column cs ks m d h =
 abbrev pub given_weight : List CellColumn → ℕ
 given_weight ks = sum_of (λ (k : CellColumn). row_weight k.values) ks
 
-module _ (g : Grid ColDef) (s : IsGrid column_id g) (rows : List ℕ) (once : is_once rows ≡ true) where
+module _ (g : Grid ColDef) (s : IsGrid column_id g) (rows : List ℕ) (once : has_no_duplicates rows ≡ true) where
   abbrev own : ColDef → ℕ → CellValue
   own d r = at g d.id r
 

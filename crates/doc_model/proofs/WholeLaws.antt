@@ -13,7 +13,7 @@ use Rattle.doc_model.specs.declared.column.ColDef.{ColDef}
 use Rattle.doc_model.specs.declared.column.ColInfo.{ColInfo}
 use Rattle.doc_model.specs.MetadataIds.{tables_id, columns_id, resources_id, rules_id, is_metadata_id}
 use Rattle.doc_model.specs.ByIds.{AreDistinct}
-use Rattle.doc_model.specs.Rows.{has, is_once, IsAscending}
+use Rattle.doc_model.specs.Rows.{has, has_no_duplicates, IsAscending}
 use Rattle.doc_model.specs.Grid.{Grid, cell}
 use Rattle.doc_model.specs.Column.{column_id, column_row, is_short, is_base, is_sound_info, is_sound_type, may_hold}
 use Rattle.doc_model.specs.Document.{Table, Document, table_id, table_row}
@@ -69,7 +69,7 @@ pub record IsGood (r u : Grid ColDef) (p : List Table) : Type 0 where
   pub plain : AllByRecursion (λ t. is_metadata_id t.id ≡ false) p
   pub grids : AllByRecursion (λ t. IsSoundGrid t.grid) p
   pub names : AllByRecursion (λ t. has_names t ≡ true) p
-  pub once : is_once (column_rows p) ≡ true
+  pub once : has_no_duplicates (column_rows p) ≡ true
   pub tables_ascend : IsAscending (map table_row p)
   pub columns_ascend : AllByRecursion (λ t. IsAscending (map column_row t.grid.columns)) p
   pub table_rows : AllByRecursion (λ q. 0 < q) (map table_row p)
@@ -261,7 +261,7 @@ pub whole_from : (r u : Grid ColDef) (p : List Table) → IsGood r u p → IsWho
 whole_from r u p good = record {
   agrees = record {
     schema = refl;
-    once = ap is_once (described_rows p) ∙ good.once;
+    once = ap has_no_duplicates (described_rows p) ∙ good.once;
     tables_ascend = good.tables_ascend;
     columns_ascend = good.columns_ascend;
     resources_have = good.resources_have;
@@ -320,7 +320,7 @@ good_from s whole =
       plain = plains;
       grids = whole'.grids.1.1.1.1;
       names = name_each p plains whole'.names.1.1.1.1;
-      once = ap is_once (sym (described_rows p)) ∙ whole.agrees.once;
+      once = ap has_no_duplicates (sym (described_rows p)) ∙ whole.agrees.once;
       tables_ascend = whole.agrees.tables_ascend;
       columns_ascend = whole.agrees.columns_ascend;
       table_rows = whole'.grids.0.from_one;

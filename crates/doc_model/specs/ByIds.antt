@@ -34,16 +34,16 @@ module _ {X : Type 0} (id : X → List ℕ) where
   IsByIds (x ∷ xs) = AllByRecursion (λ y. precedes (id x) (id y) ≡ true) xs × IsByIds xs
 
   -- the thing in its place by id, instead of one with its id
-  abbrev pub place : X → List X → List X
-  place x [] = x ∷ []
-  place x (y ∷ ys) =
+  abbrev pub put_by_id : X → List X → List X
+  put_by_id x [] = x ∷ []
+  put_by_id x (y ∷ ys) =
       cond (precedes (id x) (id y)) (x ∷ y ∷ ys)
-      (cond (bytes_eq (id x) (id y)) (x ∷ ys) (y ∷ place x ys))
+      (cond (bytes_eq (id x) (id y)) (x ∷ ys) (y ∷ put_by_id x ys))
 
   -- the things in the order of their ids
   abbrev pub by_id : List X → List X
   by_id [] = []
-  by_id (x ∷ xs) = place x (by_id xs)
+  by_id (x ∷ xs) = put_by_id x (by_id xs)
 
   -- the things with this id changed
   abbrev pub with_id : List ℕ → (X → X) → List X → List X

@@ -23,7 +23,7 @@ abbrev pub KeptLaw : Type 0
 KeptLaw = (s : Document) (a : DocAction) → IsWhole s → valid s a ≡ true → IsWhole (apply s a)
 
 -- the inverse of a valid action gives the document before it, and each of its actions is valid at
--- its place
+-- its index
 abbrev pub InverseLaw : Type 0
 InverseLaw =
     (s : Document) (a : DocAction) → IsWhole s → valid s a ≡ true

@@ -8,7 +8,7 @@ pub mod Document
 pub mod Schema
 pub mod Sound
 pub mod NewDocument
-pub mod Places
+pub mod Indexes
 pub mod Valid
 pub mod Apply
 pub mod Inverse
@@ -16,7 +16,7 @@ pub mod Readers
 pub mod Counts
 pub mod DocumentLaws
 pub mod CountLaws
-pub mod PeakLaws
+pub mod MaximaLaws
 pub mod Same
 pub mod ViewEdits
 pub mod Changes

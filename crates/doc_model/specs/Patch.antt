@@ -7,8 +7,8 @@ use Rattle.doc_model.specs.declared.view.ViewCol.{ViewCol}
 use Rattle.doc_model.specs.declared.view.ViewTable.{ViewTable}
 use Rattle.doc_model.specs.declared.view.ViewAction.{ViewAction}
 use Rattle.doc_model.specs.declared.view.ViewAction.TheVariants.{AddTable, RemoveTable, AddColumn, RemoveColumn, ModifyColumn, BulkAdd, BulkUpdate, BulkRemove}
-use Rattle.doc_model.specs.ByIds.{find_id, has_id, are_distinct, place, by_id, with_id, without_id}
-use Rattle.doc_model.specs.Rows.{is_once, all_in, none_in}
+use Rattle.doc_model.specs.ByIds.{find_id, has_id, are_distinct, put_by_id, by_id, with_id, without_id}
+use Rattle.doc_model.specs.Rows.{has_no_duplicates, all_in, none_in}
 use Rattle.doc_model.specs.Grid.{Grid}
 use Rattle.doc_model.specs.Records.{given_id}
 use Rattle.doc_model.specs.ViewEdits.{shown_id, Edit, remove_column, add_column, modify_column, remove, add, update, edited}
@@ -24,7 +24,7 @@ edit_table t e v = with_id shown_table_id t (λ s. table s.id (edited e (grid s)
 
 -- the view after an action
 abbrev pub patched : ViewAction → List ViewTable → List ViewTable
-patched (AddTable t columns) v = place shown_table_id (table t (bare columns)) v
+patched (AddTable t columns) v = put_by_id shown_table_id (table t (bare columns)) v
 patched (RemoveTable t) v = without_id shown_table_id t v
 patched (AddColumn t d) v = edit_table t (add_column d) v
 patched (RemoveColumn t c) v = edit_table t (remove_column c) v
@@ -45,7 +45,7 @@ edit_fits (add_column d) g = not (has_id shown_id g.columns d.id)
 edit_fits (modify_column d) g = has_id shown_id g.columns d.id
 edit_fits (remove rows) g = all_in rows g.rows
 edit_fits (add rows ks) g =
-    is_once rows && none_in rows g.rows
+    has_no_duplicates rows && none_in rows g.rows
     && are_distinct given_id ks && list_all (λ (k : CellColumn). has_id shown_id g.columns k.id) ks
 edit_fits (update rows ks) g =
     all_in rows g.rows && list_all (λ (k : CellColumn). has_id shown_id g.columns k.id) ks
@@ -66,8 +66,8 @@ fits (BulkAdd t rows ks) v = fits_table t (add rows ks) v
 fits (BulkUpdate t rows ks) v = fits_table t (update rows ks) v
 fits (BulkRemove t rows) v = fits_table t (remove rows) v
 
--- the place, from 0, of the first action that does not fit where it stands
+-- the index, from 0, of the first action that does not fit where it stands
 abbrev pub unfit_at : List ViewTable → List ViewAction → Option ℕ
 unfit_at v [] = None
 unfit_at v (a ∷ as') =
-    cond (fits a v) (option_map (λ place. place + 1) (unfit_at (patched a v) as')) (Some 0)
+    cond (fits a v) (option_map (λ index. index + 1) (unfit_at (patched a v) as')) (Some 0)

@@ -13,13 +13,13 @@ use Rattle.doc_model.specs.Document.{Document, table_id}
 abbrev pub of_table : {X : Type 0} → Document → List ℕ → (Grid ColDef → Option X) → Option X
 of_table s table f = elim (find_id table_id table s) [ None ↦ None | Some t ↦ f t.grid ]
 
--- the id of the table at a place, counted from 0
+-- the id of the table at an index, counted from 0
 abbrev pub table_at : Document → ℕ → Option (List ℕ)
-table_at s place = option_map table_id (slice_get s place)
+table_at s index = option_map table_id (slice_get s index)
 
--- the column at a place of a table, counted from 0
+-- the column at an index of a table, counted from 0
 abbrev pub column_at : Document → List ℕ → ℕ → Option ColDef
-column_at s table place = of_table s table (λ g. slice_get g.columns place)
+column_at s table index = of_table s table (λ g. slice_get g.columns index)
 
 -- the rows of a table
 abbrev pub rows_at : Document → List ℕ → Option (List ℕ)

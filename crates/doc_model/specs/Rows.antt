@@ -27,9 +27,9 @@ abbrev pub without : List ℕ → List ℕ → List ℕ
 without gone rows = filter (λ r. not (has gone r)) rows
 
 -- whether no row stands twice
-abbrev pub is_once : List ℕ → Bool
-is_once [] = true
-is_once (r ∷ rows) = not (has rows r) && is_once rows
+abbrev pub has_no_duplicates : List ℕ → Bool
+has_no_duplicates [] = true
+has_no_duplicates (r ∷ rows) = not (has rows r) && has_no_duplicates rows
 
 -- whether each of the first list stands in the second
 abbrev pub all_in : List ℕ → List ℕ → Bool

@@ -7,7 +7,7 @@ use Rattle.cell_types.specs.declared.value.CellValue.{CellValue}
 use Rattle.cell_types.specs.declared.value.CellValue.TheVariants as value
 use Rattle.doc_model.specs.declared.column.ColDef.{ColDef}
 use Rattle.doc_model.specs.MetadataIds.{tables_id, columns_id, resources_id, rules_id}
-use Rattle.doc_model.specs.Rows.{IsAscending, is_once}
+use Rattle.doc_model.specs.Rows.{IsAscending, has_no_duplicates}
 use Rattle.doc_model.specs.Grid.{Grid}
 use Rattle.doc_model.specs.Column.{column_row}
 use Rattle.doc_model.specs.Document.{Table, Document, table_row}
@@ -129,7 +129,7 @@ plain_tables _ = []
 -- tables and columns stand in the order of their rows, and the access tables have their columns
 pub record SchemaAgrees (s : Document) : Type 0 where
   pub schema : s ≡ with_schema (resources s) (rules s) (plain_tables s)
-  pub once : is_once (map described_row (all_columns (plain_tables s))) ≡ true
+  pub once : has_no_duplicates (map described_row (all_columns (plain_tables s))) ≡ true
   pub tables_ascend : IsAscending (map table_row (plain_tables s))
   pub columns_ascend :
       AllByRecursion (λ t. IsAscending (map column_row t.grid.columns)) (plain_tables s)

@@ -8,7 +8,7 @@ use Rattle.doc_model.specs.declared.column.CellColumn.{CellColumn}
 use Rattle.doc_model.specs.declared.column.ColDef.{ColDef}
 use Rattle.doc_model.specs.MetadataIds.{is_schema_id, is_metadata_id, tables_id, columns_id}
 use Rattle.doc_model.specs.ByIds.{find_id, has_id, are_distinct}
-use Rattle.doc_model.specs.Rows.{is_once, all_in, none_in}
+use Rattle.doc_model.specs.Rows.{has_no_duplicates, all_in, none_in}
 use Rattle.doc_model.specs.Grid.{Grid, cell}
 use Rattle.doc_model.specs.Records.{given_id}
 use Rattle.doc_model.specs.Column.{column_id, column_row, is_base, is_null, is_sound_info}
@@ -50,7 +50,7 @@ gives_data g rows ks = are_distinct given_id ks && list_all (gives_column g rows
 
 -- whether the metadata rows are from 1, once, and not among those of a schema table
 abbrev pub are_free : Document → List ℕ → List ℕ → Bool
-are_free s id rows = from_one rows && is_once rows && none_in rows (rows_of s id)
+are_free s id rows = from_one rows && has_no_duplicates rows && none_in rows (rows_of s id)
 
 -- whether the column of this id holds Null in each row
 abbrev pub all_null : Grid ColDef → List ℕ → Bool
@@ -66,11 +66,11 @@ is_new_column g id = not (has_id column_id g.columns id) && is_name id
 
 abbrev pub valid : Document → DocAction → Bool
 valid s (BulkAdd table rows ks) = passes (record_table s table) (λ t.
-    is_once rows && from_one rows && none_in rows t.grid.rows && gives_data t.grid rows ks)
+    has_no_duplicates rows && from_one rows && none_in rows t.grid.rows && gives_data t.grid rows ks)
 valid s (BulkUpdate table rows ks) = passes (record_table s table) (λ t.
-    is_once rows && from_one rows && all_in rows t.grid.rows && gives_data t.grid rows ks)
+    has_no_duplicates rows && from_one rows && all_in rows t.grid.rows && gives_data t.grid rows ks)
 valid s (BulkRemove table rows) = passes (record_table s table) (λ t.
-    is_once rows && all_in rows t.grid.rows)
+    has_no_duplicates rows && all_in rows t.grid.rows)
 valid s (AddTable table row columns) =
     is_new_table s table && are_free s tables_id (row ∷ [])
     && are_distinct column_id columns && list_all (λ (d : ColDef). is_name d.id) columns

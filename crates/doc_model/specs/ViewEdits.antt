@@ -5,7 +5,7 @@ use Rattle.cell_types.specs.declared.value.CellValue.{CellValue}
 use Rattle.doc_model.specs.declared.column.CellColumn.{CellColumn}
 use Rattle.doc_model.specs.declared.view.ViewCol.{ViewCol}
 use Rattle.doc_model.specs.Column.{default_of}
-use Rattle.doc_model.specs.ByIds.{IsByIds, find_id, has_id, place, without_id}
+use Rattle.doc_model.specs.ByIds.{IsByIds, find_id, has_id, put_by_id, without_id}
 use Rattle.doc_model.specs.Rows.{without}
 use Rattle.doc_model.specs.Grid.{Grid, grid_of, cell, IsGrid}
 use Rattle.doc_model.specs.Records.{add_rows, update_rows, remove_rows, column_of}
@@ -37,10 +37,10 @@ abbrev pub edited : Edit → Grid ViewCol → Grid ViewCol
 edited (remove_column c) g =
     grid_of (without_id shown_id c g.columns) g.rows (λ d r. cell shown_id g d.id r)
 edited (add_column new) g =
-    grid_of (place shown_id new g.columns) g.rows (λ d r.
+    grid_of (put_by_id shown_id new g.columns) g.rows (λ d r.
     cond (bytes_eq d.id new.id) (shown_start new) (cell shown_id g d.id r))
 edited (modify_column new) g =
-    grid_of (place shown_id new g.columns) g.rows (λ d r. cell shown_id g d.id r)
+    grid_of (put_by_id shown_id new g.columns) g.rows (λ d r. cell shown_id g d.id r)
 edited (remove rows) g = remove_rows shown_id rows g
 edited (add rows ks) g = add_rows shown_id shown_start rows ks g
 edited (update rows ks) g = update_rows shown_id rows ks g

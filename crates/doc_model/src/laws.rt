@@ -2,7 +2,7 @@
 
 ghost use Rattle.doc_model.specs.CountLaws.{CountsLaw};
 ghost use Rattle.doc_model.specs.DocumentLaws.{InverseAllLaw, InverseLaw, KeptLaw, NewDocumentLaw};
-ghost use Rattle.doc_model.specs.PeakLaws.{PeaksLaw};
+ghost use Rattle.doc_model.specs.MaximaLaws.{MaximaLaw};
 ghost use Rattle.doc_model.specs.ViewLaws.{ChangesFitLaw, NoChangesLaw, PatchLaw};
 
 /// The new document is sound and agrees with its schema.
@@ -34,8 +34,8 @@ pub fn counts_law()
 
 /// The most columns, the most rows and the greatest row id of a table after a valid action are the
 /// greatest among what the document before it and the action tell of each table.
-pub fn peaks_law()
-    ensures { PeaksLaw }
+pub fn maxima_law()
+    ensures { MaximaLaw }
 {}
 
 /// Patching a view with the changes to another view gives the other.

@@ -29,7 +29,7 @@ pub use limit::{
     MAX_TABLES, MAX_WEIGHT_BYTES, Refusal, RuleRef,
 };
 pub use request::Request;
-pub use rows::{are_rows_once, place_of_column};
+pub use rows::{have_no_duplicates, index_of_column};
 pub use tables::{DocCells, DocTables};
 pub use user::{User, UserList};
 pub use user_action::{

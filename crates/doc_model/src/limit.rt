@@ -50,7 +50,7 @@ pub struct RuleRef {
     pub memo: CellText,
 }
 
-/// Why the action with that place in its bundle is refused: a kind by its code, or a limit.
+/// Why the action with that index in its bundle is refused: a kind by its code, or a limit.
 #[derive(Clone, Copy)]
 pub enum Refusal {
     Kind {

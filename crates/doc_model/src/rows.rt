@@ -1,19 +1,19 @@
-//! Row ids and metadata rows: whether rows stand once, and the place of a column.
+//! Row ids and metadata rows: whether rows stand once, and the index of a column.
 
 ghost use Rattle.std.specs.Prelude.{◌≡◌, ◌≤◌, length};
-ghost use Rattle.doc_model.specs.Places.{column_place};
-ghost use Rattle.doc_model.specs.Rows.{is_once};
+ghost use Rattle.doc_model.specs.Indexes.{column_index};
+ghost use Rattle.doc_model.specs.Rows.{has_no_duplicates};
 
 use crate::ColDef;
 
 /// Whether no row stands twice.
 ///
 /// Memory: none. Cost: the square of the length.
-pub fn are_rows_once(rows: &[u32]) -> bool
-    ensures { result ≡ is_once rows.now }
+pub fn have_no_duplicates(rows: &[u32]) -> bool
+    ensures { result ≡ has_no_duplicates rows.now }
 {
-    for (place, row) in rows.iter().enumerate() {
-        if rows[place + 1..].contains(row) {
+    for (index, row) in rows.iter().enumerate() {
+        if rows[index + 1..].contains(row) {
             return false;
         }
     }
@@ -23,12 +23,12 @@ pub fn are_rows_once(rows: &[u32]) -> bool
 /// Where a column of that metadata row goes: before the first one with a greater row.
 ///
 /// Memory: none. Cost: linear in the place.
-pub fn place_of_column(columns: &[ColDef], row: u32) -> usize
-    ensures { result ≡ column_place row columns.now }
+pub fn index_of_column(columns: &[ColDef], row: u32) -> usize
+    ensures { result ≡ column_index row columns.now }
 {
-    for (place, column) in columns.iter().enumerate() {
+    for (index, column) in columns.iter().enumerate() {
         if row < column.row {
-            return place;
+            return index;
         }
     }
     columns.len()

@@ -8,7 +8,7 @@ use std::alloc::AllocError;
 
 /// A document, however it is kept: its tables with their base cells.
 ///
-/// Places count from 0, in the order of the document: the four metadata tables, and then the others
+/// Indexes count from 0, in the order of the document: the four metadata tables, and then the others
 /// in the order of their metadata rows; columns in the order of theirs.
 pub trait DocTables: Drop {
     ghost use Rattle.doc_model.specs.Document.{Document};
@@ -28,17 +28,17 @@ pub trait DocTables: Drop {
     /// Whether an action may be taken back there.
     ghost fits: { Self.Back → Document → Type 0 };
 
-    /// The id of the table at a place.
+    /// The id of the table at an index.
     ///
     /// Memory: none.
-    fn table(&self, place: usize) -> Option<&Name>
-        ensures { MatchOption result (table_at (document self.now) place ≡ None) (λ name. table_at (document self.now) place ≡ Some name.now) };
+    fn table(&self, index: usize) -> Option<&Name>
+        ensures { MatchOption result (table_at (document self.now) index ≡ None) (λ name. table_at (document self.now) index ≡ Some name.now) };
 
-    /// The column at a place of a table.
+    /// The column at an index of a table.
     ///
     /// Memory: none.
-    fn column(&self, table: &Name, place: usize) -> Option<&ColDef>
-        ensures { MatchOption result (column_at (document self.now) table.now place ≡ None) (λ column. column_at (document self.now) table.now place ≡ Some column.now) };
+    fn column(&self, table: &Name, index: usize) -> Option<&ColDef>
+        ensures { MatchOption result (column_at (document self.now) table.now index ≡ None) (λ column. column_at (document self.now) table.now index ≡ Some column.now) };
 
     /// The row ids of a table; they ascend.
     ///
@@ -54,7 +54,7 @@ pub trait DocTables: Drop {
 
     /// Applies a valid action.
     ///
-    /// Errors: want of memory; the document is then as it was.
+    /// Errors: out of memory; the document is then as it was.
     fn put(&mut self, action: &DocAction) -> Result<Self::Back, AllocError>
         requires valid { valid (document self.old) action.now ≡ true }
         ensures done { OnOk result (document self.new ≡ apply (document self.old) action.now) }
@@ -78,17 +78,17 @@ pub trait DocCells {
     /// The document, in which each formula cell holds its value.
     ghost filled: { Self → Document };
 
-    /// The id of the table at a place.
+    /// The id of the table at an index.
     ///
     /// Memory: none.
-    fn table(&self, place: usize) -> Option<&Name>
-        ensures { MatchOption result (table_at (filled self.now) place ≡ None) (λ name. table_at (filled self.now) place ≡ Some name.now) };
+    fn table(&self, index: usize) -> Option<&Name>
+        ensures { MatchOption result (table_at (filled self.now) index ≡ None) (λ name. table_at (filled self.now) index ≡ Some name.now) };
 
-    /// The column at a place of a table.
+    /// The column at an index of a table.
     ///
     /// Memory: none.
-    fn column(&self, table: &Name, place: usize) -> Option<&ColDef>
-        ensures { MatchOption result (column_at (filled self.now) table.now place ≡ None) (λ column. column_at (filled self.now) table.now place ≡ Some column.now) };
+    fn column(&self, table: &Name, index: usize) -> Option<&ColDef>
+        ensures { MatchOption result (column_at (filled self.now) table.now index ≡ None) (λ column. column_at (filled self.now) table.now index ≡ Some column.now) };
 
     /// The row ids of a table; they ascend.
     ///

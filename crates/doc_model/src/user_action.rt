@@ -10,7 +10,7 @@ pub enum UserAction {
         table: CellText,
         single: bool,
         count: u32,
-        explicit: bool,
+        has_row_ids: bool,
         columns: UserColumnList,
     },
     Update {

@@ -61,17 +61,17 @@ module _ (s : Document) (t c : List ℕ) (i : ℕ) (rest : find_id column_id c (
   pub column_absent : column_at s t i ≡ None → None ≡ find_id column_id c (grid_at s t).columns
   column_absent h = sym (ap (find_id column_id c) (drop_past (grid_at s t).columns i (column_past s t i h))) ∙ rest
 
--- ---- places and rows
+-- ---- indexes and rows
 
-place_row : (cs : List ColDef) (n i : ℕ) (d : ColDef) → AllByRecursion (λ q. n ≤ q) (map column_row cs) → IsAscending (map column_row cs) → slice_get cs i ≡ Some d → n + i ≤ d.row
-place_row [] n zero d low a h = absurd (cc)
-place_row [] n (suc i) d low a h = absurd (cc)
-place_row (c ∷ cs) n zero d low a h = let same : c ≡ d = cc in let e : c.row ≡ d.row = ap column_row same in omega (arith, low.0, e)
-place_row (c ∷ cs) n (suc i) d low a h =
+index_row : (cs : List ColDef) (n i : ℕ) (d : ColDef) → AllByRecursion (λ q. n ≤ q) (map column_row cs) → IsAscending (map column_row cs) → slice_get cs i ≡ Some d → n + i ≤ d.row
+index_row [] n zero d low a h = absurd (cc)
+index_row [] n (suc i) d low a h = absurd (cc)
+index_row (c ∷ cs) n zero d low a h = let same : c ≡ d = cc in let e : c.row ≡ d.row = ap column_row same in omega (arith, low.0, e)
+index_row (c ∷ cs) n (suc i) d low a h =
     let above : AllByRecursion (λ q. n + 1 ≤ q) (map column_row cs) = each_weaker (λ q. c.row < q) (λ q. n + 1 ≤ q) (λ q l. omega (arith, low.0)) (map column_row cs) a.0 in
-    let next : (n + 1) + i ≤ d.row = place_row cs (n + 1) i d above a.1 h in omega arith
+    let next : (n + 1) + i ≤ d.row = index_row cs (n + 1) i d above a.1 h in omega arith
 
--- the place of a column whose row is a row id is below the number of row ids
+-- the index of a column whose row is a row id is below the number of row ids
 abbrev IsShort : Table → Type 0
 IsShort t = (i : ℕ) (d : ColDef) → slice_get t.grid.columns i ≡ Some d → d.row < 2 ^ 32 → i < 2 ^ 32
 
@@ -83,7 +83,7 @@ low_all [] = tt
 low_all (r ∷ rows) = (omega arith, low_all rows)
 
 short_plain : (t : Table) → IsAscending (map column_row t.grid.columns) → IsShort t
-short_plain t a i d h row = let le : 0 + i ≤ d.row = place_row t.grid.columns 0 i d (low_all (map column_row t.grid.columns)) a h in omega arith
+short_plain t a i d h row = let le : 0 + i ≤ d.row = index_row t.grid.columns 0 i d (low_all (map column_row t.grid.columns)) a h in omega arith
 
 short_each : (s : Document) → IsWhole s → AllByRecursion IsShort s
 short_each s whole =
@@ -101,8 +101,8 @@ short_each s whole =
       ),
     )
 
-pub place_below : (s : Document) → IsWhole s → (t : List ℕ) (i : ℕ) (d : ColDef) → column_at s t i ≡ Some d → d.row < 2 ^ 32 → i + 1 ≤ 2 ^ 32
-place_below s whole t i d h row =
+pub index_below : (s : Document) → IsWhole s → (t : List ℕ) (i : ℕ) (d : ColDef) → column_at s t i ≡ Some d → d.row < 2 ^ 32 → i + 1 ≤ 2 ^ 32
+index_below s whole t i d h row =
     let below : i < 2 ^ 32 = elim (find_id table_id t s) as (λ (o : Option Table). find_id table_id t s ≡ o → slice_get (elim o as (λ _. Grid ColDef) [ None ↦ no_grid | Some t ↦ t.grid ]).columns i ≡ Some d → i < 2 ^ 32) [
       | None ↦ λ _ e. few [] (omega arith) i d e row
       | Some q ↦ λ found e. found_all table_id IsShort t s q (short_each s whole) found i d e row

@@ -6,15 +6,17 @@
 //! Promises: each call is the part of the definitions that its clause names, and takes no memory.
 //! Where a document is asked for its columns or rows it has to be whole.
 //! Not promised: speed. A column is found by a walk.
-//! Read first: told.rt.
+//! Read first: table_readers.rt.
 #![tactic(auto)]
 
 mod base_values;
 mod known_ids;
 mod row_ids;
-mod told;
+mod table_readers;
 
 pub use base_values::{are_base, is_base, is_short};
 pub use known_ids::{is_acl_id, is_metadata_id, is_schema_id};
 pub use row_ids::holds_row;
-pub use told::{cell_in, columns_table, find_column, has_column, has_table, rows_in, tables_table};
+pub use table_readers::{
+    cell_in, columns_table, find_column, has_column, has_table, rows_in, tables_table,
+};

@@ -35,7 +35,7 @@ struct Records {
 
 // The column that an action is about.
 #[derive(Drop)]
-struct Place {
+struct Index {
     table: Name,
     column: Name,
 }
@@ -51,10 +51,10 @@ fn records_of(alloc: Global, table: &str, rows: [u32; 2]) -> Result<Records, All
     Ok(Records { table, rows })
 }
 
-fn place_of(alloc: Global, table: &str, column: &str) -> Result<Place, AllocError> {
+fn index_of(alloc: Global, table: &str, column: &str) -> Result<Index, AllocError> {
     let table = name(alloc, table)?;
     let column = name(alloc, column)?;
-    Ok(Place { table, column })
+    Ok(Index { table, column })
 }
 
 fn ints(alloc: Global, values: [i64; 2]) -> Result<ValueList, AllocError> {
@@ -198,19 +198,19 @@ fn add_column(alloc: Global, table: &str, id: &str, row: u32) -> Result<DocActio
 }
 
 fn remove_column(alloc: Global, table: &str, id: &str) -> Result<DocAction, AllocError> {
-    let place = place_of(alloc, table, id)?;
+    let index = index_of(alloc, table, id)?;
     Ok(DocAction::RemoveColumn {
-        table: place.table,
-        column: place.column,
+        table: index.table,
+        column: index.column,
     })
 }
 
 fn rename_column(alloc: Global, table: &str, id: &str, new: &str) -> Result<DocAction, AllocError> {
-    let place = place_of(alloc, table, id)?;
+    let index = index_of(alloc, table, id)?;
     let new = name(alloc, new)?;
     Ok(DocAction::RenameColumn {
-        table: place.table,
-        column: place.column,
+        table: index.table,
+        column: index.column,
         new,
     })
 }
@@ -221,7 +221,7 @@ fn modify_column(
     id: &str,
     formula: &str,
 ) -> Result<DocAction, AllocError> {
-    let place = place_of(alloc, table, id)?;
+    let index = index_of(alloc, table, id)?;
     let text = CellText::copy_of(alloc, formula)?;
     let info = ColInfo {
         ty: ColType::Any,
@@ -229,8 +229,8 @@ fn modify_column(
         formula: text,
     };
     Ok(DocAction::ModifyColumn {
-        table: place.table,
-        column: place.column,
+        table: index.table,
+        column: index.column,
         info,
     })
 }

@@ -2,7 +2,7 @@
 //! computed in proofs/Traps.antt.
 
 use crate::actions::x_and_y;
-use doc_model::{ColDefList, LimitKind, are_rows_once, place_of_column};
+use doc_model::{ColDefList, LimitKind, have_no_duplicates, index_of_column};
 use std::alloc::{AllocError, Global};
 
 static BOUNDS: [(LimitKind, u64); 8] = [
@@ -25,22 +25,22 @@ fn limits_have_their_bounds(rt: HostRuntime) {
 
 #[test]
 fn repeated_rows_are_found_in_any_order(rt: HostRuntime) {
-    assert!(rt; are_rows_once(&[2, 1, 3]));
-    assert!(rt; !are_rows_once(&[2, 1, 2]));
+    assert!(rt; have_no_duplicates(&[2, 1, 3]));
+    assert!(rt; !have_no_duplicates(&[2, 1, 2]));
 }
 
-// Metadata rows, and the places of such columns among those of the rows 2 and 5.
+// Metadata rows, and the indexes of such columns among those of the rows 2 and 5.
 static PLACES: [(u32, usize); 5] = [(1, 0), (2, 1), (3, 1), (5, 2), (9, 2)];
 
-fn is_place(columns: &Result<ColDefList, AllocError>, row: u32, place: usize) -> bool {
+fn is_index(columns: &Result<ColDefList, AllocError>, row: u32, index: usize) -> bool {
     match columns {
-        Ok(columns) => place_of_column(columns.as_slice(), row) == place,
+        Ok(columns) => index_of_column(columns.as_slice(), row) == index,
         Err(_) => false,
     }
 }
 
-fn goes_to(alloc: Global, row: u32, place: usize) -> bool {
-    is_place(&x_and_y(alloc, 5, 2), row, place)
+fn goes_to(alloc: Global, row: u32, index: usize) -> bool {
+    is_index(&x_and_y(alloc, 5, 2), row, index)
 }
 
 #[test]

@@ -59,7 +59,7 @@ fn add_record(alloc: Global) -> Result<UserAction, AllocError> {
         table,
         single: true,
         count: 1,
-        explicit: false,
+        has_row_ids: false,
         columns: UserColumnList::new(alloc),
     })
 }
@@ -213,7 +213,7 @@ fn come_to(alloc: Global, before: &Change, rows: &[Row]) -> bool {
     does(alloc, &mut document, before, Deed::Done) && are_rows(alloc, &document, rows)
 }
 
-// Actions that keep the peaks of a document, or bring more.
+// Actions that keep the maxima of a document, or bring more.
 static BRINGING: [Row; 4] = [
     (RenameTable, 1024),
     (AddRecord, 1024),

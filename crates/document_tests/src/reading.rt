@@ -40,8 +40,8 @@ fn write_cells(
     row: u32,
 ) -> Result<(), AllocError> {
     write!(text, "; {row}:")?;
-    for place in 0..9 {
-        if let Some(column) = document.column(table, place) {
+    for index in 0..9 {
+        if let Some(column) = document.column(table, index) {
             if let Some(value) = document.cell(table, &column.id, row) {
                 write_cell(text, value)?;
             }
@@ -51,8 +51,8 @@ fn write_cells(
 }
 
 fn write_columns(text: &mut String, document: &RowTables, table: &Name) -> Result<(), AllocError> {
-    for place in 0..9 {
-        if let Some(column) = document.column(table, place) {
+    for index in 0..9 {
+        if let Some(column) = document.column(table, index) {
             write_column(text, column)?;
         }
     }
@@ -70,9 +70,9 @@ fn write_table(text: &mut String, document: &RowTables, table: &Name) -> Result<
     Ok(())
 }
 
-// The rows of the table at a place.
-fn rows_at(document: &RowTables, place: usize) -> &[u32] {
-    match document.table(place) {
+// The rows of the table at an index.
+fn rows_at(document: &RowTables, index: usize) -> &[u32] {
+    match document.table(index) {
         Some(table) => document.rows(table).unwrap_or(&[]),
         None => &[],
     }
@@ -80,8 +80,8 @@ fn rows_at(document: &RowTables, place: usize) -> &[u32] {
 
 // Adds the plain tables, up to five.
 fn write_tables(text: &mut String, document: &RowTables) -> Result<(), AllocError> {
-    for place in 4..9 {
-        if let Some(table) = document.table(place) {
+    for index in 4..9 {
+        if let Some(table) = document.table(index) {
             write_table(text, document, table)?;
         }
     }

@@ -1,9 +1,9 @@
 //! Plan: each of the ten actions from a new document with two records, taken back, done again, and
 //! its inverse (`record_actions_are_done_and_undone`, and so of tables and columns); the traps of
-//! order, where a wrong place would still be a document (`removed_tables_come_back_in_their_place`,
+//! order, where a wrong index would still be a document (`removed_tables_come_back_in_their_place`,
 //! `middle_columns_come_back_with_their_cells`); what is not valid
 //! (`what_is_not_valid_changes_nothing`). Readings have the form of reading.rt and were worked out
-//! by hand from docs/DEFINITIONS.md. Want of memory counts as false.
+//! by hand from docs/DEFINITIONS.md. Out of memory counts as false.
 
 ghost use Rattle.std.specs.Prelude.{IfOk};
 ghost use Rattle.doc_model.specs.DocumentLaws.{IsWhole};

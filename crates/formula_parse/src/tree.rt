@@ -194,7 +194,7 @@ impl ArgumentList {
 
     /// Adds a formula at the end.
     ///
-    /// Errors: want of memory hands the formula back; the list is then as it was.
+    /// Errors: out of memory; it hands the formula back; the list is then as it was.
     pub fn push(&mut self, formula: Formula) -> Result<(), AllocFailed<Formula>>
         ensures ok { OnOk result (self.new ≡ self.old ++ formula ∷ []) }
         ensures err { OnErr result (self.new ≡ self.old) }
@@ -250,7 +250,7 @@ impl LookupKeyList {
 
     /// Adds a key at the end.
     ///
-    /// Errors: want of memory hands the key back; the list is then as it was.
+    /// Errors: out of memory; it hands the key back; the list is then as it was.
     pub fn push(&mut self, key: LookupKey) -> Result<(), AllocFailed<LookupKey>>
         ensures ok { OnOk result (self.new ≡ self.old ++ (key.name, key.value) ∷ []) }
         ensures err { OnErr result (self.new ≡ self.old) }

@@ -102,7 +102,7 @@ module _ (l m w : Option (List ℕ)) where
   run_heard TurnsSpent r = heard TurnsSpent r
   run_heard HistoryFull r = heard HistoryFull r
 
--- want of memory before anything was read
+-- out of memory before anything was read
 pub run_none : (l w : Option (List ℕ)) → IsRun NoMemory l l [] w w
 run_none l w = record { lines = []; users = []; requests = []; more = []; came = inl ([], 0, came_none l); said = refl; entries = refl; written = nothing_sent_of l l w [] refl }
 

@@ -88,7 +88,7 @@ module _ {old now next : LineState} {left_old left_now : Option (List ℕ)} wher
     work = omega (arith, r.work, ap length (t.all refl));
   }
 
-  -- want of memory came before a part was taken
+  -- out of memory came before a part was taken
   pub reads_no_memory : Reading old now left_old left_now → next.ahead ≡ now.ahead → next.turns ≡ now.turns → Reads (Err NoMemory) old next left_old left_now
   reads_no_memory r ahead same = record {
     came = r.came;

@@ -9,10 +9,10 @@ use serde_json::Value;
 use std::alloc::{AllocError, Global};
 
 const ACTIONS: &str =
-    r#"["AddRecord","T",null,{}] => [Add { table: CellText { text: "T" }, single: true, count: 1, explicit: false, columns: Sequence { items: [] } }]
-["AddRecord","T",-5,{"b":2,"a":1,"b":3}] => [Add { table: CellText { text: "T" }, single: true, count: 1, explicit: true, columns: Sequence { items: [UserColumn { id: CellText { text: "a" }, values: Sequence { items: [Int(1)] } }, UserColumn { id: CellText { text: "b" }, values: Sequence { items: [Int(3)] } }] } }]
-["BulkAddRecord","T",[null,7],{"B":[1,2],"A":["x",null]}] => [Add { table: CellText { text: "T" }, single: false, count: 2, explicit: true, columns: Sequence { items: [UserColumn { id: CellText { text: "A" }, values: Sequence { items: [Text(CellText { text: "x" }), Null] } }, UserColumn { id: CellText { text: "B" }, values: Sequence { items: [Int(1), Int(2)] } }] } }]
-["BulkAddRecord","",[],{"A":[]}] => [Add { table: CellText { text: "" }, single: false, count: 0, explicit: false, columns: Sequence { items: [UserColumn { id: CellText { text: "A" }, values: Sequence { items: [] } }] } }]
+    r#"["AddRecord","T",null,{}] => [Add { table: CellText { text: "T" }, single: true, count: 1, has_row_ids: false, columns: Sequence { items: [] } }]
+["AddRecord","T",-5,{"b":2,"a":1,"b":3}] => [Add { table: CellText { text: "T" }, single: true, count: 1, has_row_ids: true, columns: Sequence { items: [UserColumn { id: CellText { text: "a" }, values: Sequence { items: [Int(1)] } }, UserColumn { id: CellText { text: "b" }, values: Sequence { items: [Int(3)] } }] } }]
+["BulkAddRecord","T",[null,7],{"B":[1,2],"A":["x",null]}] => [Add { table: CellText { text: "T" }, single: false, count: 2, has_row_ids: true, columns: Sequence { items: [UserColumn { id: CellText { text: "A" }, values: Sequence { items: [Text(CellText { text: "x" }), Null] } }, UserColumn { id: CellText { text: "B" }, values: Sequence { items: [Int(1), Int(2)] } }] } }]
+["BulkAddRecord","",[],{"A":[]}] => [Add { table: CellText { text: "" }, single: false, count: 0, has_row_ids: false, columns: Sequence { items: [UserColumn { id: CellText { text: "A" }, values: Sequence { items: [] } }] } }]
 ["UpdateRecord","T",3,{"A":false}] => [Update { table: CellText { text: "T" }, single: true, rows: Sequence { items: [3] }, columns: Sequence { items: [UserColumn { id: CellText { text: "A" }, values: Sequence { items: [Bool(false)] } }] } }]
 ["BulkUpdateRecord","T",[2,-1],{"A":[5,6]}] => [Update { table: CellText { text: "T" }, single: false, rows: Sequence { items: [2, -1] }, columns: Sequence { items: [UserColumn { id: CellText { text: "A" }, values: Sequence { items: [Int(5), Int(6)] } }] } }]
 ["RemoveRecord","T",3] => [Remove { table: CellText { text: "T" }, single: true, rows: Sequence { items: [3] } }]

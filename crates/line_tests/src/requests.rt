@@ -15,7 +15,7 @@ const REQUESTS: &str =
 {"method":"sync"} => Sync
 {"method":"closeDoc"} => Close
 {"actions":[],"method":"applyUserActions"} => Apply { actions: Sequence { items: [] } }
-{"method":"applyUserActions","actions":[["AddRecord","T",null,{"A":1.5,"B":7,"A":2}],["RemoveTable","U"]]} => Apply { actions: Sequence { items: [Add { table: CellText { text: "T" }, single: true, count: 1, explicit: false, columns: Sequence { items: [UserColumn { id: CellText { text: "A" }, values: Sequence { items: [Int(2)] } }, UserColumn { id: CellText { text: "B" }, values: Sequence { items: [Int(7)] } }] } }, RemoveTable { table: CellText { text: "U" } }] } }"#;
+{"method":"applyUserActions","actions":[["AddRecord","T",null,{"A":1.5,"B":7,"A":2}],["RemoveTable","U"]]} => Apply { actions: Sequence { items: [Add { table: CellText { text: "T" }, single: true, count: 1, has_row_ids: false, columns: Sequence { items: [UserColumn { id: CellText { text: "A" }, values: Sequence { items: [Int(2)] } }, UserColumn { id: CellText { text: "B" }, values: Sequence { items: [Int(7)] } }] } }, RemoveTable { table: CellText { text: "U" } }] } }"#;
 
 // The first is the empty line.
 const NO_REQUESTS: &str = r#"
@@ -199,9 +199,9 @@ fn list(alloc: Global) -> Result<CellValue, AllocError> {
     Ok(CellValue::List(items))
 }
 
-// A value at each place: five that are numbers or texts, and four that name rows or are lists or marks.
-fn value_at(alloc: Global, place: usize) -> Result<CellValue, AllocError> {
-    match place {
+// A value at each index: five that are numbers or texts, and four that name rows or are lists or marks.
+fn value_at(alloc: Global, index: usize) -> Result<CellValue, AllocError> {
+    match index {
         0 => Ok(CellValue::Null),
         1 => Ok(CellValue::Int(-9_223_372_036_854_775_808)),
         2 => Ok(CellValue::Bool(false)),
@@ -214,11 +214,11 @@ fn value_at(alloc: Global, place: usize) -> Result<CellValue, AllocError> {
     }
 }
 
-// The values of these places.
+// The values of these indexes.
 fn values(alloc: Global, from: usize, to: usize) -> Result<ValueList, AllocError> {
     let mut values = ValueList::new(alloc);
-    for place in from..to {
-        values.push(value_at(alloc, place)?)?;
+    for index in from..to {
+        values.push(value_at(alloc, index)?)?;
     }
     Ok(values)
 }
@@ -341,8 +341,8 @@ fn ret_ids(alloc: Global) -> Result<RetValue, AllocError> {
     Ok(RetValue::Ids(RetIdList::from(ids)))
 }
 
-fn ret_value_at(alloc: Global, place: usize) -> Result<RetValue, AllocError> {
-    match place {
+fn ret_value_at(alloc: Global, index: usize) -> Result<RetValue, AllocError> {
+    match index {
         0 => Ok(RetValue::Null),
         1 => ret_ids(alloc),
         _ => Ok(RetValue::Name(name_of(alloc, "T2")?)),
@@ -351,8 +351,8 @@ fn ret_value_at(alloc: Global, place: usize) -> Result<RetValue, AllocError> {
 
 fn bundle_values(alloc: Global) -> Result<RetValueList, AllocError> {
     let mut values = RetValueList::new(alloc);
-    for place in 0..3 {
-        values.push(ret_value_at(alloc, place)?)?;
+    for index in 0..3 {
+        values.push(ret_value_at(alloc, index)?)?;
     }
     Ok(values)
 }

@@ -12,7 +12,7 @@ use Rattle.doc_model.specs.declared.column.ColDef.{ColDef}
 use Rattle.doc_model.specs.MetadataIds.{tables_id, columns_id, resources_id, rules_id, is_metadata_id}
 use Rattle.doc_model.specs.ByIds.{find_id, has_id}
 use Rattle.doc_model.specs.Grid.{Grid, cell}
-use Rattle.doc_model.specs.Rows.{has, is_once, IsAscending}
+use Rattle.doc_model.specs.Rows.{has, has_no_duplicates, IsAscending}
 use Rattle.doc_model.specs.Column.{column_id, column_row, is_sound_info}
 use Rattle.doc_model.specs.Document.{Table, Document, table_id, table_row}
 use Rattle.doc_model.specs.DocumentLaws.{IsWhole}
@@ -25,7 +25,7 @@ use Rattle.doc_model.proofs.GridLaws.{same_grid}
 use Rattle.doc_model.proofs.RowsLaws.{each_at}
 use Rattle.doc_model.proofs.SchemaLaws.{IsAscending-in_order, each_in_order}
 use Rattle.doc_model.proofs.TotalsLaws.{sum_of, length-total}
-use Rattle.doc_model.proofs.PeakSums.{total-described, over_columns}
+use Rattle.doc_model.proofs.MaximaSums.{total-described, over_columns}
 use Rattle.doc_model.proofs.WholeLaws.{IsGood, whole_from, column_rows, metadata_from}
 use Rattle.doc_readers.specs.Parts.{grid_at}
 use Rattle.doc_readers.proofs.CellLemmas.{cell_absent}
@@ -346,7 +346,7 @@ module _ (a b c d : Table) (p : List Table) where
     tables_ascend : IsAscending (map table_row p)
     tables_ascend = subst IsAscending (sym plain_rows) sound.grids.0.is_grid.ascending
 
-    once : is_once (column_rows p) ≡ true
+    once : has_no_duplicates (column_rows p) ≡ true
     once = once_marked mark p all_marked ascend_each tables_ascend
 
     plains : AllByRecursion (λ t. is_metadata_id t.id ≡ false) p

@@ -14,7 +14,7 @@ use Rattle.doc_readers.specs.Parts.{grid_at}
 use Rattle.doc_readers.proofs.ColumnLemmas.{column_read, column_past}
 use Rattle.meta_schema.specs.Agreement.{has_text, cell_beside, has_table_at, is_said, are_said, tables_said, column_count}
 
--- ---- lists from a place on
+-- ---- lists from an index on
 
 module _ {X : Type 0} where
   drop_at : (xs : List X) (i j : ℕ) (x : X) → j ≡ suc i → slice_get xs i ≡ Some x → drop i xs ≡ x ∷ drop j xs
@@ -79,29 +79,29 @@ pub too_many : (b : Bool) (n left : ℕ) → left < n → ◌≡◌ {A = Option 
 too_many b n left less =
     ap (λ x. cond x (Some (left - n)) None) (sym (ap (λ y. b && y) (false_from (nat_le n left) (λ is. absurd (omega (arith, leb-true n left is)))) ∙ and_false b))
 
-module _ (s : Document) (t : List ℕ) (parent place low : ℕ) (rest : are_said s parent low (drop place (grid_at s t).columns) ≡ are_said s parent 0 (grid_at s t).columns) where
-  column_next : (d : ColDef) → column_at s t place ≡ Some d → ((ltb low d.row && is_said s parent d) && are_said s parent d.row (drop (place + 1) (grid_at s t).columns)) ≡ are_said s parent 0 (grid_at s t).columns
-  column_next d h = sym (ap (are_said s parent low) (drop_here (grid_at s t).columns place d (column_read s t place d h))) ∙ rest
+module _ (s : Document) (t : List ℕ) (parent index low : ℕ) (rest : are_said s parent low (drop index (grid_at s t).columns) ≡ are_said s parent 0 (grid_at s t).columns) where
+  column_next : (d : ColDef) → column_at s t index ≡ Some d → ((ltb low d.row && is_said s parent d) && are_said s parent d.row (drop (index + 1) (grid_at s t).columns)) ≡ are_said s parent 0 (grid_at s t).columns
+  column_next d h = sym (ap (are_said s parent low) (drop_here (grid_at s t).columns index d (column_read s t index d h))) ∙ rest
 
-  pub column_passed : (d : ColDef) → column_at s t place ≡ Some d → low < d.row → is_said s parent d ≡ true → are_said s parent d.row (drop (place + 1) (grid_at s t).columns) ≡ are_said s parent 0 (grid_at s t).columns
+  pub column_passed : (d : ColDef) → column_at s t index ≡ Some d → low < d.row → is_said s parent d ≡ true → are_said s parent d.row (drop (index + 1) (grid_at s t).columns) ≡ are_said s parent 0 (grid_at s t).columns
   column_passed d h above said =
-      sym (ap (λ b. b && are_said s parent d.row (drop (place + 1) (grid_at s t).columns)) (both_true (ltb low d.row) (is_said s parent d) (lt-ltb low d.row above) said)) ∙ column_next d h
+      sym (ap (λ b. b && are_said s parent d.row (drop (index + 1) (grid_at s t).columns)) (both_true (ltb low d.row) (is_said s parent d) (lt-ltb low d.row above) said)) ∙ column_next d h
 
-  pub column_low : (d : ColDef) → column_at s t place ≡ Some d → d.row ≤ low → are_said s parent 0 (grid_at s t).columns ≡ false
-  column_low d h below = sym (column_next d h) ∙ ap (λ b. (b && is_said s parent d) && are_said s parent d.row (drop (place + 1) (grid_at s t).columns)) (le-ltb low d.row below)
+  pub column_low : (d : ColDef) → column_at s t index ≡ Some d → d.row ≤ low → are_said s parent 0 (grid_at s t).columns ≡ false
+  column_low d h below = sym (column_next d h) ∙ ap (λ b. (b && is_said s parent d) && are_said s parent d.row (drop (index + 1) (grid_at s t).columns)) (le-ltb low d.row below)
 
-  pub column_unsaid : (d : ColDef) → column_at s t place ≡ Some d → is_said s parent d ≡ false → are_said s parent 0 (grid_at s t).columns ≡ false
+  pub column_unsaid : (d : ColDef) → column_at s t index ≡ Some d → is_said s parent d ≡ false → are_said s parent 0 (grid_at s t).columns ≡ false
   column_unsaid d h isnt =
       sym (column_next d h)
-      ∙ ap (λ b. (ltb low d.row && b) && are_said s parent d.row (drop (place + 1) (grid_at s t).columns)) isnt
-      ∙ ap (λ b. b && are_said s parent d.row (drop (place + 1) (grid_at s t).columns)) (and_false (ltb low d.row))
+      ∙ ap (λ b. (ltb low d.row && b) && are_said s parent d.row (drop (index + 1) (grid_at s t).columns)) isnt
+      ∙ ap (λ b. b && are_said s parent d.row (drop (index + 1) (grid_at s t).columns)) (and_false (ltb low d.row))
 
-  pub columns_end : (left : ℕ) → column_at s t place ≡ None → place ≤ left → place ≤ length (grid_at s t).columns
-      → Some (left - place) ≡ cond (are_said s parent 0 (grid_at s t).columns && nat_le (length (grid_at s t).columns) left) (Some (left - length (grid_at s t).columns)) None
+  pub columns_end : (left : ℕ) → column_at s t index ≡ None → index ≤ left → index ≤ length (grid_at s t).columns
+      → Some (left - index) ≡ cond (are_said s parent 0 (grid_at s t).columns && nat_le (length (grid_at s t).columns) left) (Some (left - length (grid_at s t).columns)) None
   columns_end left h within passed =
-      let past : length (grid_at s t).columns ≤ place = past_length (grid_at s t).columns place (column_past s t place h) in
-      let end : length (grid_at s t).columns ≡ place = omega arith in
-      let all : are_said s parent 0 (grid_at s t).columns ≡ true = sym rest ∙ ap (are_said s parent low) (drop_past (grid_at s t).columns place (column_past s t place h)) in
+      let past : length (grid_at s t).columns ≤ index = past_length (grid_at s t).columns index (column_past s t index h) in
+      let end : length (grid_at s t).columns ≡ index = omega arith in
+      let all : are_said s parent 0 (grid_at s t).columns ≡ true = sym rest ∙ ap (are_said s parent low) (drop_past (grid_at s t).columns index (column_past s t index h)) in
       sym (cond_true (are_said s parent 0 (grid_at s t).columns && nat_le (length (grid_at s t).columns) left) (Some (left - length (grid_at s t).columns)) None
       (both_true (are_said s parent 0 (grid_at s t).columns) (nat_le (length (grid_at s t).columns) left) all (le-leb (length (grid_at s t).columns) left (omega arith)))
       ∙ ap (λ n. Some (left - n)) end)
@@ -192,15 +192,15 @@ module _ (s : Document) (rows : List ℕ) (i left : ℕ) (said counted : Bool)
 
 -- ---- the first tables
 
-pub first_id : (s : Document) (place : ℕ) (id name : List ℕ) → has_table_at s place id ≡ true → table_at s place ≡ Some name → name ≡ id
-first_id s place id name has at =
-    elim (table_at s place) as (λ o. o ≡ Some name → elim o [ None ↦ false | Some t ↦ bytes_eq t id ] ≡ true → name ≡ id) [
+pub first_id : (s : Document) (index : ℕ) (id name : List ℕ) → has_table_at s index id ≡ true → table_at s index ≡ Some name → name ≡ id
+first_id s index id name has at =
+    elim (table_at s index) as (λ o. o ≡ Some name → elim o [ None ↦ false | Some t ↦ bytes_eq t id ] ≡ true → name ≡ id) [
       | None ↦ λ e _. absurd (cc)
       | Some t ↦ λ e is. let same : t ≡ name = cc in sym same ∙ (bytes_eq-Decides t id).0 is
     ] at has
 
-pub other_id : (s : Document) (place : ℕ) (id name : List ℕ) (rest : Bool) → table_at s place ≡ Some name → bytes_eq name id ≡ false → false ≡ (has_table_at s place id && rest)
-other_id s place id name rest at other = ap (λ b. b && rest) (sym (ap (λ o. elim o [ None ↦ false | Some t ↦ bytes_eq t id ]) at ∙ other))
+pub other_id : (s : Document) (index : ℕ) (id name : List ℕ) (rest : Bool) → table_at s index ≡ Some name → bytes_eq name id ≡ false → false ≡ (has_table_at s index id && rest)
+other_id s index id name rest at other = ap (λ b. b && rest) (sym (ap (λ o. elim o [ None ↦ false | Some t ↦ bytes_eq t id ]) at ∙ other))
 
 -- what a store tells behind the last table
 pub told_end : (s : Document) (n : ℕ) (o : Option (Bor (List ℕ))) (none : Bool) → MatchOption o (table_at s n ≡ None) (λ x. table_at s n ≡ Some x.now) → is_some o ≡ not none → none ≡ is_none (table_at s n)

@@ -9,7 +9,7 @@ use Rattle.std.specs.List.{AllByRecursion}
 use Rattle.doc_model.specs.declared.column.ColDef.{ColDef}
 use Rattle.doc_model.specs.Column.{column_row}
 use Rattle.doc_model.specs.Document.{Table, table_row}
-use Rattle.doc_model.specs.Rows.{has, is_once, IsAscending}
+use Rattle.doc_model.specs.Rows.{has, has_no_duplicates, IsAscending}
 use Rattle.doc_model.specs.Schema.{Described, described_row, put_described, in_order, all_columns}
 use Rattle.doc_model.proofs.Choices.{cond_true, cond_false, false_from, not_true, each_weaker, each_both, each_map, each_unmapped, each_filter, filter_none, filter_all}
 use Rattle.doc_model.proofs.SchemaLaws.{has-in_order, IsAscending-in_order}
@@ -84,10 +84,10 @@ module _ (p : Described → Bool) where
           turned isnt = ne_eqb e.column.row x.column.row (λ is. eqb-false x.column.row e.column.row isnt (sym is))
 
   -- what is chosen of columns in order is what is chosen, in order
-  pub filter-in_order : (es : List Described) → is_once (map described_row es) ≡ true → filter p (in_order es) ≡ in_order (filter p es)
+  pub filter-in_order : (es : List Described) → has_no_duplicates (map described_row es) ≡ true → filter p (in_order es) ≡ in_order (filter p es)
   filter-in_order [] once = refl
   filter-in_order (e ∷ es) once =
-      let two : (not (has (map described_row es) e.column.row) ≡ true) × (is_once (map described_row es) ≡ true) = and_parts (not (has (map described_row es) e.column.row)) (is_once (map described_row es)) once in
+      let two : (not (has (map described_row es) e.column.row) ≡ true) × (has_no_duplicates (map described_row es) ≡ true) = and_parts (not (has (map described_row es) e.column.row)) (has_no_duplicates (map described_row es)) once in
       filter-put_described e (in_order es) (IsAscending-in_order es) (has-in_order es e.column.row ∙ not_true (has (map described_row es) e.column.row) two.0)
       ∙ ap (λ xs. cond (p e) (put_described e xs) xs) (filter-in_order es two.1)
       ∙ elim (p e) as (λ b. cond b (put_described e (in_order (filter p es))) (in_order (filter p es)) ≡ in_order (cond b (e ∷ filter p es) (filter p es))) [ true ↦ refl | false ↦ refl ]
@@ -140,7 +140,7 @@ columns_described row [] = refl
 columns_described row (d ∷ ds) = ap (λ xs. d ∷ xs) (columns_described row ds)
 
 -- in order they are its columns
-pub columns_chosen : (plain : List Table) (t : Table) → is_once (map described_row (all_columns plain)) ≡ true → filter (is_under t.row) (all_columns plain) ≡ map (described t.row) t.grid.columns → IsAscending (map column_row t.grid.columns)
+pub columns_chosen : (plain : List Table) (t : Table) → has_no_duplicates (map described_row (all_columns plain)) ≡ true → filter (is_under t.row) (all_columns plain) ≡ map (described t.row) t.grid.columns → IsAscending (map column_row t.grid.columns)
     → map column_part (filter (is_under t.row) (in_order (all_columns plain))) ≡ t.grid.columns
 columns_chosen plain t once own a =
     ap (map column_part) (filter-in_order (is_under t.row) (all_columns plain) once ∙ ap in_order own ∙ in_order_again (map (described t.row) t.grid.columns) (subst IsAscending (sym (rows_described t.row t.grid.columns)) a))

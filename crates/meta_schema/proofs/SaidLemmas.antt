@@ -14,7 +14,7 @@ use Rattle.doc_model.specs.MetadataIds.{tables_id}
 use Rattle.doc_readers.specs.Parts.{grid_at}
 use Rattle.doc_model.specs.Column.{column_row, is_empty, is_sound_type}
 use Rattle.doc_model.specs.Document.{Table, Document, table_id, table_row}
-use Rattle.doc_model.specs.Rows.{has, is_once, IsAscending}
+use Rattle.doc_model.specs.Rows.{has, has_no_duplicates, IsAscending}
 use Rattle.doc_model.specs.Schema.{metadata_column, type_text}
 use Rattle.doc_model.proofs.Choices.{not_true, both_true, or_assoc, each_unmapped, each_weaker}
 use Rattle.doc_model.proofs.RowsLaws.{each_at}
@@ -149,10 +149,10 @@ has_append [] ys r = refl
 has_append (x ∷ xs) ys r = ap (λ b. eqb x r || b) (has_append xs ys r) ∙ or_assoc (eqb x r) (has xs r) (has ys r)
 
 -- rows of which each part has its own mark are once
-once_append : (xs ys : List ℕ) → IsAscending xs → AllByRecursion (λ q. has ys q ≡ false) xs → is_once ys ≡ true → is_once (xs ++ ys) ≡ true
+once_append : (xs ys : List ℕ) → IsAscending xs → AllByRecursion (λ q. has ys q ≡ false) xs → has_no_duplicates ys ≡ true → has_no_duplicates (xs ++ ys) ≡ true
 once_append [] ys a h once = once
 once_append (x ∷ xs) ys a h once =
-    both_true (not (has (xs ++ ys) x)) (is_once (xs ++ ys))
+    both_true (not (has (xs ++ ys) x)) (has_no_duplicates (xs ++ ys))
     (ap not (has_append xs ys x ∙ ap (λ b. b || has ys x) (has_below x xs a.0) ∙ h.0))
     (once_append xs ys a.1 h.1 once)
 
@@ -173,7 +173,7 @@ module _ (mark : ℕ → CellValue) where
       ] refl)
       ∙ unmarked row q p m l.1 h.1
 
-  pub once_marked : (p : List Table) → AllByRecursion IsMarked p → AllByRecursion (λ t. IsAscending (map column_row t.grid.columns)) p → IsAscending (map table_row p) → is_once (column_rows p) ≡ true
+  pub once_marked : (p : List Table) → AllByRecursion IsMarked p → AllByRecursion (λ t. IsAscending (map column_row t.grid.columns)) p → IsAscending (map table_row p) → has_no_duplicates (column_rows p) ≡ true
   once_marked [] h a ts = refl
   once_marked (t ∷ p) h a ts =
       once_append (map column_row t.grid.columns) (column_rows p) a.0

@@ -11,7 +11,7 @@ use Rattle.doc_model.specs.declared.column.ColDef.{ColDef}
 use Rattle.doc_model.specs.MetadataIds.{tables_id, columns_id, resources_id, rules_id}
 use Rattle.doc_model.specs.ByIds.{find_id}
 use Rattle.doc_model.specs.Grid.{Grid, beside, cell}
-use Rattle.doc_model.specs.Rows.{is_once, IsAscending}
+use Rattle.doc_model.specs.Rows.{has_no_duplicates, IsAscending}
 use Rattle.doc_model.specs.Column.{column_id, column_row, is_empty, is_short, is_sound_type, is_sound_info}
 use Rattle.doc_model.specs.Document.{Table, Document, table_id, table_row}
 use Rattle.doc_model.specs.Schema.{Described, described_row, describe, all_columns, in_order, columns_columns, tables_grid, columns_grid, metadata_table, with_schema, resources, rules, plain_tables, type_text, no_grid}
@@ -120,7 +120,7 @@ module _ (r u : Grid ColDef) (p : List Table) where
         ∙ filter_map_passed (column_under whole t.row) described_row column_part (is_under t.row) es
         (each_weaker (λ (e : Described). Stands described_row describe es [] e × IsReadBack e.column) (λ e. column_under whole t.row e.column.row ≡ cond (is_under t.row e) (Some (column_part e)) None) (λ e h. column_found_under e h.0 t.row h.1) es
         (each_both (Stands described_row describe es []) (λ (e : Described). IsReadBack e.column) es (each_stands described_row describe es [] (IsAscending-in_order (all_columns p))) (each_in_order (λ (e : Described). IsReadBack e.column) (all_columns p) (all_read_back p good.grids good.names))))
-        ∙ columns_chosen p t (ap is_once (described_rows p) ∙ good.once) own ascend
+        ∙ columns_chosen p t (ap has_no_duplicates (described_rows p) ∙ good.once) own ascend
 
     table_found : (t : Table) → Stands table_row (λ (t : Table). value.Text t.id ∷ []) p [] t → has_names t ≡ true → columns_under whole t.row ≡ t.grid.columns → table_in whole t.row ≡ Some (told_table t)
     table_found t stands names columns =

@@ -8,7 +8,7 @@ use Rattle.cell_types.specs.declared.value.CellValue.TheVariants as value
 use Rattle.doc_model.specs.declared.column.ColDef.{ColDef}
 use Rattle.doc_model.specs.MetadataIds.{tables_id, columns_id, resources_id, rules_id}
 use Rattle.doc_model.specs.Grid.{Grid}
-use Rattle.doc_model.specs.Rows.{has, is_once, IsAscending}
+use Rattle.doc_model.specs.Rows.{has, has_no_duplicates, IsAscending}
 use Rattle.doc_model.specs.Column.{column_row}
 use Rattle.doc_model.specs.Document.{Table, Document, table_id, table_row}
 use Rattle.doc_model.specs.DocumentLaws.{IsWhole}
@@ -17,7 +17,7 @@ use Rattle.doc_model.proofs.Choices.{both_true, length_map, not_true, each_weake
 use Rattle.doc_model.proofs.ByIdsLaws.{bytes_itself, each_found}
 use Rattle.doc_model.proofs.SchemaLaws.{IsAscending-in_order, has-in_order}
 use Rattle.doc_model.proofs.TotalsLaws.{sum_of, length-total}
-use Rattle.doc_model.proofs.PeakSums.{total-described, over_columns}
+use Rattle.doc_model.proofs.MaximaSums.{total-described, over_columns}
 use Rattle.doc_model.proofs.WholeLaws.{IsGood, good_from, described_rows}
 use Rattle.doc_readers.specs.Parts.{grid_at}
 use Rattle.meta_schema.specs.Decoding.{holds}
@@ -44,10 +44,10 @@ each_unput P e (x ∷ es) new h =
     turned : eqb x.column.row e.column.row ≡ false → eqb e.column.row x.column.row ≡ false
     turned isnt = ne_eqb e.column.row x.column.row (λ is. eqb-false x.column.row e.column.row isnt (sym is))
 
-each_unordered : (P : Described → Type 0) (es : List Described) → is_once (map described_row es) ≡ true → AllByRecursion P (in_order es) → AllByRecursion P es
+each_unordered : (P : Described → Type 0) (es : List Described) → has_no_duplicates (map described_row es) ≡ true → AllByRecursion P (in_order es) → AllByRecursion P es
 each_unordered P [] once h = tt
 each_unordered P (e ∷ es) once h =
-    let two : (not (has (map described_row es) e.column.row) ≡ true) × (is_once (map described_row es) ≡ true) = and_parts (not (has (map described_row es) e.column.row)) (is_once (map described_row es)) once in
+    let two : (not (has (map described_row es) e.column.row) ≡ true) × (has_no_duplicates (map described_row es) ≡ true) = and_parts (not (has (map described_row es) e.column.row)) (has_no_duplicates (map described_row es)) once in
     let both : P e × AllByRecursion P (in_order es) = each_unput P e (in_order es) (has-in_order es e.column.row ∙ not_true (has (map described_row es) e.column.row) two.0) h in
     (both.0, each_unordered P es two.1 both.1)
 
@@ -120,8 +120,8 @@ module _ (r u : Grid ColDef) (p : List Table) where
     grids : AllByRecursion (λ t. grid_at whole t.id ≡ t.grid) whole
     grids = each_found table_id (λ t. grid_at whole t.id ≡ t.grid) whole w.sound.distinct (λ t e. ap (λ o. elim o as (λ _. Grid ColDef) [ None ↦ no_grid | Some t ↦ t.grid ]) e)
 
-    once : is_once (map described_row (all_columns p)) ≡ true
-    once = ap is_once (described_rows p) ∙ good.once
+    once : has_no_duplicates (map described_row (all_columns p)) ≡ true
+    once = ap has_no_duplicates (described_rows p) ∙ good.once
 
     all_said : AllByRecursion (λ t. AllByRecursion (λ d. is_said whole t.row d ≡ true) t.grid.columns) p
     all_said =

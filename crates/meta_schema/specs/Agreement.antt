@@ -23,27 +23,27 @@ has_type v ty = has_text v (type_text ty)
 abbrev pub has_truth : CellValue → Bool → Bool
 has_truth v truth = elim (truth_in v) [ None ↦ false | Some b ↦ cond b truth (not truth) ]
 
--- the cell of a row in the column at a place, Null where there is none
+-- the cell of a row in the column at an index, Null where there is none
 abbrev pub cell_beside : Document → List ℕ → ℕ → ℕ → CellValue
-cell_beside s table place row =
-    elim (column_at s table place) [ None ↦ value.Null | Some d ↦ told s table d.id row ]
+cell_beside s table index row =
+    elim (column_at s table index) [ None ↦ value.Null | Some d ↦ told s table d.id row ]
 
--- whether the column at a place is a data column of that id and type that nothing describes
+-- whether the column at an index is a data column of that id and type that nothing describes
 abbrev pub has_column : Document → List ℕ → ℕ → List ℕ → List ℕ → Bool
-has_column s table place id ty = elim (column_at s table place) [
+has_column s table index id ty = elim (column_at s table index) [
   | None ↦ false
   | Some d ↦
       bytes_eq d.id id && bytes_eq ty (type_text d.info.ty) && not d.info.is_formula
       && is_empty d.info.formula && nat_eq d.row 0
 ]
 
--- whether a table has no column at a place
+-- whether a table has no column at an index
 abbrev pub ends_at : Document → List ℕ → ℕ → Bool
-ends_at s table place = elim (column_at s table place) [ None ↦ true | Some d ↦ false ]
+ends_at s table index = elim (column_at s table index) [ None ↦ true | Some d ↦ false ]
 
--- whether the table at a place has that id
+-- whether the table at an index has that id
 abbrev pub has_table_at : Document → ℕ → List ℕ → Bool
-has_table_at s place id = elim (table_at s place) [ None ↦ false | Some t ↦ bytes_eq t id ]
+has_table_at s index id = elim (table_at s index) [ None ↦ false | Some t ↦ bytes_eq t id ]
 
 -- whether the four metadata tables stand first, with their columns
 abbrev pub has_tables_table : Document → Bool

@@ -14,11 +14,11 @@ use crate::type_texts::is_type_text;
 use cell_types::{ColType, Name};
 use doc_model::{ColDef, DocTables};
 
-// Whether the cell of a row, in the column at a place, holds that text.
-fn has_text<D: DocTables>(tables: &D, table: &Name, place: usize, row: u32, text: &str) -> bool
-    ensures { result ≡ has_text (cell_beside (D.document tables.now) table.now place row) text.now }
+// Whether the cell of a row, in the column at an index, holds that text.
+fn has_text<D: DocTables>(tables: &D, table: &Name, index: usize, row: u32, text: &str) -> bool
+    ensures { result ≡ has_text (cell_beside (D.document tables.now) table.now index row) text.now }
 {
-    let Some(column) = tables.column(table, place) else {
+    let Some(column) = tables.column(table, index) else {
         return false;
     };
     match text_in(tables, table, &column.id, row) {
@@ -28,10 +28,10 @@ fn has_text<D: DocTables>(tables: &D, table: &Name, place: usize, row: u32, text
 }
 
 // Whether it holds the text of that type.
-fn has_type<D: DocTables>(tables: &D, table: &Name, place: usize, row: u32, ty: &ColType) -> bool
-    ensures { result ≡ has_type (cell_beside (D.document tables.now) table.now place row) ty.now }
+fn has_type<D: DocTables>(tables: &D, table: &Name, index: usize, row: u32, ty: &ColType) -> bool
+    ensures { result ≡ has_type (cell_beside (D.document tables.now) table.now index row) ty.now }
 {
-    let Some(column) = tables.column(table, place) else {
+    let Some(column) = tables.column(table, index) else {
         return false;
     };
     match text_in(tables, table, &column.id, row) {
@@ -41,10 +41,10 @@ fn has_type<D: DocTables>(tables: &D, table: &Name, place: usize, row: u32, ty: 
 }
 
 // Whether it holds that truth value.
-fn has_truth<D: DocTables>(tables: &D, table: &Name, place: usize, row: u32, truth: bool) -> bool
-    ensures { result ≡ has_truth (cell_beside (D.document tables.now) table.now place row) truth }
+fn has_truth<D: DocTables>(tables: &D, table: &Name, index: usize, row: u32, truth: bool) -> bool
+    ensures { result ≡ has_truth (cell_beside (D.document tables.now) table.now index row) truth }
 {
-    let Some(column) = tables.column(table, place) else {
+    let Some(column) = tables.column(table, index) else {
         return false;
     };
     match truth_in(tables, table, &column.id, row) {
@@ -54,10 +54,10 @@ fn has_truth<D: DocTables>(tables: &D, table: &Name, place: usize, row: u32, tru
 }
 
 // Whether it holds that row.
-fn has_row<D: DocTables>(tables: &D, table: &Name, place: usize, row: u32, wanted: u32) -> bool
-    ensures { result ≡ holds (cell_beside (D.document tables.now) table.now place row) wanted }
+fn has_row<D: DocTables>(tables: &D, table: &Name, index: usize, row: u32, wanted: u32) -> bool
+    ensures { result ≡ holds (cell_beside (D.document tables.now) table.now index row) wanted }
 {
-    match tables.column(table, place) {
+    match tables.column(table, index) {
         Some(column) => holds(tables, table, &column.id, row, wanted),
         None => false,
     }
@@ -88,16 +88,16 @@ fn rows_left<D: DocTables>(
     requires { columns.now ≡ columns_id }
     ensures { result ≡ rows_left (D.document tables.now) table.now parent left }
 {
-    let mut place = 0;
+    let mut index = 0;
     let mut low = 0;
-    while let Some(column) = tables.column(table, place) {
-        if place == left || column.row <= low || !is_said(tables, columns, parent, column) {
+    while let Some(column) = tables.column(table, index) {
+        if index == left || column.row <= low || !is_said(tables, columns, parent, column) {
             return None;
         }
         low = column.row;
-        place += 1;
+        index += 1;
     }
-    Some(left - place)
+    Some(left - index)
 }
 
 // Whether each table behind the metadata tables is said, and each row of the table of columns.
@@ -108,8 +108,8 @@ fn tables_agree<D: DocTables>(tables: &D, said: &Name, columns: &Name) -> bool
 {
     let rows = rows_in(tables, said);
     let mut left = rows_in(tables, columns).len();
-    for (place, row) in rows.iter().enumerate() {
-        let Some(table) = tables.table(place + 4) else {
+    for (index, row) in rows.iter().enumerate() {
+        let Some(table) = tables.table(index + 4) else {
             return false;
         };
         if !has_text(tables, said, 0, *row, table.as_str()) {

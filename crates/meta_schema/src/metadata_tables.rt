@@ -8,11 +8,11 @@ use crate::type_texts::is_type_text;
 use cell_types::Name;
 use doc_model::DocTables;
 
-// Whether the column at a place is a data column of that id and type that nothing describes.
-fn has_column<D: DocTables>(tables: &D, table: &Name, place: usize, id: &str, ty: &str) -> bool
-    ensures { result ≡ has_column (D.document tables.now) table.now place id.now ty.now }
+// Whether the column at an index is a data column of that id and type that nothing describes.
+fn has_column<D: DocTables>(tables: &D, table: &Name, index: usize, id: &str, ty: &str) -> bool
+    ensures { result ≡ has_column (D.document tables.now) table.now index id.now ty.now }
 {
-    match tables.column(table, place) {
+    match tables.column(table, index) {
         Some(column) => {
             column.id.as_str() == id
                 && is_type_text(ty, &column.info.ty)
@@ -24,10 +24,10 @@ fn has_column<D: DocTables>(tables: &D, table: &Name, place: usize, id: &str, ty
     }
 }
 
-fn ends_at<D: DocTables>(tables: &D, table: &Name, place: usize) -> bool
-    ensures { result ≡ ends_at (D.document tables.now) table.now place }
+fn ends_at<D: DocTables>(tables: &D, table: &Name, index: usize) -> bool
+    ensures { result ≡ ends_at (D.document tables.now) table.now index }
 {
-    tables.column(table, place).is_none()
+    tables.column(table, index).is_none()
 }
 
 /// Whether the table of tables stands first.
@@ -105,7 +105,7 @@ fn has_deciding_columns<D: DocTables>(tables: &D, table: &Name) -> bool
         && has_column(tables, table, 2, "permissionsText", "Text")
 }
 
-// Whether it tells the place of a rule and what else there is of it, and no more.
+// Whether it tells the index of a rule and what else there is of it, and no more.
 fn has_further_columns<D: DocTables>(tables: &D, table: &Name) -> bool
     requires { table.now ≡ rules_id }
     ensures { result ≡ has_further_columns (D.document tables.now) }

@@ -126,7 +126,7 @@ fn schema_by<D: DocTables>(
 
 /// The schema that the schema tables of a document say.
 ///
-/// Errors: want of memory.
+/// Errors: out of memory.
 /// Cost: the product of the tables and of the columns that are described, in cells of the store.
 pub fn schema_of<D: DocTables>(alloc: Global, tables: &D) -> Result<Schema, AllocError>
     ensures { IfOk result (λ schema. schema ≡ schema_of (D.document tables.now)) }

@@ -12,7 +12,7 @@ use std::alloc::{AllocError, Global};
 ///
 /// The wanted id loses characters at its end where the number would make it longer than 64.
 ///
-/// Errors: want of memory alone; there is always a free number.
+/// Errors: out of memory alone; there is always a free number.
 /// Memory: two texts at a time. Cost: a pass over the taken names for each number that is tried.
 pub fn free_name(alloc: Global, wanted: &Name, taken: &[Name]) -> Result<Name, AllocError>
     ensures ok { IfOk result (λ name. name ≡ free_name taken.now wanted.now) }

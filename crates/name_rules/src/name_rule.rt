@@ -85,7 +85,7 @@ pub fn is_name(text: &str) -> bool
 
 /// The name that a text is.
 ///
-/// Errors: want of memory.
+/// Errors: out of memory.
 pub fn name_of(alloc: Global, text: &str) -> Result<Name, AllocError>
     requires { is_name text.now ≡ true }
     ensures { IfOk result (λ n. n ≡ text.now) }

@@ -10,19 +10,19 @@ use Rattle.doc_model.specs.declared.view.ViewCol.{ViewCol}
 use Rattle.std.specs.Result.{IfOk}
 use Rattle.doc_model.specs.declared.view.ViewTable.{ViewTable}
 use Rattle.doc_model.specs.Changes.{table}
-use Rattle.doc_model.specs.ByIds.{find_id, has_id, place, without_id}
+use Rattle.doc_model.specs.ByIds.{find_id, has_id, put_by_id, without_id}
 use Rattle.doc_model.specs.Grid.{Grid, beside, cell, grid_of}
 use Rattle.doc_model.specs.Records.{given}
 use Rattle.doc_model.specs.Rows.{has, insert_rows, none_in, without}
 use Rattle.doc_model.specs.ViewEdits.{IsShown, add, add_column, edited, modify_column, remove, remove_column, shown_id, shown_start, update}
-use Rattle.doc_model.proofs.ByIdsLaws.{AreDistinct-IsByIds, IsByIds-filter, IsByIds-place, bytes_itself, find-place, find-without_id, found_id, has_found, has_id-find}
+use Rattle.doc_model.proofs.ByIdsLaws.{AreDistinct-IsByIds, IsByIds-filter, IsByIds-put_by_id, bytes_itself, find-put_by_id, find-without_id, found_id, has_found, has_id-find}
 use Rattle.doc_model.proofs.Choices.{cond_true, each_true}
 use Rattle.doc_model.proofs.GridLaws.{grid_of_same}
 use Rattle.doc_model.proofs.RecordsLaws.{given_absent}
 use Rattle.doc_model.proofs.RowsLaws.{each_at, has-filter, has-insert_rows}
 use Rattle.plain_view.specs.Cells.{row_cells}
 use Rattle.plain_view.specs.Given.{new_cell}
-use Rattle.plain_view.proofs.RowPlaces.{beside_absent}
+use Rattle.plain_view.proofs.RowIndexes.{beside_absent}
 use Rattle.plain_view.proofs.ShapedCells.{beside_any, beside_none, old_cell, wide}
 
 beside_empty : (test : ViewCol → Bool) (ks : List ViewCol) (a : CellValue) → beside test ks [] a ≡ a
@@ -44,11 +44,11 @@ module _ (g : Grid ViewCol) (s : IsShown g) where
       left true o d e found = absurd (cc)
       left false o d e found = e ∙ ap is_some found
 
-  pub column_added : (n : ViewCol) → has_id shown_id g.columns n.id ≡ false → grid_of (place shown_id n g.columns) g.rows (new_cell g [] []) ≡ edited (add_column n) g
+  pub column_added : (n : ViewCol) → has_id shown_id g.columns n.id ≡ false → grid_of (put_by_id shown_id n g.columns) g.rows (new_cell g [] []) ≡ edited (add_column n) g
   column_added n new =
-      grid_of_same shown_id (place shown_id n g.columns) g.rows (new_cell g [] []) (λ d r. cond (bytes_eq d.id n.id) (shown_start n) (cell shown_id g d.id r))
-      (AreDistinct-IsByIds shown_id (place shown_id n g.columns) (IsByIds-place shown_id n g.columns s.by_ids))
-      (λ d r found here. by_id d r here (bytes_eq n.id d.id) refl (sym (find-place shown_id n g.columns d.id) ∙ found))
+      grid_of_same shown_id (put_by_id shown_id n g.columns) g.rows (new_cell g [] []) (λ d r. cond (bytes_eq d.id n.id) (shown_start n) (cell shown_id g d.id r))
+      (AreDistinct-IsByIds shown_id (put_by_id shown_id n g.columns) (IsByIds-put_by_id shown_id n g.columns s.by_ids))
+      (λ d r found here. by_id d r here (bytes_eq n.id d.id) refl (sym (find-put_by_id shown_id n g.columns d.id) ∙ found))
     where
       by_id : (d : ViewCol) (r : ℕ) → has g.rows r ≡ true → (b : Bool) → bytes_eq n.id d.id ≡ b → cond (bytes_eq n.id d.id) (Some n) (find_id shown_id d.id g.columns) ≡ Some d → old_cell g d r ≡ cond (bytes_eq d.id n.id) (shown_start n) (cell shown_id g d.id r)
       by_id d r here true is found =
@@ -61,11 +61,11 @@ module _ (g : Grid ViewCol) (s : IsShown g) where
           known d r (has_found shown_id d.id g.columns d old) here
           ∙ ap (λ b. cond b (shown_start n) (cell shown_id g d.id r)) (sym (Rattle.doc_model.proofs.ByIdsLaws.bytes_apart n.id d.id isnt))
 
-  pub column_modified : (n : ViewCol) → has_id shown_id g.columns n.id ≡ true → grid_of (place shown_id n g.columns) g.rows (new_cell g [] []) ≡ edited (modify_column n) g
+  pub column_modified : (n : ViewCol) → has_id shown_id g.columns n.id ≡ true → grid_of (put_by_id shown_id n g.columns) g.rows (new_cell g [] []) ≡ edited (modify_column n) g
   column_modified n old =
-      grid_of_same shown_id (place shown_id n g.columns) g.rows (new_cell g [] []) (λ d r. cell shown_id g d.id r)
-      (AreDistinct-IsByIds shown_id (place shown_id n g.columns) (IsByIds-place shown_id n g.columns s.by_ids))
-      (λ d r found here. known d r (there d (bytes_eq n.id d.id) refl (sym (find-place shown_id n g.columns d.id) ∙ found)) here)
+      grid_of_same shown_id (put_by_id shown_id n g.columns) g.rows (new_cell g [] []) (λ d r. cell shown_id g d.id r)
+      (AreDistinct-IsByIds shown_id (put_by_id shown_id n g.columns) (IsByIds-put_by_id shown_id n g.columns s.by_ids))
+      (λ d r found here. known d r (there d (bytes_eq n.id d.id) refl (sym (find-put_by_id shown_id n g.columns d.id) ∙ found)) here)
     where
       there : (d : ViewCol) (b : Bool) → bytes_eq n.id d.id ≡ b → cond (bytes_eq n.id d.id) (Some n) (find_id shown_id d.id g.columns) ≡ Some d → has_id shown_id g.columns d.id ≡ true
       there d true is found = ap (has_id shown_id g.columns) (sym ((bytes_eq-Decides n.id d.id).0 is)) ∙ old

@@ -1,9 +1,9 @@
 pub mod Steps
-pub mod RowPlaces
-pub mod CellPlaces
+pub mod RowIndexes
+pub mod CellIndexes
 pub mod ShapedCells
 pub mod Revisions
-pub mod GivenPlaces
+pub mod GivenIndexes
 pub mod Spots
 pub mod EditedCells
 pub mod PatchSteps

@@ -12,7 +12,7 @@ use Rattle.doc_model.specs.declared.view.ViewAction.{ViewAction}
 use Rattle.doc_model.specs.declared.view.ViewAction.TheVariants.{AddColumn, AddTable, BulkAdd, BulkRemove, BulkUpdate, ModifyColumn, RemoveColumn, RemoveTable}
 use Rattle.doc_model.specs.declared.view.ViewCol.{ViewCol}
 use Rattle.doc_model.specs.declared.view.ViewTable.{ViewTable}
-use Rattle.doc_model.specs.ByIds.{AreDistinct, by_id, find_id, IsByIds, place, precedes, with_id, without_id}
+use Rattle.doc_model.specs.ByIds.{AreDistinct, by_id, find_id, IsByIds, put_by_id, precedes, with_id, without_id}
 use Rattle.doc_model.specs.Changes.{grid, IsView, shown_table_id, table}
 use Rattle.doc_model.specs.Patch.{bare, edit_table, fits, patch, patched, unfit_at}
 use Rattle.doc_model.specs.ViewEdits.{add, add_column, Edit, edited, IsShown, modify_column, remove, remove_column, shown_id, update}
@@ -21,9 +21,9 @@ use Rattle.doc_model.proofs.ChangesLaws.{IsByIds-after}
 use Rattle.doc_model.proofs.Choices.{each_filter}
 use Rattle.doc_model.proofs.ViewEditsLaws.{IsShown-edited}
 
--- the first place that passes, item by item
-first_place : {X : Type 0} (test : X → Bool) (x : X) (xs : List X) → position test (x ∷ xs) ≡ cond (test x) (Some 0) (option_map (λ p. suc p) (position test xs))
-first_place {X} test x xs =
+-- the first index that passes, item by item
+first_index : {X : Type 0} (test : X → Bool) (x : X) (xs : List X) → position test (x ∷ xs) ≡ cond (test x) (Some 0) (option_map (λ p. suc p) (position test xs))
+first_index {X} test x xs =
     elim (test x) as (λ b. cond (ltb (cond (not b) (1 + position_or_len test xs) 0) (length (x ∷ xs))) (Some (cond (not b) (1 + position_or_len test xs) 0)) None ≡ cond b (Some 0) (option_map (λ p. suc p) (position test xs))) [
       | true ↦ ap (λ b. cond b (Some 0) None) (lt-ltb 0 (suc (length xs)) (omega arith))
       | false ↦ later (position_or_len test xs) (length xs) (1 + position_or_len test xs) (omega arith)
@@ -60,17 +60,17 @@ module _ {X : Type 0} (id : X → List ℕ) (c : List ℕ) where
               ap (λ b. cond (not b) (x ∷ without_id id c xs) (without_id id c xs)) isnt ∙ ap (λ l. x ∷ l) rest.1,
               ap (λ b. cond b (Some x) (find_id id c xs)) isnt ∙ rest.2,
             )
-      ] refl (sym (first_place named x xs) ∙ e)
+      ] refl (sym (first_index named x xs) ∙ e)
     where
       lower : (o : Option ℕ) → option_map (λ p. suc p) o ≡ None → o ≡ None
       lower None e = refl
       lower (Some p) e = absurd (cc)
 
-  -- what a change and a removal at the place of an id make
+  -- what a change and a removal at the index of an id make
   pub one_named : (f : X → X) (xs : List X) (p : ℕ) (x : X) → AreDistinct id xs → position named xs ≡ Some p → x ≡ get_or xs p x
       → (p < length xs) × (set xs p (f x) ≡ with_id id c f xs) × (take p xs ++ drop (suc p) xs ≡ without_id id c xs) × (find_id id c xs ≡ Some x)
   one_named f [] p x s e is = absurd (cc)
-  one_named f (y ∷ xs) p x s e is = by_test (λ q e is. one_named f xs q x s.1 e is) (named y) refl (sym (first_place named y xs) ∙ e)
+  one_named f (y ∷ xs) p x s e is = by_test (λ q e is. one_named f xs q x s.1 e is) (named y) refl (sym (first_index named y xs) ∙ e)
     where
       Done : List X → ℕ → Type 0
       Done l q = (q < length l) × (set l q (f x) ≡ with_id id c f l) × (take q l ++ drop (suc q) l ≡ without_id id c l) × (find_id id c l ≡ Some x)
@@ -101,12 +101,12 @@ module _ {X : Type 0} (id : X → List ℕ) (c : List ℕ) where
           )
       by_test h false isnt e = at_next (position named xs) refl h isnt e
 
-each_place : (P : ViewTable → Type 0) (x : ViewTable) (v : List ViewTable) → P x → AllByRecursion P v → AllByRecursion P (place shown_table_id x v)
-each_place P x [] p h = (p, tt)
-each_place P x (y ∷ v) p h =
-    elim (precedes x.id y.id) as (λ b. AllByRecursion P (cond b (x ∷ y ∷ v) (cond (bytes_eq x.id y.id) (x ∷ v) (y ∷ place shown_table_id x v)))) [
+each_index : (P : ViewTable → Type 0) (x : ViewTable) (v : List ViewTable) → P x → AllByRecursion P v → AllByRecursion P (put_by_id shown_table_id x v)
+each_index P x [] p h = (p, tt)
+each_index P x (y ∷ v) p h =
+    elim (precedes x.id y.id) as (λ b. AllByRecursion P (cond b (x ∷ y ∷ v) (cond (bytes_eq x.id y.id) (x ∷ v) (y ∷ put_by_id shown_table_id x v)))) [
       | true ↦ (p, h)
-      | false ↦ elim (bytes_eq x.id y.id) as (λ b. AllByRecursion P (cond b (x ∷ v) (y ∷ place shown_table_id x v))) [ true ↦ (p, h.1) | false ↦ (h.0, each_place P x v p h.1) ]
+      | false ↦ elim (bytes_eq x.id y.id) as (λ b. AllByRecursion P (cond b (x ∷ v) (y ∷ put_by_id shown_table_id x v))) [ true ↦ (p, h.1) | false ↦ (h.0, each_index P x v p h.1) ]
     ]
 
 shown_edited : (t : List ℕ) (e : Edit) (v : List ViewTable) → AllByRecursion (λ s. IsShown (grid s)) v → AllByRecursion (λ s. IsShown (grid s)) (edit_table t e v)
@@ -120,7 +120,7 @@ shown_bare columns =
     record { by_ids = ids; is_grid = record { distinct = AreDistinct-IsByIds shown_id (by_id shown_id columns) ids; ascending = tt; height = refl; width = tt } }
 
 shown_patched : (a : ViewAction) (v : List ViewTable) → AllByRecursion (λ s. IsShown (grid s)) v → AllByRecursion (λ s. IsShown (grid s)) (patched a v)
-shown_patched (AddTable t columns) v h = each_place (λ s. IsShown (grid s)) (table t (bare columns)) v (shown_bare columns) h
+shown_patched (AddTable t columns) v h = each_index (λ s. IsShown (grid s)) (table t (bare columns)) v (shown_bare columns) h
 shown_patched (RemoveTable t) v h = each_filter (λ s. IsShown (grid s)) (λ s. not (bytes_eq (shown_table_id s) t)) v h
 shown_patched (AddColumn t d) v h = shown_edited t (add_column d) v h
 shown_patched (RemoveColumn t c) v h = shown_edited t (remove_column c) v h

@@ -14,7 +14,7 @@ use Rattle.doc_model.specs.Grid.{Grid, beside, grid_of}
 use Rattle.doc_model.specs.Records.{or_else, given}
 use Rattle.doc_model.specs.ViewEdits.{shown_id, shown_start, IsShown, remove_column, add_column, modify_column, remove, add, edited, if_any, shape_edits}
 use Rattle.doc_model.proofs.Choices.{cond_true, cond_false, keep}
-use Rattle.doc_model.proofs.ByIdsLaws.{bytes_itself, bytes_apart, found_id, find_low, find-place, find-without_id, IsByIds-filter, has_id-find, find-filter, has_found}
+use Rattle.doc_model.proofs.ByIdsLaws.{bytes_itself, bytes_apart, found_id, find_low, find-put_by_id, find-without_id, IsByIds-filter, has_id-find, find-filter, has_found}
 use Rattle.doc_model.proofs.RowsLaws.{has-filter, has-insert_rows}
 use Rattle.doc_model.proofs.GridLaws.{cell-grid_of}
 use Rattle.doc_model.proofs.RecordsLaws.{given_own}
@@ -56,7 +56,7 @@ kept_by_addition (d ∷ ds) g c e r found none here =
       | true ↦ λ _ no. absurd (true≢false no)
       | false ↦ λ apart none.
           let g1 : Grid ViewCol = edited (add_column d) g in
-          let there : find_id shown_id c g1.columns ≡ Some e = find-place shown_id d g.columns c ∙ ap (λ b. cond b (Some d) (find_id shown_id c g.columns)) apart ∙ found in
+          let there : find_id shown_id c g1.columns ≡ Some e = find-put_by_id shown_id d g.columns c ∙ ap (λ b. cond b (Some d) (find_id shown_id c g.columns)) apart ∙ found in
           kept_by_addition ds g1 c e r there none here
           ∙ at_filled g1.columns g.rows (λ e r. cond (bytes_eq e.id d.id) (shown_start d) (at g e.id r)) c e r there here
           ∙ cond_false (bytes_eq e.id d.id) (shown_start d) (at g e.id r) (other_id c g.columns e d found apart)
@@ -71,7 +71,7 @@ started_by_addition (d ∷ ds) g c n r s found here =
     elim (bytes_eq d.id c) as (λ b. bytes_eq d.id c ≡ b → cond b (Some d) (find_id shown_id c ds) ≡ Some n → at (after (map add_column (d ∷ ds)) g) c r ≡ shown_start n) [
       | true ↦ λ is e.
           let g1 : Grid ViewCol = edited (add_column d) g in
-          let there : find_id shown_id c g1.columns ≡ Some d = find-place shown_id d g.columns c ∙ ap (λ b. cond b (Some d) (find_id shown_id c g.columns)) is in
+          let there : find_id shown_id c g1.columns ≡ Some d = find-put_by_id shown_id d g.columns c ∙ ap (λ b. cond b (Some d) (find_id shown_id c g.columns)) is in
           let none : has_id shown_id ds c ≡ false = has_id-find shown_id c ds ∙ ap is_some (find_low shown_id c ds (subst (λ e. AllByRecursion (λ y. precedes e (shown_id y) ≡ true) ds) ((bytes_eq-Decides d.id c).0 is) s.0)) in
           let same : d ≡ n = cc in
           kept_by_addition ds g1 c d r there none here
@@ -88,7 +88,7 @@ kept_by_change [] g c e r found here = refl
 kept_by_change (d ∷ ds) g c e r found here =
     let g1 : Grid ViewCol = edited (modify_column d) g in
     let e1 : ViewCol = cond (bytes_eq d.id c) d e in
-    let there : find_id shown_id c g1.columns ≡ Some e1 = find-place shown_id d g.columns c ∙ ap (λ o. cond (bytes_eq d.id c) (Some d) o) found ∙ either (bytes_eq d.id c) d e in
+    let there : find_id shown_id c g1.columns ≡ Some e1 = find-put_by_id shown_id d g.columns c ∙ ap (λ o. cond (bytes_eq d.id c) (Some d) o) found ∙ either (bytes_eq d.id c) d e in
     kept_by_change ds g1 c e1 r there here
     ∙ at_filled g1.columns g.rows (λ d r. at g d.id r) c e1 r there here
     ∙ ap (λ n. at g n r) (found_id shown_id c g1.columns e1 there)

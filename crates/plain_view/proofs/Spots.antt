@@ -7,8 +7,8 @@ use Rattle.std.proofs.lemmas.Map.Text.{is_eq-slice_cmp}
 use Rattle.std.specs.Cmp.Lexicographic.{slice_cmp}
 use Rattle.std.specs.Ordering.{nat_cmp, is_lt, is_eq}
 use Rattle.std.specs.Str.{bytes_eq}
-use Rattle.doc_model.specs.ByIds.{precedes, place}
-use Rattle.doc_model.specs.Rows.{has, insert_row, insert_rows, is_once, IsAscending}
+use Rattle.doc_model.specs.ByIds.{precedes, put_by_id}
+use Rattle.doc_model.specs.Rows.{has, insert_row, insert_rows, has_no_duplicates, IsAscending}
 use Rattle.doc_model.proofs.Choices.{both_true, cond_true, cond_false, or_assoc, or_swap}
 use Rattle.doc_model.proofs.RowsLaws.{has_below, has-insert_row, has-insert_rows, IsAscending-insert_row, IsAscending-insert_rows, same_ascending}
 use Rattle.plain_view.specs.Placed.{GoesBefore, GoesOver}
@@ -16,14 +16,14 @@ use Rattle.plain_view.specs.Placed.{GoesBefore, GoesOver}
 module _ {X : Type 0} (id : X → List ℕ) where
   -- what was passed stays before it
   abbrev pub Passed : List ℕ → List X → ℕ → Type 0
-  Passed c xs i = (x : X) → id x ≡ c → place id x xs ≡ take i xs ++ place id x (drop i xs)
+  Passed c xs i = (x : X) → id x ≡ c → put_by_id id x xs ≡ take i xs ++ put_by_id id x (drop i xs)
 
   at_head : (xs : List X) (i : ℕ) (y x : X) → i < length xs → y ≡ get_or xs i y
-      → place id x (drop i xs) ≡ cond (precedes (id x) (id y)) (x ∷ drop i xs) (cond (bytes_eq (id x) (id y)) (x ∷ drop (suc i) xs) (y ∷ place id x (drop (suc i) xs)))
+      → put_by_id id x (drop i xs) ≡ cond (precedes (id x) (id y)) (x ∷ drop i xs) (cond (bytes_eq (id x) (id y)) (x ∷ drop (suc i) xs) (y ∷ put_by_id id x (drop (suc i) xs)))
   at_head xs i y x lt is =
       let split : drop i xs ≡ y ∷ drop (suc i) xs = drop-cons xs i y lt ∙ ap (λ z. z ∷ drop (suc i) xs) (sym is) in
-      ap (place id x) split
-      ∙ ap (λ l. cond (precedes (id x) (id y)) (x ∷ l) (cond (bytes_eq (id x) (id y)) (x ∷ drop (suc i) xs) (y ∷ place id x (drop (suc i) xs)))) (sym split)
+      ap (put_by_id id x) split
+      ∙ ap (λ l. cond (precedes (id x) (id y)) (x ∷ l) (cond (bytes_eq (id x) (id y)) (x ∷ drop (suc i) xs) (y ∷ put_by_id id x (drop (suc i) xs)))) (sym split)
 
   pub goes_before : (c e : List ℕ) (xs : List X) (i : ℕ) (y : X) → i < length xs → y ≡ get_or xs i y → Passed c xs i → e ≡ id y → Less ≡ slice_cmp nat_cmp c e → GoesBefore id c xs i
   goes_before c e xs i y lt is before named o = record {
@@ -31,7 +31,7 @@ module _ {X : Type 0} (id : X → List ℕ) where
     placed = λ x same.
         before x same
         ∙ ap (λ l. take i xs ++ l) (at_head xs i y x lt is
-        ∙ ap (λ b. cond b (x ∷ drop i xs) (cond (bytes_eq (id x) (id y)) (x ∷ drop (suc i) xs) (y ∷ place id x (drop (suc i) xs))))
+        ∙ ap (λ b. cond b (x ∷ drop i xs) (cond (bytes_eq (id x) (id y)) (x ∷ drop (suc i) xs) (y ∷ put_by_id id x (drop (suc i) xs))))
         (ap (λ n. precedes n (id y)) same ∙ ap (precedes c) (sym named) ∙ ap is_lt (sym o)));
   }
 
@@ -41,9 +41,9 @@ module _ {X : Type 0} (id : X → List ℕ) where
     placed = λ x same.
         before x same
         ∙ ap (λ l. take i xs ++ l) (at_head xs i y x lt is
-        ∙ ap (λ b. cond b (x ∷ drop i xs) (cond (bytes_eq (id x) (id y)) (x ∷ drop (suc i) xs) (y ∷ place id x (drop (suc i) xs))))
+        ∙ ap (λ b. cond b (x ∷ drop i xs) (cond (bytes_eq (id x) (id y)) (x ∷ drop (suc i) xs) (y ∷ put_by_id id x (drop (suc i) xs))))
         (ap (λ n. precedes n (id y)) same ∙ ap (precedes c) (sym named) ∙ ap is_lt (sym o))
-        ∙ ap (λ b. cond b (x ∷ drop (suc i) xs) (y ∷ place id x (drop (suc i) xs)))
+        ∙ ap (λ b. cond b (x ∷ drop (suc i) xs) (y ∷ put_by_id id x (drop (suc i) xs)))
         (ap (λ n. bytes_eq n (id y)) same ∙ ap (bytes_eq c) (sym named) ∙ sym (is_eq-slice_cmp c e) ∙ ap is_eq (sym o)));
   }
 
@@ -52,25 +52,25 @@ module _ {X : Type 0} (id : X → List ℕ) where
       let n : j ≡ suc i = omega (arith, next) in
       before x same
       ∙ ap (λ l. take i xs ++ l) (at_head xs i y x lt is
-      ∙ ap (λ b. cond b (x ∷ drop i xs) (cond (bytes_eq (id x) (id y)) (x ∷ drop (suc i) xs) (y ∷ place id x (drop (suc i) xs))))
+      ∙ ap (λ b. cond b (x ∷ drop i xs) (cond (bytes_eq (id x) (id y)) (x ∷ drop (suc i) xs) (y ∷ put_by_id id x (drop (suc i) xs))))
       (ap (λ n. precedes n (id y)) same ∙ ap (precedes c) (sym named) ∙ ap is_lt (sym o))
-      ∙ ap (λ b. cond b (x ∷ drop (suc i) xs) (y ∷ place id x (drop (suc i) xs)))
+      ∙ ap (λ b. cond b (x ∷ drop (suc i) xs) (y ∷ put_by_id id x (drop (suc i) xs)))
       (ap (λ n. bytes_eq n (id y)) same ∙ ap (bytes_eq c) (sym named) ∙ sym (is_eq-slice_cmp c e) ∙ ap is_eq (sym o)))
-      ∙ sym (append_assoc (take i xs) (y ∷ []) (place id x (drop (suc i) xs)))
-      ∙ ap (λ l. l ++ place id x (drop (suc i) xs)) (ap (λ z. take i xs ++ z ∷ []) is ∙ sym (take_more xs i y lt) ∙ ap (λ k. take k xs) (sym next))
-      ∙ ap (λ k. take j xs ++ place id x (drop k xs)) (sym n)
+      ∙ sym (append_assoc (take i xs) (y ∷ []) (put_by_id id x (drop (suc i) xs)))
+      ∙ ap (λ l. l ++ put_by_id id x (drop (suc i) xs)) (ap (λ z. take i xs ++ z ∷ []) is ∙ sym (take_more xs i y lt) ∙ ap (λ k. take k xs) (sym next))
+      ∙ ap (λ k. take j xs ++ put_by_id id x (drop k xs)) (sym n)
 
   pub goes_last : (c : List ℕ) (xs : List X) (i : ℕ) → i ≡ length xs → Passed c xs i → GoesBefore id c xs i
   goes_last c xs i e before = record {
     within = omega (arith, e);
-    placed = λ x same. before x same ∙ ap (λ l. take i xs ++ l) (ap (place id x) none ∙ ap (λ l. x ∷ l) (sym none));
+    placed = λ x same. before x same ∙ ap (λ l. take i xs ++ l) (ap (put_by_id id x) none ∙ ap (λ l. x ∷ l) (sym none));
   }
     where
       none : drop i xs ≡ []
       none = Rattle.std.proofs.lemmas.List.drop_all i xs (omega (arith, e))
 
-  pub put_over : (xs seen : List X) (p : ℕ) (x : X) → seen ≡ xs → GoesOver id (id x) seen p → set xs p x ≡ place id x xs
-  put_over xs seen p x e h = set_split xs p x (omega (arith, h.within, ap length e)) ∙ ap (λ l. take p l ++ x ∷ drop (suc p) l) (sym e) ∙ sym (h.placed x refl) ∙ ap (place id x) e
+  pub put_over : (xs seen : List X) (p : ℕ) (x : X) → seen ≡ xs → GoesOver id (id x) seen p → set xs p x ≡ put_by_id id x xs
+  put_over xs seen p x e h = set_split xs p x (omega (arith, h.within, ap length e)) ∙ ap (λ l. take p l ++ x ∷ drop (suc p) l) (sym e) ∙ sym (h.placed x refl) ∙ ap (put_by_id id x) e
 
 -- a row goes between the lower ones and the greater ones
 pub row_before : (xs : List ℕ) (row p : ℕ) → p ≤ length xs → ((k : ℕ) → k < p → get_or xs k 0 < row) → ((k : ℕ) → p ≤ k → k < length xs → row < get_or xs k 0) → insert_row row xs ≡ take p xs ++ row ∷ drop p xs
@@ -119,6 +119,6 @@ put_next new rows all next i lt a before is =
       ap (insert_rows (drop (i + 1) new)) is ∙ sym (rows_next (get_or new i 0) (drop (i + 1) new) all a) ∙ ap (λ l. insert_rows l all) (sym split) ∙ before,
     )
 
-pub once : (rows : List ℕ) → IsAscending rows → is_once rows ≡ true
+pub once : (rows : List ℕ) → IsAscending rows → has_no_duplicates rows ≡ true
 once [] a = refl
-once (r ∷ rows) a = both_true (not (has rows r)) (is_once rows) (ap not (has_below r rows a.0)) (once rows a.1)
+once (r ∷ rows) a = both_true (not (has rows r)) (has_no_duplicates rows) (ap not (has_below r rows a.0)) (once rows a.1)

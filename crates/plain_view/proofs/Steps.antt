@@ -70,13 +70,13 @@ pub map-if_any : {X Y : Type 0} (f : X → Y) (rows : List ℕ) (x : X) → map 
 map-if_any f [] x = refl
 map-if_any f (r ∷ rows) x = refl
 
--- what holds of each holds of the one at a place
+-- what holds of each holds of the one at an index
 pub each_item : {X : Type 0} (P : X → Type 0) (xs : List X) (i : ℕ) (x : X) → AllByRecursion P xs → i < length xs → x ≡ get_or xs i x → P x
 each_item P [] i x h lt is = absurd (omega arith)
 each_item P (y ∷ xs) zero x h lt is = subst P (sym is) h.0
 each_item P (y ∷ xs) (suc i) x h lt is = each_item P xs i x h.1 (omega arith) is
 
--- the rest begins with the thing at the place
+-- the rest begins with the thing at the index
 rest_at : {X : Type 0} (xs : List X) (i : ℕ) (x : X) → i < length xs → x ≡ get_or xs i x → drop i xs ≡ x ∷ drop (suc i) xs
 rest_at xs i x lt is = drop-cons xs i x lt ∙ ap (λ z. z ∷ drop (suc i) xs) (sym is)
 

@@ -3,12 +3,12 @@ use Rattle.std.specs.Prelude.{ℕ, Bool, false, Option, Some, ◌≡◌, ⊤}
 use Rattle.plain_view.specs.declared.patching.PatchFault.{PatchFault}
 use Rattle.plain_view.specs.declared.patching.PatchFault.TheVariants.{NoMemory, Unfit}
 
--- the place of the first action that does not fit; want of memory tells nothing
+-- the index of the first action that does not fit; out of memory tells nothing
 abbrev pub tells : PatchFault → Option ℕ → Type 0
-tells (Unfit index) place = place ≡ Some index
-tells NoMemory place = ⊤
+tells (Unfit index) index = index ≡ Some index
+tells NoMemory index = ⊤
 
--- this place, where the action does not fit
+-- this index, where the action does not fit
 abbrev pub tells_here : PatchFault → Bool → ℕ → Type 0
-tells_here (Unfit index) fit place = (fit ≡ false) × (index ≡ place)
-tells_here NoMemory fit place = ⊤
+tells_here (Unfit index) fit index = (fit ≡ false) × (index ≡ index)
+tells_here NoMemory fit index = ⊤

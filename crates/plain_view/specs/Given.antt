@@ -1,4 +1,4 @@
--- What an action's columns give, by places.
+-- What an action's columns give, by indexes.
 use Rattle.std.specs.Prelude.{ℕ, ◌+◌, Bool, nat_eq, cond, List, [], ◌∷◌, Option, Some, None, get_or, slice_get, length, ◌≡◌, unwrap_or, ⊤}
 use Rattle.std.specs.List.{AllByRecursion}
 use Rattle.std.specs.Str.{bytes_eq}
@@ -13,30 +13,30 @@ use Rattle.doc_model.specs.Records.{given, or_else}
 use Rattle.doc_model.specs.ViewEdits.{shown_start}
 use Rattle.plain_view.specs.Cells.{row_cells}
 
--- the last place at which the test passes, counted from a place
+-- the last index at which the test passes, counted from an index
 abbrev pub last_where : {K : Type 0} → (K → Bool) → ℕ → List K → Option ℕ
-last_where test place [] = None
-last_where test place (k ∷ ks) =
-    or_else (last_where test (place + 1) ks) (cond (test k) (Some place) None)
+last_where test index [] = None
+last_where test index (k ∷ ks) =
+    or_else (last_where test (index + 1) ks) (cond (test k) (Some index) None)
 
--- the last place of a row
+-- the last index of a row
 abbrev pub last_row : List ℕ → ℕ → Option ℕ
 last_row rows r = last_where (λ q. nat_eq q r) 0 rows
 
--- the last place of a column of an id
+-- the last index of a column of an id
 abbrev pub last_named : List CellColumn → List ℕ → Option ℕ
 last_named ks c = last_where (λ (k : CellColumn). bytes_eq k.id c) 0 ks
 
--- the column at a place
+-- the column at an index
 abbrev pub column_at : List CellColumn → Option ℕ → Option CellColumn
 column_at ks None = None
-column_at ks (Some place) = slice_get ks place
+column_at ks (Some index) = slice_get ks index
 
--- the value that a column gives at a place
+-- the value that a column gives at an index
 abbrev pub given_at : Option ℕ → Option CellColumn → Option CellValue
 given_at None column = None
-given_at (Some place) None = None
-given_at (Some place) (Some k) = Some (get_or k.values place Null)
+given_at (Some index) None = None
+given_at (Some index) (Some k) = Some (get_or k.values index Null)
 
 -- what a cell becomes: the value that is given, or what was there, or else the type's default
 abbrev pub new_cell : Grid ViewCol → List ℕ → List CellColumn → ViewCol → ℕ → CellValue

@@ -5,18 +5,18 @@ use Rattle.doc_model.specs.declared.column.CellColumn.{CellColumn}
 use Rattle.doc_model.specs.declared.view.ViewCol.{ViewCol}
 use Rattle.doc_model.specs.ViewEdits.{shown_start}
 use Rattle.plain_view.specs.declared.rebuilding.Source.{Source}
-use Rattle.plain_view.specs.Cells.{column_place, value_in}
+use Rattle.plain_view.specs.Cells.{column_index, value_in}
 use Rattle.plain_view.specs.Given.{column_at, given_at, last_named}
 
 -- where a column's cells come from
 abbrev pub source_of : List ViewCol → List CellColumn → ViewCol → Source
 source_of before ks d = record {
-  before = column_place before d.id;
+  before = column_index before d.id;
   given = last_named ks d.id;
   start = shown_start d;
 }
 
--- the cell of a row, with the place of the row among those that are given
+-- the cell of a row, with the index of the row among those that are given
 abbrev pub sourced_cell : List CellValue → List CellColumn → Option ℕ → Source → CellValue
-sourced_cell row ks place source =
-    unwrap_or (given_at place (column_at ks source.given)) (value_in row source.before source.start)
+sourced_cell row ks index source =
+    unwrap_or (given_at index (column_at ks source.given)) (value_in row source.before source.start)

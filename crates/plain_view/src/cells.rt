@@ -12,8 +12,8 @@ ghost use Rattle.plain_view.specs.Cells.{row_cells, value_in};
 
 use crate::copies::name_copy;
 use crate::makers::{Maker, all_made};
-use crate::named::place_of;
-use crate::rows::row_place;
+use crate::named::index_of;
+use crate::rows::row_index;
 use cell_types::{CellValue, Name, Same, copy_of};
 use doc_model::{CellColumn, ViewTable};
 use std::alloc::{AllocError, Global};
@@ -25,24 +25,24 @@ pub(crate) fn row_cells<'a>(table: &'a ViewTable, row: u32) -> &'a [CellValue]
     requires { IsShown (grid table.now) }
     ensures { result.now ≡ row_cells (grid table.now) row }
 {
-    match row_place(table.rows.as_slice(), row) {
-        Some(place) => table.cells.as_slice()[place].as_slice(),
+    match row_index(table.rows.as_slice(), row) {
+        Some(index) => table.cells.as_slice()[index].as_slice(),
         None => &[],
     }
 }
 
-/// The value at a place of a row, or another one where there is no place or no value.
+/// The value at an index of a row, or another one where there is no index or no value.
 ///
 /// Memory: none.
 pub(crate) fn value_in<'a>(
     row: &'a [CellValue],
-    place: Option<usize>,
+    index: Option<usize>,
     other: &'a CellValue,
 ) -> &'a CellValue
-    ensures { result.now ≡ value_in row.now place other.now }
+    ensures { result.now ≡ value_in row.now index other.now }
 {
-    match place {
-        Some(place) => match row.get(place) {
+    match index {
+        Some(index) => match row.get(index) {
             Some(value) => value,
             None => other,
         },
@@ -59,11 +59,11 @@ pub(crate) fn is_same_value(left: &CellValue, right: &CellValue) -> bool
     left.same_as(right)
 }
 
-/// The values at a place of rows; Null where there is none.
+/// The values at an index of rows; Null where there is none.
 #[derive(Drop)]
 struct RowValues<'a> {
     table: &'a ViewTable,
-    place: Option<usize>,
+    index: Option<usize>,
 }
 
 impl Maker for RowValues<'_> {
@@ -76,12 +76,12 @@ impl Maker for RowValues<'_> {
 
     type Made = CellValue;
 
-    ghost made = { λ m r. value_in (row_cells (grid m.table.now) r) m.place Null };
+    ghost made = { λ m r. value_in (row_cells (grid m.table.now) r) m.index Null };
 
     ghost is_ready = { λ m. IsShown (grid m.table.now) };
 
     fn make(&self, of: &u32) -> Result<CellValue, AllocError> {
-        copy_of(value_in(row_cells(self.table, *of), self.place, &CellValue::Null))
+        copy_of(value_in(row_cells(self.table, *of), self.index, &CellValue::Null))
     }
 }
 
@@ -97,8 +97,8 @@ pub(crate) fn column_of(
     requires { IsShown (grid table.now) }
     ensures { IfOk result (λ k. k ≡ column_of shown_id (grid table.now) rows.now id.now) }
 {
-    let place = place_of(table.columns.as_slice(), id);
-    let values = all_made(alloc, &RowValues { table, place }, rows)?;
+    let index = index_of(table.columns.as_slice(), id);
+    let values = all_made(alloc, &RowValues { table, index }, rows)?;
     let id = name_copy(id)?;
     Ok(CellColumn { id, values })
 }

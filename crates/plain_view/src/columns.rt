@@ -105,7 +105,7 @@ fn tell_modified(
 
 /// Adds the columns that are gone to the actions.
 ///
-/// Errors: want of memory. Cost: the square of the columns.
+/// Errors: out of memory. Cost: the square of the columns.
 pub(crate) fn tell_removed_columns(
     table: &Name,
     before: &[ViewCol],
@@ -122,7 +122,7 @@ pub(crate) fn tell_removed_columns(
 
 /// Adds the new columns to the actions.
 ///
-/// Errors: want of memory. Cost: the square of the columns.
+/// Errors: out of memory. Cost: the square of the columns.
 pub(crate) fn tell_added_columns(
     table: &Name,
     before: &[ViewCol],
@@ -139,7 +139,7 @@ pub(crate) fn tell_added_columns(
 
 /// Adds the columns that are another one than before to the actions.
 ///
-/// Errors: want of memory. Cost: the square of the columns.
+/// Errors: out of memory. Cost: the square of the columns.
 pub(crate) fn tell_modified_columns(
     table: &Name,
     before: &[ViewCol],

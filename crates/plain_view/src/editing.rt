@@ -1,7 +1,7 @@
 //! A table after an edit, as a new table.
 
 ghost use Rattle.std.specs.Prelude.{◌≡◌, [], bytes_eq, false, true, IfOk};
-ghost use Rattle.doc_model.specs.ByIds.{AreDistinct, place, without_id};
+ghost use Rattle.doc_model.specs.ByIds.{AreDistinct, put_by_id, without_id};
 ghost use Rattle.doc_model.specs.Changes.{grid, table as table_of};
 ghost use Rattle.doc_model.specs.Grid.{grid_of};
 ghost use Rattle.doc_model.specs.Rows.{none_in};
@@ -26,7 +26,7 @@ fn columns_without(columns: &ViewColList, id: &Name) -> Result<ViewColList, Allo
 }
 
 fn columns_with(columns: &ViewColList, column: &ViewCol) -> Result<ViewColList, AllocError>
-    ensures { IfOk result (λ l. l ≡ place shown_id column.now columns.now) }
+    ensures { IfOk result (λ l. l ≡ put_by_id shown_id column.now columns.now) }
 {
     let mut all = columns_copy(columns)?.into_vec();
     put_by_id(&mut all, column_copy(column)?)?;
@@ -35,7 +35,7 @@ fn columns_with(columns: &ViewColList, column: &ViewCol) -> Result<ViewColList, 
 
 /// The table without the column of an id.
 ///
-/// Errors: want of memory. Cost: as `rebuilt`.
+/// Errors: out of memory. Cost: as `rebuilt`.
 pub(crate) fn without_column(
     alloc: Global,
     table: &ViewTable,
@@ -51,14 +51,14 @@ pub(crate) fn without_column(
 /// The table with a column in its place, instead of one of its id. Cells of a new column are the
 /// type's default.
 ///
-/// Errors: want of memory. Cost: as `rebuilt`.
+/// Errors: out of memory. Cost: as `rebuilt`.
 pub(crate) fn with_column(
     alloc: Global,
     table: &ViewTable,
     column: &ViewCol,
 ) -> Result<ViewTable, AllocError>
     requires { IsShown (grid table.now) }
-    ensures { IfOk result (λ t. t ≡ table_of table.now.id (grid_of (place shown_id column.now table.now.columns) table.now.rows (new_cell (grid table.now) [] []))) }
+    ensures { IfOk result (λ t. t ≡ table_of table.now.id (grid_of (put_by_id shown_id column.now table.now.columns) table.now.rows (new_cell (grid table.now) [] []))) }
 {
     let columns = columns_with(&table.columns, column)?;
     rebuilt(alloc, table, columns, rows_copy(&table.rows)?, &[], &[])
@@ -66,7 +66,7 @@ pub(crate) fn with_column(
 
 /// The table without rows.
 ///
-/// Errors: want of memory. Cost: as `rebuilt`.
+/// Errors: out of memory. Cost: as `rebuilt`.
 pub(crate) fn without_rows(
     alloc: Global,
     table: &ViewTable,
@@ -81,7 +81,7 @@ pub(crate) fn without_rows(
 
 /// The table with new rows, whose cells are those given or the types' defaults.
 ///
-/// Errors: want of memory. Cost: as `rebuilt`, and for each new row the rows above it.
+/// Errors: out of memory. Cost: as `rebuilt`, and for each new row the rows above it.
 pub(crate) fn with_rows(
     alloc: Global,
     table: &ViewTable,
@@ -106,7 +106,7 @@ pub(crate) fn with_rows(
 
 /// The table with the given values written.
 ///
-/// Errors: want of memory. Cost: as `rebuilt`.
+/// Errors: out of memory. Cost: as `rebuilt`.
 pub(crate) fn with_values(
     alloc: Global,
     table: &ViewTable,

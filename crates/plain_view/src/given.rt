@@ -7,55 +7,55 @@ ghost use Rattle.doc_model.specs.Rows.{IsAscending};
 ghost use Rattle.plain_view.specs.Given.{column_at, last_row, last_named};
 
 use crate::named::has_id;
-use crate::rows::row_place;
+use crate::rows::row_index;
 use cell_types::Name;
 use doc_model::CellColumn;
 
-/// The last place of a row; rows that ascend are searched faster.
+/// The last index of a row; rows that ascend are searched faster.
 ///
 /// Memory: none. Cost: the logarithm of the rows where they ascend, and else linear.
-pub(crate) fn last_place(rows: &[u32], ascending: bool, row: u32) -> Option<usize>
+pub(crate) fn last_index(rows: &[u32], ascending: bool, row: u32) -> Option<usize>
     requires { OnTrue ascending (IsAscending rows.now) }
     ensures { result ≡ last_row rows.now row }
 {
     if ascending {
-        return row_place(rows, row);
+        return row_index(rows, row);
     }
     let mut found = None;
-    for (place, other) in rows.iter().enumerate() {
+    for (index, other) in rows.iter().enumerate() {
         if *other == row {
-            found = Some(place);
+            found = Some(index);
         }
     }
     found
 }
 
-/// The last place of a column of an id.
+/// The last index of a column of an id.
 ///
 /// Memory: none. Cost: linear in the columns.
-pub(crate) fn named_place(columns: &[CellColumn], id: &Name) -> Option<usize>
+pub(crate) fn named_index(columns: &[CellColumn], id: &Name) -> Option<usize>
     ensures { result ≡ last_named columns.now id.now }
 {
     let mut found = None;
-    for (place, column) in columns.iter().enumerate() {
+    for (index, column) in columns.iter().enumerate() {
         if has_id(column, id) {
-            found = Some(place);
+            found = Some(index);
         }
     }
     found
 }
 
-/// The column at a place.
+/// The column at an index.
 ///
 /// Memory: none.
 pub(crate) fn column_at<'a>(
     columns: &'a [CellColumn],
-    place: Option<usize>,
+    index: Option<usize>,
 ) -> Option<&'a CellColumn>
-    ensures { option_copied result ≡ column_at columns.now place }
+    ensures { option_copied result ≡ column_at columns.now index }
 {
-    match place {
-        Some(place) => columns.get(place),
+    match index {
+        Some(index) => columns.get(index),
         None => None,
     }
 }

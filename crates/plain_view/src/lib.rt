@@ -4,7 +4,7 @@
 //! are). Used by whoever tells users what changed.
 //!
 //! Promises: `changes` is the definition's list, action by action. `patch` gives the definition's
-//! view exactly where each action fits where it stands, and else tells the place of the first that
+//! view exactly where each action fits where it stands, and else tells the index of the first that
 //! does not; what it gives is a view again. `are_full` is the test of what it wants of actions.
 //! Not promised: time. `changes` is linear in the cells of both views, times the logarithm of the
 //! rows, and squares the number of tables and of a table's columns. `patch` builds a table anew for

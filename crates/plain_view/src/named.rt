@@ -75,10 +75,10 @@ pub(crate) fn find_id<'a, T: Named>(things: &'a [T], id: &Name) -> Option<&'a T>
     None
 }
 
-/// The place of the thing of an id.
+/// The index of the thing of an id.
 ///
 /// Memory: none. Cost: linear in the things.
-pub(crate) fn place_of<T: Named>(things: &[T], id: &Name) -> Option<usize>
+pub(crate) fn index_of<T: Named>(things: &[T], id: &Name) -> Option<usize>
     ensures { result ≡ position (λ t. bytes_eq (T.id_of t) id.now) things.now }
 {
     things.iter().position(|thing| has_id(thing, id))
@@ -104,8 +104,8 @@ pub(crate) fn is_there<T: Named>(things: &[T], id: &Name) -> bool
 pub(crate) fn are_distinct<T: Named>(things: &[T]) -> bool
     ensures { result ≡ are_distinct T.id_of things.now }
 {
-    for place in 0..things.len() {
-        if is_there(&things[place + 1..], things[place].id()) {
+    for index in 0..things.len() {
+        if is_there(&things[index + 1..], things[index].id()) {
             return false;
         }
     }

@@ -14,7 +14,7 @@ ghost use Rattle.plain_view.specs.Given.{IsFull};
 use crate::copies::{Copied, name_copy};
 use crate::editing::{with_column, with_rows, with_values, without_column, without_rows};
 use crate::fitting::fits;
-use crate::named::place_of;
+use crate::named::index_of;
 use crate::placing::{columns_by_id, put_by_id, remove_by_id};
 use cell_types::{Name, RowList};
 use doc_model::{CellRowList, View, ViewAction, ViewActionList, ViewCol, ViewTable, ViewTableList};
@@ -23,9 +23,9 @@ use std::alloc::{AllocError, Global};
 /// Why a view was not patched.
 #[derive(Drop)]
 pub enum PatchFault {
-    /// The action at this place, counted from 0, names what is not there or adds what is.
+    /// The action at this index, counted from 0, names what is not there or adds what is.
     Unfit { index: u32 },
-    /// Want of memory.
+    /// Out of memory.
     NoMemory,
 }
 
@@ -42,7 +42,7 @@ impl From<AllocError> for PatchFault {
 
 /// The view after actions, in order.
 ///
-/// Errors: `Unfit` at the first action that does not fit where it stands, and want of memory.
+/// Errors: `Unfit` at the first action that does not fit where it stands, and out of memory.
 /// Memory: a copy of the view. Cost: the view, and for each action about a table the cells of that
 /// table, times the logarithm of its rows: the table is built anew.
 pub fn patch(alloc: Global, view: &View, actions: &ViewActionList) -> Result<View, PatchFault>
@@ -63,7 +63,7 @@ pub fn patch(alloc: Global, view: &View, actions: &ViewActionList) -> Result<Vie
     })
 }
 
-// The action at a place, where it fits.
+// The action at an index, where it fits.
 fn step(
     alloc: Global,
     tables: &mut Vec<ViewTable>,
@@ -136,9 +136,9 @@ fn edit_table(
     requires full { IsFull action.now }
     ensures { OnOk result (tables.new.items ≡ with_id shown_table_id id.now (act action.now) tables.old.items) }
 {
-    match place_of(tables, id) {
-        Some(place) => {
-            tables[place] = edited(alloc, &tables[place], action)?;
+    match index_of(tables, id) {
+        Some(index) => {
+            tables[index] = edited(alloc, &tables[index], action)?;
         }
         None => {}
     }

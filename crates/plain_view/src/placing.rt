@@ -1,25 +1,25 @@
 //! Things put in their places by id, and removed.
 
 ghost use Rattle.std.specs.Prelude.{◌≡◌, IfOk, MatchResult, OnOk};
-ghost use Rattle.doc_model.specs.ByIds.{AreDistinct, by_id, place, without_id};
+ghost use Rattle.doc_model.specs.ByIds.{AreDistinct, by_id, put_by_id, without_id};
 ghost use Rattle.doc_model.specs.ViewEdits.{shown_id};
 ghost use Rattle.plain_view.specs.Placed.{GoesBefore, GoesOver};
 
 use crate::copies::column_copy;
-use crate::named::{Named, place_of};
+use crate::named::{Named, index_of};
 use cell_types::Name;
 use doc_model::{ViewCol, ViewColList};
 use std::alloc::{AllocError, Global};
 use std::cmp::Ordering;
 
-// The place of the thing of an id, or else where one of that id goes.
+// The index of the thing of an id, or else where one of that id goes.
 fn spot<T: Named>(things: &[T], id: &Name) -> Result<usize, usize>
     ensures { MatchResult result (GoesOver T.id_of id.now things.now) (GoesBefore T.id_of id.now things.now) }
 {
-    for place in 0..things.len() {
-        match id.cmp(things[place].id()) {
-            Ordering::Less => return Err(place),
-            Ordering::Equal => return Ok(place),
+    for index in 0..things.len() {
+        match id.cmp(things[index].id()) {
+            Ordering::Less => return Err(index),
+            Ordering::Equal => return Ok(index),
             Ordering::Greater => {}
         }
     }
@@ -28,13 +28,13 @@ fn spot<T: Named>(things: &[T], id: &Name) -> Result<usize, usize>
 
 /// Puts a thing in its place by id, instead of one of its id.
 ///
-/// Errors: want of memory; what the things are then is not said. Cost: linear in the things.
+/// Errors: out of memory; what the things are then is not said. Cost: linear in the things.
 pub(crate) fn put_by_id<T: Named>(things: &mut Vec<T>, thing: T) -> Result<(), AllocError>
-    ensures { OnOk result (things.new.items ≡ place T.id_of thing things.old.items) }
+    ensures { OnOk result (things.new.items ≡ put_by_id T.id_of thing things.old.items) }
 {
     match spot(things, thing.id()) {
-        Ok(place) => things[place] = thing,
-        Err(place) => things.insert(place, thing)?,
+        Ok(index) => things[index] = thing,
+        Err(index) => things.insert(index, thing)?,
     }
     Ok(())
 }
@@ -46,9 +46,9 @@ pub(crate) fn remove_by_id<T: Named>(things: &mut Vec<T>, id: &Name)
     requires { AreDistinct T.id_of things.old.items }
     ensures { things.new.items ≡ without_id T.id_of id.now things.old.items }
 {
-    match place_of(things, id) {
-        Some(place) => {
-            things.remove(place);
+    match index_of(things, id) {
+        Some(index) => {
+            things.remove(index);
         }
         None => {}
     }
@@ -56,7 +56,7 @@ pub(crate) fn remove_by_id<T: Named>(things: &mut Vec<T>, id: &Name)
 
 /// Columns in the order of their ids.
 ///
-/// Errors: want of memory. Cost: the square of the columns.
+/// Errors: out of memory. Cost: the square of the columns.
 pub(crate) fn columns_by_id(alloc: Global, columns: &[ViewCol]) -> Result<ViewColList, AllocError>
     ensures { IfOk result (λ l. l ≡ by_id shown_id columns.now) }
 {

@@ -8,15 +8,15 @@ ghost use Rattle.plain_view.specs.Given.{AreFull, new_cell};
 
 use crate::cells::{row_cells, value_in};
 use crate::copies::name_copy;
-use crate::given::{column_at, last_place, named_place};
+use crate::given::{column_at, last_index, named_index};
 use crate::makers::{Maker, all_made};
-use crate::named::place_of;
+use crate::named::index_of;
 use crate::rows::is_ascending;
 use cell_types::{CellValue, RowList, ValueList, copy_of, default_of};
 use doc_model::{CellColumn, CellRowList, ViewCol, ViewColList, ViewTable};
 use std::alloc::{AllocError, Global};
 
-/// Where the cells of a column come from: its place before, the place of the column that an action
+/// Where the cells of a column come from: its index before, the index of the column that an action
 /// gives, and the type's default.
 #[derive(Drop)]
 struct Source {
@@ -47,20 +47,20 @@ impl Maker for Sourcing<'_> {
 
     fn make(&self, of: &ViewCol) -> Result<Source, AllocError> {
         Ok(Source {
-            before: place_of(self.before, &of.id),
-            given: named_place(self.given, &of.id),
+            before: index_of(self.before, &of.id),
+            given: named_index(self.given, &of.id),
             start: default_of(self.alloc, &of.ty),
         })
     }
 }
 
-/// The cells of a row: the values that are given at the place, or what was there, or else the
+/// The cells of a row: the values that are given at the index, or what was there, or else the
 /// defaults.
 #[derive(Drop)]
 struct RowCells<'a> {
     row: &'a [CellValue],
     given: &'a [CellColumn],
-    place: Option<usize>,
+    index: Option<usize>,
 }
 
 impl Maker for RowCells<'_> {
@@ -71,15 +71,15 @@ impl Maker for RowCells<'_> {
 
     type Made = CellValue;
 
-    ghost made = { λ m source. sourced_cell m.row.now m.given.now m.place source };
+    ghost made = { λ m source. sourced_cell m.row.now m.given.now m.index source };
 
     ghost is_ready = { λ _. ⊤ };
 
     fn make(&self, of: &Source) -> Result<CellValue, AllocError> {
-        match (self.place, column_at(self.given, of.given)) {
-            (Some(place), Some(column)) => copy_of(value_in(
+        match (self.index, column_at(self.given, of.given)) {
+            (Some(index), Some(column)) => copy_of(value_in(
                 column.values.as_slice(),
-                Some(place),
+                Some(index),
                 &CellValue::Null,
             )),
             _ => copy_of(value_in(self.row, of.before, &of.start)),
@@ -120,7 +120,7 @@ impl Maker for Rows<'_> {
         let cells = RowCells {
             row: row_cells(self.table, *of),
             given: self.given,
-            place: last_place(self.given_rows, self.is_ascending, *of),
+            index: last_index(self.given_rows, self.is_ascending, *of),
         };
         all_made(self.alloc, &cells, self.sources)
     }
@@ -160,7 +160,7 @@ fn cells_of(
 /// The table with these columns and rows. Its cells are the values given, or what was there, or
 /// else the types' defaults.
 ///
-/// Errors: want of memory. Cost: the cells of the table, times the logarithm of the rows, and the
+/// Errors: out of memory. Cost: the cells of the table, times the logarithm of the rows, and the
 /// square of the columns; rows given that do not ascend are looked through for each row.
 pub(crate) fn rebuilt(
     alloc: Global,

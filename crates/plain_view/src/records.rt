@@ -7,7 +7,7 @@ ghost use Rattle.doc_model.specs.Changes.{for_each, grid};
 ghost use Rattle.doc_model.specs.Records.{column_of};
 ghost use Rattle.doc_model.specs.Rows.{IsAscending, without};
 ghost use Rattle.doc_model.specs.ViewEdits.{IsShown, if_any, shown_id, shown_start, whole};
-ghost use Rattle.plain_view.specs.Cells.{column_place};
+ghost use Rattle.plain_view.specs.Cells.{column_index};
 ghost use Rattle.plain_view.specs.Told.{is_told_at};
 ghost use Rattle.plain_view.specs.Steps.{is_told, updated_column};
 
@@ -15,44 +15,44 @@ use crate::actions::add;
 use crate::cells::{column_of, is_same_value, row_cells, value_in};
 use crate::copies::name_copy;
 use crate::makers::{Maker, all_made};
-use crate::named::place_of;
+use crate::named::index_of;
 use crate::rows::{has_row, push_if, rows_without};
 use cell_types::{CellValue, Name, RowList, default_of};
 use doc_model::{CellColumn, ColumnList, ViewAction, ViewCol, ViewTable};
 use std::alloc::{AllocError, Global};
 use std::slice::from_ref;
 
-/// A column's place before and after, and what its cells start with.
+/// A column's index before and after, and what its cells start with.
 #[derive(Drop)]
-struct Places {
+struct Indexes {
     before: Option<usize>,
     after: Option<usize>,
     start: CellValue,
 }
 
-fn places_of(alloc: Global, before: &ViewTable, after: &ViewTable, column: &ViewCol) -> Places
-    ensures before { result.before ≡ column_place before.now.columns column.now.id }
-    ensures after { result.after ≡ column_place after.now.columns column.now.id }
+fn indexes_of(alloc: Global, before: &ViewTable, after: &ViewTable, column: &ViewCol) -> Indexes
+    ensures before { result.before ≡ column_index before.now.columns column.now.id }
+    ensures after { result.after ≡ column_index after.now.columns column.now.id }
     ensures start { result.start ≡ shown_start column.now }
 {
-    Places {
-        before: place_of(before.columns.as_slice(), &column.id),
-        after: place_of(after.columns.as_slice(), &column.id),
+    Indexes {
+        before: index_of(before.columns.as_slice(), &column.id),
+        after: index_of(after.columns.as_slice(), &column.id),
         start: default_of(alloc, &column.ty),
     }
 }
 
 // Whether the cell of a row that stays is another one than before.
-fn is_told(before: &ViewTable, after: &ViewTable, places: &Places, row: u32) -> bool
+fn is_told(before: &ViewTable, after: &ViewTable, indexes: &Indexes, row: u32) -> bool
     requires before { IsShown (grid before.now) }
     requires after { IsShown (grid after.now) }
-    ensures { result ≡ is_told_at (grid before.now) (grid after.now) places.now row }
+    ensures { result ≡ is_told_at (grid before.now) (grid after.now) indexes.now row }
 {
     if !has_row(before.rows.as_slice(), row) {
         return false;
     }
-    let old = value_in(row_cells(before, row), places.before, &places.start);
-    let new = value_in(row_cells(after, row), places.after, &CellValue::Null);
+    let old = value_in(row_cells(before, row), indexes.before, &indexes.start);
+    let new = value_in(row_cells(after, row), indexes.after, &CellValue::Null);
     !is_same_value(old, new)
 }
 
@@ -67,24 +67,24 @@ fn told_rows(
     requires after { IsShown (grid after.now) }
     ensures { IfOk result (λ l. l ≡ filter (is_told (grid before.now) (grid after.now) column.now) after.now.rows) }
 {
-    let places = places_of(alloc, before, after, column);
-    rows_told(alloc, before, after, &places)
+    let indexes = indexes_of(alloc, before, after, column);
+    rows_told(alloc, before, after, &indexes)
 }
 
-// The same, by the column's places.
+// The same, by the column's indexes.
 fn rows_told(
     alloc: Global,
     before: &ViewTable,
     after: &ViewTable,
-    places: &Places,
+    indexes: &Indexes,
 ) -> Result<RowList, AllocError>
     requires before { IsShown (grid before.now) }
     requires after { IsShown (grid after.now) }
-    ensures { IfOk result (λ l. l ≡ filter (is_told_at (grid before.now) (grid after.now) places.now) after.now.rows) }
+    ensures { IfOk result (λ l. l ≡ filter (is_told_at (grid before.now) (grid after.now) indexes.now) after.now.rows) }
 {
     let mut rows = Vec::new(alloc);
     for row in after.rows.as_slice() {
-        push_if(&mut rows, is_told(before, after, places, *row), *row)?;
+        push_if(&mut rows, is_told(before, after, indexes, *row), *row)?;
     }
     Ok(RowList::from(rows))
 }
@@ -159,7 +159,7 @@ fn tell_updated(
 
 /// Adds, for each column, the cells that are other ones than before to the actions.
 ///
-/// Errors: want of memory. Cost: the cells, times the logarithm of the rows, and the square of the
+/// Errors: out of memory. Cost: the cells, times the logarithm of the rows, and the square of the
 /// columns.
 pub(crate) fn tell_updated_cells(
     alloc: Global,
@@ -179,7 +179,7 @@ pub(crate) fn tell_updated_cells(
 
 /// Adds the rows that are gone to the actions.
 ///
-/// Errors: want of memory. Cost: the rows, times their logarithm.
+/// Errors: out of memory. Cost: the rows, times their logarithm.
 pub(crate) fn tell_removed_rows(
     alloc: Global,
     table: &Name,
@@ -200,7 +200,7 @@ pub(crate) fn tell_removed_rows(
 
 /// Adds rows of a table with all their cells to the actions, where there are any.
 ///
-/// Errors: want of memory. Cost: the cells of the rows, times the logarithm of the table's rows,
+/// Errors: out of memory. Cost: the cells of the rows, times the logarithm of the table's rows,
 /// and the square of the columns.
 pub(crate) fn tell_added_rows(
     alloc: Global,

@@ -14,7 +14,7 @@ use std::alloc::{AllocError, Global};
 /// Adds what leads from the table before to the table after to the actions: columns that are gone,
 /// new and other ones, rows that are gone and new, and then the cells that still differ.
 ///
-/// Errors: want of memory. Cost: the cells of both, times the logarithm of the rows, and the square
+/// Errors: out of memory. Cost: the cells of both, times the logarithm of the rows, and the square
 /// of the columns.
 pub(crate) fn tell_revision(
     alloc: Global,

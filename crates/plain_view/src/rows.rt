@@ -2,21 +2,21 @@
 
 ghost use Rattle.std.specs.Prelude.{◌≡◌, ◌<◌, ◌↔◌, ◌∷◌, ◌++◌, [], cond, false, length, slice_index, IfOk, IsTrue, MatchOption, OnOk};
 ghost use Rattle.std.specs.Bool.{OnTrue};
-ghost use Rattle.doc_model.specs.Rows.{IsAscending, all_in, has, insert_row, insert_rows, is_once, none_in, without};
+ghost use Rattle.doc_model.specs.Rows.{IsAscending, all_in, has, insert_row, insert_rows, has_no_duplicates, none_in, without};
 
 use cell_types::RowList;
-use doc_model::are_rows_once;
+use doc_model::have_no_duplicates;
 use std::alloc::{AllocError, Global};
 
-/// The place of a row.
+/// The index of a row.
 ///
 /// Memory: none. Cost: the logarithm of the length.
-pub(crate) fn row_place(rows: &[u32], row: u32) -> Option<usize>
+pub(crate) fn row_index(rows: &[u32], row: u32) -> Option<usize>
     requires { IsAscending rows.now }
-    ensures { MatchOption result (has rows.now row ≡ false) (λ place. (place < length rows.now) × (slice_index rows.now place ≡ row)) }
+    ensures { MatchOption result (has rows.now row ≡ false) (λ index. (index < length rows.now) × (slice_index rows.now index ≡ row)) }
 {
     match rows.binary_search(&row) {
-        Ok(place) => Some(place),
+        Ok(index) => Some(index),
         Err(_) => None,
     }
 }
@@ -28,7 +28,7 @@ pub(crate) fn has_row(rows: &[u32], row: u32) -> bool
     requires { IsAscending rows.now }
     ensures { result ≡ has rows.now row }
 {
-    match row_place(rows, row) {
+    match row_index(rows, row) {
         Some(_) => true,
         None => false,
     }
@@ -81,8 +81,8 @@ pub(crate) fn rows_without(
 pub(crate) fn is_ascending(rows: &[u32]) -> bool
     ensures { IsTrue result ↔ IsAscending rows.now }
 {
-    for place in 1..rows.len() {
-        if rows[place] <= rows[place - 1] {
+    for index in 1..rows.len() {
+        if rows[index] <= rows[index - 1] {
             return false;
         }
     }
@@ -96,7 +96,7 @@ fn put_row(rows: &mut Vec<u32>, row: u32) -> Result<(), AllocError>
 {
     match rows.binary_search(&row) {
         Ok(_) => Ok(()),
-        Err(place) => Ok(rows.insert(place, row)?),
+        Err(index) => Ok(rows.insert(index, row)?),
     }
 }
 
@@ -148,7 +148,7 @@ pub(crate) fn are_none_in(new: &[u32], rows: &[u32]) -> bool
 ///
 /// Memory: none. Cost: linear where the rows ascend, and else their square.
 pub(crate) fn are_once(rows: &[u32]) -> bool
-    ensures { result ≡ is_once rows.now }
+    ensures { result ≡ has_no_duplicates rows.now }
 {
-    is_ascending(rows) || are_rows_once(rows)
+    is_ascending(rows) || have_no_duplicates(rows)
 }

@@ -17,7 +17,7 @@ use std::alloc::{AllocError, Global};
 /// The changes that lead from the view before to the view after: tables that are gone, new tables,
 /// and then the changes of each other table, in the order of the tables.
 ///
-/// Errors: want of memory. Cost: the cells of both views, times the logarithm of the rows, and the
+/// Errors: out of memory. Cost: the cells of both views, times the logarithm of the rows, and the
 /// squares of the number of tables and of the columns of each table.
 pub fn changes(alloc: Global, before: &View, after: &View) -> Result<ViewActionList, AllocError>
     requires before { IsView before.now.tables }

@@ -7,7 +7,7 @@ use Rattle.std.specs.List.{remove}
 use Rattle.cell_types.specs.declared.value.CellValue.{CellValue}
 use Rattle.doc_model.specs.declared.column.CellColumn.{CellColumn}
 use Rattle.doc_model.specs.declared.column.ColDef.{ColDef}
-use Rattle.doc_model.specs.Rows.{has, IsAscending, insert_row, insert_rows, is_once, none_in}
+use Rattle.doc_model.specs.Rows.{has, IsAscending, insert_row, insert_rows, has_no_duplicates, none_in}
 use Rattle.doc_model.specs.Column.{column_id, start_of}
 use Rattle.doc_model.specs.Document.{Table, on_grid}
 use Rattle.doc_model.specs.Grid.{Grid, IsGrid, cell}
@@ -17,7 +17,7 @@ use Rattle.doc_model.proofs.GridLaws.{grid_of-cell}
 use Rattle.doc_model.proofs.RowsLaws.{number_itself, each_has, has-insert_row, has-insert_rows, IsAscending-insert_row, IsAscending-insert_rows, same_ascending, none_in_at}
 use Rattle.row_tables.specs.InPlace.{on_rows}
 use Rattle.row_tables.proofs.Walks.{drop_read}
-use Rattle.row_tables.specs.RowPlaces.{row_place, new_places, AreNew, AreWithin, put_at, taken_out}
+use Rattle.row_tables.specs.RowIndexes.{row_index, new_indexes, AreNew, AreWithin, put_at, taken_out}
 
 -- functions that agree give one list
 pub map_same : {X Y : Type 0} (f g : X → Y) (xs : List X) → ((x : X) → f x ≡ g x) → map f xs ≡ map g xs
@@ -32,26 +32,26 @@ map-insert f xs i x =
 
 -- ---- one new row
 
-pub place_within : (row : ℕ) (rows : List ℕ) → row_place row rows ≤ length rows
-place_within row [] = omega arith
-place_within row (q ∷ rows) =
-    let later : row_place row rows ≤ length rows = place_within row rows in
-    elim (ltb q row) as (λ b. cond b (row_place row rows + 1) 0 ≤ length (q ∷ rows)) [ true ↦ omega arith | false ↦ omega arith ]
+pub index_within : (row : ℕ) (rows : List ℕ) → row_index row rows ≤ length rows
+index_within row [] = omega arith
+index_within row (q ∷ rows) =
+    let later : row_index row rows ≤ length rows = index_within row rows in
+    elim (ltb q row) as (λ b. cond b (row_index row rows + 1) 0 ≤ length (q ∷ rows)) [ true ↦ omega arith | false ↦ omega arith ]
 
 either_false : (a b : Bool) → (a || b) ≡ false → (a ≡ false) × (b ≡ false)
 either_false true b e = absurd (true≢false e)
 either_false false b e = (refl, e)
 
-insert_place : (q : ℕ) (rows : List ℕ) → has rows q ≡ false → insert rows (row_place q rows) q ≡ insert_row q rows
-insert_place q [] apart = refl
-insert_place q (r ∷ rows) apart =
+insert_index : (q : ℕ) (rows : List ℕ) → has rows q ≡ false → insert rows (row_index q rows) q ≡ insert_row q rows
+insert_index q [] apart = refl
+insert_index q (r ∷ rows) apart =
     let parts : (eqb r q ≡ false) × (has rows q ≡ false) = either_false (eqb r q) (has rows q) apart in
     let ne : r ≡ q → ⊥ = eqb-false r q parts.0 in
-    let next : suc (row_place q rows) ≡ row_place q rows + 1 = omega arith in
-    elim (ltb r q) as (λ b. ltb r q ≡ b → insert (r ∷ rows) (cond b (row_place q rows + 1) 0) q ≡ insert_row q (r ∷ rows)) [
+    let next : suc (row_index q rows) ≡ row_index q rows + 1 = omega arith in
+    elim (ltb r q) as (λ b. ltb r q ≡ b → insert (r ∷ rows) (cond b (row_index q rows + 1) 0) q ≡ insert_row q (r ∷ rows)) [
       | true ↦ λ below.
           let lt : r < q = ltb-true r q below in
-          ap (λ n. insert (r ∷ rows) n q) (sym next) ∙ ap (λ qs. r ∷ qs) (insert_place q rows parts.1)
+          ap (λ n. insert (r ∷ rows) n q) (sym next) ∙ ap (λ qs. r ∷ qs) (insert_index q rows parts.1)
           ∙ sym (cond_false (ltb q r) (q ∷ r ∷ rows) (cond (eqb q r) (r ∷ rows) (r ∷ insert_row q rows)) (le-ltb q r (omega arith))
           ∙ cond_false (eqb q r) (r ∷ rows) (r ∷ insert_row q rows) (ne_eqb q r (λ e. absurd (omega arith))))
       | false ↦ λ above.
@@ -64,9 +64,9 @@ pub new_first : (q : ℕ) (new rows : List ℕ) → AreNew (q ∷ new) rows → 
 new_first q new rows n = not_true (has rows q) (each_true (λ x. not (has rows x)) (q ∷ new) n.2).0
 
 -- the others are new beside it
-pub new_rest : (q : ℕ) (new rows : List ℕ) → AreNew (q ∷ new) rows → AreNew new (insert rows (row_place q rows) q)
+pub new_rest : (q : ℕ) (new rows : List ℕ) → AreNew (q ∷ new) rows → AreNew new (insert rows (row_index q rows) q)
 new_rest q new rows n =
-    subst (AreNew new) (sym (insert_place q rows first)) (
+    subst (AreNew new) (sym (insert_index q rows first)) (
       IsAscending-insert_row q rows n.0,
       once,
       true_each (λ x. not (has (insert_row q rows) x)) new (each_has (λ x. not (has (insert_row q rows) x) ≡ true) new (λ x here. ap not (absent x here))),
@@ -80,10 +80,10 @@ new_rest q new rows n =
     both false b e = (refl, e)
 
     apart : has new q ≡ false
-    apart = (both (has new q) (is_once new) n.1).0
+    apart = (both (has new q) (has_no_duplicates new) n.1).0
 
-    once : is_once new ≡ true
-    once = (both (has new q) (is_once new) n.1).1
+    once : has_no_duplicates new ≡ true
+    once = (both (has new q) (has_no_duplicates new) n.1).1
 
     other : (x : ℕ) → has new x ≡ true → eqb q x ≡ false
     other x here = false_from (eqb q x) (λ same. false≢true (sym apart ∙ subst (λ y. has new y ≡ true) (sym (eqb-true q x same)) here))
@@ -96,11 +96,11 @@ new_rest q new rows n =
 
 -- ---- all new rows
 
-pub new_within : (new rows : List ℕ) → AreWithin (new_places new rows) (length rows)
+pub new_within : (new rows : List ℕ) → AreWithin (new_indexes new rows) (length rows)
 new_within [] rows = tt
 new_within (q ∷ new) rows = (
-  place_within q rows,
-  subst (AreWithin (new_places new (insert rows (row_place q rows) q))) (length-insert rows (row_place q rows) q (place_within q rows)) (new_within new (insert rows (row_place q rows) q)),
+  index_within q rows,
+  subst (AreWithin (new_indexes new (insert rows (row_index q rows) q))) (length-insert rows (row_index q rows) q (index_within q rows)) (new_within new (insert rows (row_index q rows) q)),
 )
 
 insert_apart : (q : ℕ) (new rows : List ℕ) → IsAscending rows → insert_rows new (insert_row q rows) ≡ insert_row q (insert_rows new rows)
@@ -109,11 +109,11 @@ insert_apart q new rows a =
     has-insert_rows new (insert_row q rows) x ∙ ap (λ b. has new x || b) (has-insert_row q rows x) ∙ or_swap (has new x) (eqb q x) (has rows x)
     ∙ sym (has-insert_row q (insert_rows new rows) x ∙ ap (λ b. eqb q x || b) (has-insert_rows new rows x)))
 
-pub put_rows : (new rows : List ℕ) → AreNew new rows → put_at (new_places new rows) new rows ≡ insert_rows new rows
+pub put_rows : (new rows : List ℕ) → AreNew new rows → put_at (new_indexes new rows) new rows ≡ insert_rows new rows
 put_rows [] rows n = refl
 put_rows (q ∷ new) rows n =
-    put_rows new (insert rows (row_place q rows) q) (new_rest q new rows n)
-    ∙ ap (insert_rows new) (insert_place q rows (new_first q new rows n)) ∙ insert_apart q new rows n.0
+    put_rows new (insert rows (row_index q rows) q) (new_rest q new rows n)
+    ∙ ap (insert_rows new) (insert_index q rows (new_first q new rows n)) ∙ insert_apart q new rows n.0
 
 module _ {X : Type 0} where
   with_one : (q : ℕ) (x : X) (old : ℕ → X) (rows : List ℕ) (i : ℕ) → has rows q ≡ false → insert (map old rows) i x ≡ map (λ r. cond (eqb q r) x (old r)) (insert rows i q)
@@ -134,13 +134,13 @@ module _ {X : Type 0} where
       ] refl
 
   -- what stands beside the rows then
-  pub put_beside : (new rows : List ℕ) (fresh old : ℕ → X) → AreNew new rows → put_at (new_places new rows) (map fresh new) (map old rows) ≡ map (λ r. cond (has new r) (fresh r) (old r)) (put_at (new_places new rows) new rows)
+  pub put_beside : (new rows : List ℕ) (fresh old : ℕ → X) → AreNew new rows → put_at (new_indexes new rows) (map fresh new) (map old rows) ≡ map (λ r. cond (has new r) (fresh r) (old r)) (put_at (new_indexes new rows) new rows)
   put_beside [] rows fresh old n = refl
   put_beside (q ∷ new) rows fresh old n =
-      let more : List ℕ = insert rows (row_place q rows) q in
-      ap (put_at (new_places new more) (map fresh new)) (with_one q (fresh q) old rows (row_place q rows) (new_first q new rows n))
+      let more : List ℕ = insert rows (row_index q rows) q in
+      ap (put_at (new_indexes new more) (map fresh new)) (with_one q (fresh q) old rows (row_index q rows) (new_first q new rows n))
       ∙ put_beside new more fresh (λ r. cond (eqb q r) (fresh q) (old r)) (new_rest q new rows n)
-      ∙ map_same (λ r. cond (has new r) (fresh r) (cond (eqb q r) (fresh q) (old r))) (λ r. cond (has (q ∷ new) r) (fresh r) (old r)) (put_at (new_places new more) new more) (λ r. choice q r new fresh old)
+      ∙ map_same (λ r. cond (has new r) (fresh r) (cond (eqb q r) (fresh q) (old r))) (λ r. cond (has (q ∷ new) r) (fresh r) (old r)) (put_at (new_indexes new more) new more) (λ r. choice q r new fresh old)
 
   pub remove-insert : (xs : List X) (i : ℕ) (x : X) → i ≤ length xs → remove (insert xs i x) i ≡ xs
   remove-insert xs zero x l = refl
@@ -148,100 +148,100 @@ module _ {X : Type 0} where
   remove-insert (y ∷ xs) (suc i) x l = ap (λ ys. y ∷ ys) (remove-insert xs i x (omega arith))
 
   -- what was put in is taken out
-  pub taken_out-put_at : (places : List ℕ) (new xs : List X) → AreWithin places (length xs) → length new ≡ length places → taken_out places (put_at places new xs) ≡ xs
+  pub taken_out-put_at : (indexes : List ℕ) (new xs : List X) → AreWithin indexes (length xs) → length new ≡ length indexes → taken_out indexes (put_at indexes new xs) ≡ xs
   taken_out-put_at [] new xs w l = refl
-  taken_out-put_at (p ∷ places) [] xs w l = absurd (omega arith)
-  taken_out-put_at (p ∷ places) (x ∷ new) xs w l =
-      ap (λ ys. remove ys p) (taken_out-put_at places new (insert xs p x) (subst (AreWithin places) (sym (length-insert xs p x w.0)) w.1) (omega arith))
+  taken_out-put_at (p ∷ indexes) [] xs w l = absurd (omega arith)
+  taken_out-put_at (p ∷ indexes) (x ∷ new) xs w l =
+      ap (λ ys. remove ys p) (taken_out-put_at indexes new (insert xs p x) (subst (AreWithin indexes) (sym (length-insert xs p x w.0)) w.1) (omega arith))
       ∙ remove-insert xs p x w.0
 
 -- the rows and cells of a grid with new rows in it
 pub added : (g : Grid ColDef) (new : List ℕ) (ks : List CellColumn) (lists : List (List CellValue)) → IsGrid column_id g → AreNew new g.rows
     → lists ≡ map (λ r. map (λ (d : ColDef). unwrap_or (given new ks d.id r) (start_of d)) g.columns) new
-    → (let x : Grid ColDef = record { columns = g.columns; rows = put_at (new_places new g.rows) new g.rows; cells = put_at (new_places new g.rows) lists g.cells } in x) ≡ add_rows column_id start_of new ks g
+    → (let x : Grid ColDef = record { columns = g.columns; rows = put_at (new_indexes new g.rows) new g.rows; cells = put_at (new_indexes new g.rows) lists g.cells } in x) ≡ add_rows column_id start_of new ks g
 added g new ks lists grid n e =
     let fresh : ℕ → List CellValue = λ r. map (λ (d : ColDef). unwrap_or (given new ks d.id r) (start_of d)) g.columns in
     let old : ℕ → List CellValue = λ r. map (λ (d : ColDef). cell column_id g d.id r) g.columns in
     let both : ℕ → List CellValue = λ r. map (λ (d : ColDef). cond (has new r) (unwrap_or (given new ks d.id r) (start_of d)) (cell column_id g d.id r)) g.columns in
-    ap (λ cells. let x : Grid ColDef = record { columns = g.columns; rows = put_at (new_places new g.rows) new g.rows; cells = cells } in x) (
-    ap (λ ls. put_at (new_places new g.rows) ls g.cells) e
-    ∙ ap (put_at (new_places new g.rows) (map fresh new)) (ap (λ (x : Grid ColDef). x.cells) (sym (grid_of-cell column_id g grid)))
+    ap (λ cells. let x : Grid ColDef = record { columns = g.columns; rows = put_at (new_indexes new g.rows) new g.rows; cells = cells } in x) (
+    ap (λ ls. put_at (new_indexes new g.rows) ls g.cells) e
+    ∙ ap (put_at (new_indexes new g.rows) (map fresh new)) (ap (λ (x : Grid ColDef). x.cells) (sym (grid_of-cell column_id g grid)))
     ∙ put_beside new g.rows fresh old n
-    ∙ map_same (λ r. cond (has new r) (fresh r) (old r)) both (put_at (new_places new g.rows) new g.rows) (λ r. elim (has new r) as (λ b. cond b (fresh r) (old r) ≡ map (λ (d : ColDef). cond b (unwrap_or (given new ks d.id r) (start_of d)) (cell column_id g d.id r)) g.columns) [ true ↦ refl | false ↦ refl ])
+    ∙ map_same (λ r. cond (has new r) (fresh r) (old r)) both (put_at (new_indexes new g.rows) new g.rows) (λ r. elim (has new r) as (λ b. cond b (fresh r) (old r) ≡ map (λ (d : ColDef). cond b (unwrap_or (given new ks d.id r) (start_of d)) (cell column_id g d.id r)) g.columns) [ true ↦ refl | false ↦ refl ])
     )
     ∙ ap (λ rows. let x : Grid ColDef = record { columns = g.columns; rows = rows; cells = map both rows } in x) (put_rows new g.rows n)
 
 -- ---- steps of walks
 
 -- one more new row
-pub rows_step : (new before rows after noted places more : List ℕ) (i q p : ℕ) → i < length new → q ≡ get_or new i q → p ≡ row_place q rows → after ≡ insert rows p q → more ≡ places ++ p ∷ []
-    → AreNew (drop i new) rows → put_at (new_places (drop i new) rows) (drop i new) rows ≡ put_at (new_places new before) new before → places ++ new_places (drop i new) rows ≡ noted ++ new_places new before
-    → AreNew (drop (i + 1) new) after × (put_at (new_places (drop (i + 1) new) after) (drop (i + 1) new) after ≡ put_at (new_places new before) new before) × (more ++ new_places (drop (i + 1) new) after ≡ noted ++ new_places new before)
-rows_step new before rows after noted places more i q p l e at put note n done told =
+pub rows_step : (new before rows after noted indexes more : List ℕ) (i q p : ℕ) → i < length new → q ≡ get_or new i q → p ≡ row_index q rows → after ≡ insert rows p q → more ≡ indexes ++ p ∷ []
+    → AreNew (drop i new) rows → put_at (new_indexes (drop i new) rows) (drop i new) rows ≡ put_at (new_indexes new before) new before → indexes ++ new_indexes (drop i new) rows ≡ noted ++ new_indexes new before
+    → AreNew (drop (i + 1) new) after × (put_at (new_indexes (drop (i + 1) new) after) (drop (i + 1) new) after ≡ put_at (new_indexes new before) new before) × (more ++ new_indexes (drop (i + 1) new) after ≡ noted ++ new_indexes new before)
+rows_step new before rows after noted indexes more i q p l e at put note n done told =
     let read : drop i new ≡ q ∷ drop (i + 1) new = drop_read new i q l e in
-    let is : insert rows (row_place q rows) q ≡ after = ap (λ k. insert rows k q) (sym at) ∙ sym put in (
+    let is : insert rows (row_index q rows) q ≡ after = ap (λ k. insert rows k q) (sym at) ∙ sym put in (
       subst (AreNew (drop (i + 1) new)) is (new_rest q (drop (i + 1) new) rows (subst (λ z. AreNew z rows) read n)),
-      ap (λ r. put_at (new_places (drop (i + 1) new) r) (drop (i + 1) new) r) (sym is) ∙ ap (λ z. put_at (new_places z rows) z rows) (sym read) ∙ done,
-      ap (λ z. z ++ new_places (drop (i + 1) new) after) note ∙ append_assoc places (p ∷ []) (new_places (drop (i + 1) new) after)
-          ∙ ap (λ z. places ++ z) (ap (λ k. k ∷ new_places (drop (i + 1) new) after) at ∙ ap (λ r. row_place q rows ∷ new_places (drop (i + 1) new) r) (sym is))
-          ∙ ap (λ z. places ++ new_places z rows) (sym read) ∙ told,
+      ap (λ r. put_at (new_indexes (drop (i + 1) new) r) (drop (i + 1) new) r) (sym is) ∙ ap (λ z. put_at (new_indexes z rows) z rows) (sym read) ∙ done,
+      ap (λ z. z ++ new_indexes (drop (i + 1) new) after) note ∙ append_assoc indexes (p ∷ []) (new_indexes (drop (i + 1) new) after)
+          ∙ ap (λ z. indexes ++ z) (ap (λ k. k ∷ new_indexes (drop (i + 1) new) after) at ∙ ap (λ r. row_index q rows ∷ new_indexes (drop (i + 1) new) r) (sym is))
+          ∙ ap (λ z. indexes ++ new_indexes z rows) (sym read) ∙ told,
     )
 
 module _ {X : Type 0} where
   -- one more thing put in
-  pub put_step : (places : List ℕ) (all left rest before xs after : List X) (x : X) (i p : ℕ) → i < length places → p ≡ get_or places i p → left ≡ x ∷ rest → after ≡ insert xs p x
-      → AreWithin (drop i places) (length xs) → put_at (drop i places) left xs ≡ put_at places all before
-      → AreWithin (drop (i + 1) places) (length after) × (put_at (drop (i + 1) places) rest after ≡ put_at places all before)
-  put_step places all left rest before xs after x i p l e next put w done =
-      let read : drop i places ≡ p ∷ drop (i + 1) places = drop_read places i p l e in
-      let within : (p ≤ length xs) × AreWithin (drop (i + 1) places) (length xs + 1) = subst (λ z. AreWithin z (length xs)) read w in (
-        subst (AreWithin (drop (i + 1) places)) (sym (ap length put ∙ length-insert xs p x within.0)) within.1,
-        ap (put_at (drop (i + 1) places) rest) put ∙ ap (λ z. put_at z (x ∷ rest) xs) (sym read) ∙ ap (λ z. put_at (drop i places) z xs) (sym next) ∙ done,
+  pub put_step : (indexes : List ℕ) (all left rest before xs after : List X) (x : X) (i p : ℕ) → i < length indexes → p ≡ get_or indexes i p → left ≡ x ∷ rest → after ≡ insert xs p x
+      → AreWithin (drop i indexes) (length xs) → put_at (drop i indexes) left xs ≡ put_at indexes all before
+      → AreWithin (drop (i + 1) indexes) (length after) × (put_at (drop (i + 1) indexes) rest after ≡ put_at indexes all before)
+  put_step indexes all left rest before xs after x i p l e next put w done =
+      let read : drop i indexes ≡ p ∷ drop (i + 1) indexes = drop_read indexes i p l e in
+      let within : (p ≤ length xs) × AreWithin (drop (i + 1) indexes) (length xs + 1) = subst (λ z. AreWithin z (length xs)) read w in (
+        subst (AreWithin (drop (i + 1) indexes)) (sym (ap length put ∙ length-insert xs p x within.0)) within.1,
+        ap (put_at (drop (i + 1) indexes) rest) put ∙ ap (λ z. put_at z (x ∷ rest) xs) (sym read) ∙ ap (λ z. put_at (drop i indexes) z xs) (sym next) ∙ done,
       )
 
   -- none are left
-  pub put_end : (places : List ℕ) (left xs : List X) → length left ≡ 0 → put_at places left xs ≡ xs
+  pub put_end : (indexes : List ℕ) (left xs : List X) → length left ≡ 0 → put_at indexes left xs ≡ xs
   put_end [] left xs e = refl
-  put_end (p ∷ places) [] xs e = refl
-  put_end (p ∷ places) (x ∷ left) xs e = absurd (omega arith)
+  put_end (p ∷ indexes) [] xs e = refl
+  put_end (p ∷ indexes) (x ∷ left) xs e = absurd (omega arith)
 
   -- one more thing taken out
-  pub taken_out-append : (places : List ℕ) (p : ℕ) (xs : List X) → taken_out (places ++ p ∷ []) xs ≡ taken_out places (remove xs p)
+  pub taken_out-append : (indexes : List ℕ) (p : ℕ) (xs : List X) → taken_out (indexes ++ p ∷ []) xs ≡ taken_out indexes (remove xs p)
   taken_out-append [] p xs = refl
-  taken_out-append (q ∷ places) p xs = ap (λ ys. remove ys q) (taken_out-append places p xs)
+  taken_out-append (q ∷ indexes) p xs = ap (λ ys. remove ys q) (taken_out-append indexes p xs)
 
 -- ---- the whole table
 
-pub length-new_places : (new rows : List ℕ) → length (new_places new rows) ≡ length new
-length-new_places [] rows = refl
-length-new_places (q ∷ new) rows = let later : length (new_places new (insert rows (row_place q rows) q)) ≡ length new = length-new_places new (insert rows (row_place q rows) q) in omega arith
+pub length-new_indexes : (new rows : List ℕ) → length (new_indexes new rows) ≡ length new
+length-new_indexes [] rows = refl
+length-new_indexes (q ∷ new) rows = let later : length (new_indexes new (insert rows (row_index q rows) q)) ≡ length new = length-new_indexes new (insert rows (row_index q rows) q) in omega arith
 
 abbrev pub with_rows : Table → List ℕ → List (List CellValue) → Table
 with_rows t rows cells = record { id = t.id; row = t.row; grid = record { columns = t.grid.columns; rows = rows; cells = cells } }
 
-module _ (t : Table) (new : List ℕ) (ks : List CellColumn) (lists : List (List CellValue)) (places rows : List ℕ) (cells : List (List CellValue))
+module _ (t : Table) (new : List ℕ) (ks : List CellColumn) (lists : List (List CellValue)) (indexes rows : List ℕ) (cells : List (List CellValue))
     (grid : IsGrid column_id t.grid) (n : AreNew new t.grid.rows)
     (made : lists ≡ map (λ r. map (λ (d : ColDef). unwrap_or (given new ks d.id r) (start_of d)) t.grid.columns) new)
-    (noted : places ≡ new_places new t.grid.rows) (put : rows ≡ put_at (new_places new t.grid.rows) new t.grid.rows) (beside : cells ≡ put_at places lists t.grid.cells) where
+    (noted : indexes ≡ new_indexes new t.grid.rows) (put : rows ≡ put_at (new_indexes new t.grid.rows) new t.grid.rows) (beside : cells ≡ put_at indexes lists t.grid.cells) where
   pub added_table : with_rows t rows cells ≡ on_grid (add_rows column_id start_of new ks) t
   added_table =
-      ap (λ r. with_rows t r cells) put ∙ ap (with_rows t (put_at (new_places new t.grid.rows) new t.grid.rows)) (beside ∙ ap (λ ps. put_at ps lists t.grid.cells) noted)
+      ap (λ r. with_rows t r cells) put ∙ ap (with_rows t (put_at (new_indexes new t.grid.rows) new t.grid.rows)) (beside ∙ ap (λ ps. put_at ps lists t.grid.cells) noted)
       ∙ ap (λ (g : Grid ColDef). let u : Table = record { id = t.id; row = t.row; grid = g } in u) (added t.grid new ks lists grid n made)
 
-  each : length lists ≡ length (new_places new t.grid.rows)
+  each : length lists ≡ length (new_indexes new t.grid.rows)
   each =
       let all : length lists ≡ length new = ap length made ∙ length_map (λ r. map (λ (d : ColDef). unwrap_or (given new ks d.id r) (start_of d)) t.grid.columns) new in
-      all ∙ sym (length-new_places new t.grid.rows)
+      all ∙ sym (length-new_indexes new t.grid.rows)
 
-  pub added_back : on_grid (on_rows (taken_out places) (taken_out places)) (with_rows t rows cells) ≡ t
+  pub added_back : on_grid (on_rows (taken_out indexes) (taken_out indexes)) (with_rows t rows cells) ≡ t
   added_back =
-      ap (λ r. with_rows t r (taken_out places cells)) (
-      ap (taken_out places) put ∙ ap (λ ps. taken_out ps (put_at (new_places new t.grid.rows) new t.grid.rows)) noted
-      ∙ taken_out-put_at (new_places new t.grid.rows) new t.grid.rows (new_within new t.grid.rows) (sym (length-new_places new t.grid.rows)))
+      ap (λ r. with_rows t r (taken_out indexes cells)) (
+      ap (taken_out indexes) put ∙ ap (λ ps. taken_out ps (put_at (new_indexes new t.grid.rows) new t.grid.rows)) noted
+      ∙ taken_out-put_at (new_indexes new t.grid.rows) new t.grid.rows (new_within new t.grid.rows) (sym (length-new_indexes new t.grid.rows)))
       ∙ ap (with_rows t t.grid.rows) (
-      ap (taken_out places) (beside ∙ ap (λ ps. put_at ps lists t.grid.cells) noted) ∙ ap (λ ps. taken_out ps (put_at (new_places new t.grid.rows) lists t.grid.cells)) noted
-      ∙ taken_out-put_at (new_places new t.grid.rows) lists t.grid.cells (subst (AreWithin (new_places new t.grid.rows)) (sym grid.height) (new_within new t.grid.rows)) each)
+      ap (taken_out indexes) (beside ∙ ap (λ ps. put_at ps lists t.grid.cells) noted) ∙ ap (λ ps. taken_out ps (put_at (new_indexes new t.grid.rows) lists t.grid.cells)) noted
+      ∙ taken_out-put_at (new_indexes new t.grid.rows) lists t.grid.cells (subst (AreWithin (new_indexes new t.grid.rows)) (sym grid.height) (new_within new t.grid.rows)) each)
 
--- the places that were noted from none, in reserved room
-pub noted_from : (new rows reserved places after : List ℕ) → after ≡ places ++ new_places new reserved → places ≡ [] → reserved ≡ rows → after ≡ new_places new rows
-noted_from new rows reserved places after is none same = is ∙ ap (λ ps. ps ++ new_places new reserved) none ∙ ap (new_places new) same
+-- the indexes that were noted from none, in reserved room
+pub noted_from : (new rows reserved indexes after : List ℕ) → after ≡ indexes ++ new_indexes new reserved → indexes ≡ [] → reserved ≡ rows → after ≡ new_indexes new rows
+noted_from new rows reserved indexes after is none same = is ∙ ap (λ ps. ps ++ new_indexes new reserved) none ∙ ap (new_indexes new) same

@@ -5,7 +5,7 @@ use Rattle.std.proofs.lemmas.Option.{slice_get_read}
 use Rattle.doc_model.specs.declared.action.DocAction.{DocAction}
 use Rattle.doc_model.specs.declared.action.DocAction.TheVariants.{BulkAdd, BulkUpdate, BulkRemove, AddTable, RemoveTable, RenameTable, AddColumn, RemoveColumn, RenameColumn, ModifyColumn}
 use Rattle.doc_model.specs.ByIds.{find_id}
-use Rattle.doc_model.specs.Rows.{is_once, none_in}
+use Rattle.doc_model.specs.Rows.{has_no_duplicates, none_in}
 use Rattle.doc_model.specs.Document.{Table, Document, table_id}
 use Rattle.doc_model.specs.DocumentLaws.{IsWhole}
 use Rattle.doc_model.specs.Sound.{IsSoundGrid}
@@ -30,12 +30,12 @@ module _ (s : Document) (a : DocAction) (i : ℕ) (t : Table) (whole : IsWhole s
     where
       fresh : (a : DocAction) → valid s a ≡ true → find_id table_id (table_named a) s ≡ Some t → adds_new a t.grid
       fresh (BulkAdd table rows ks) v found =
-          let parts : (u : Table) × ((record_table s table ≡ Some u) × ((is_once rows && from_one rows && none_in rows u.grid.rows && gives_data u.grid rows ks) ≡ true))
-          = passes_parts (record_table s table) (λ u. is_once rows && from_one rows && none_in rows u.grid.rows && gives_data u.grid rows ks) v in
+          let parts : (u : Table) × ((record_table s table ≡ Some u) × ((has_no_duplicates rows && from_one rows && none_in rows u.grid.rows && gives_data u.grid rows ks) ≡ true))
+          = passes_parts (record_table s table) (λ u. has_no_duplicates rows && from_one rows && none_in rows u.grid.rows && gives_data u.grid rows ks) v in
           let there : Some parts.0 ≡ Some t = sym (record_found s table parts.0 parts.1.0) ∙ found in
           let same : parts.0 ≡ t = cc in
-          let each : (is_once rows ≡ true) × (from_one rows ≡ true) × (none_in rows parts.0.grid.rows ≡ true) × (gives_data parts.0.grid rows ks ≡ true)
-          = parts_4 (is_once rows) (from_one rows) (none_in rows parts.0.grid.rows) (gives_data parts.0.grid rows ks) parts.1.1 in
+          let each : (has_no_duplicates rows ≡ true) × (from_one rows ≡ true) × (none_in rows parts.0.grid.rows ≡ true) × (gives_data parts.0.grid rows ks ≡ true)
+          = parts_4 (has_no_duplicates rows) (from_one rows) (none_in rows parts.0.grid.rows) (gives_data parts.0.grid rows ks) parts.1.1 in
           (each.0, subst (λ (u : Table). none_in rows u.grid.rows ≡ true) same each.2)
       fresh (BulkUpdate table rows ks) v found = tt
       fresh (BulkRemove table rows) v found = tt
@@ -64,7 +64,7 @@ module _ (s : Document) (i : ℕ) (t : Table) (c : Change) (l : i < length s) (e
   pub fits_read : fits_there c (slice_get s i) → change_fits c t
   fits_read h = subst (fits_there c) (slice_get_read s (length s) i t refl l e) h
 
--- the place is that of the table that the action names
+-- the index is that of the table that the action names
 placed : (i : ℕ) (id id' : List ℕ) (s s' : Document) → (i < length s) × (slice_get s i ≡ find_id table_id id s) → id ≡ id' → s ≡ s' → (i < length s') × (slice_get s' i ≡ find_id table_id id' s')
 placed i id id' s s' h ei es = subst (λ d. (i < length d) × (slice_get d i ≡ find_id table_id id' d)) es (subst (λ n. (i < length s) × (slice_get s i ≡ find_id table_id n s)) ei h)
 

@@ -1,11 +1,11 @@
 pub mod Walks
 pub mod Latest
 pub mod Built
-pub mod Places
+pub mod Indexes
 pub mod SpotLaws
 pub mod KeptLaws
 pub mod StepLaws
-pub mod RowPlaceLaws
+pub mod RowIndexLaws
 pub mod AddedLaws
 pub mod WrittenLaws
 pub mod TakenLaws

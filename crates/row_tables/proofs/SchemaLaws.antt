@@ -27,9 +27,9 @@ use Rattle.row_tables.specs.Steps.{is_record, table_named, table_change, plain_a
 use Rattle.row_tables.specs.declared.schema.SchemaTables.{SchemaTables}
 use Rattle.row_tables.proofs.StepLaws.{each_index, with_table-at, schema_effect}
 
--- ---- tables by their places
+-- ---- tables by their indexes
 
--- another table written at a place, and the one before it written back
+-- another table written at an index, and the one before it written back
 pub set_back : (s : List Table) (i : ℕ) (new : Table) → set (set s i new) i (get_or s i new) ≡ s
 set_back s i new = set-set s i new (get_or s i new) ∙ set-get_or s i new
 
@@ -56,7 +56,7 @@ module _ (id : List ℕ) where
       let apart : bytes_eq u.id id ≡ false = ap (bytes_eq u.id) (sym (ap (λ v. v.id) (sym e) ∙ is)) ∙ each_index (λ v. bytes_eq u.id v.id ≡ false) s i t d.0 (omega arith) in
       ap (λ r. u ∷ r) (without_id-at s i t d.1 (omega arith) e is) ∙ sym (stays u s apart)
 
--- what stands at a place
+-- what stands at an index
 stands : (s : Document) (i : ℕ) → i < length s → (t : Table) × (t ≡ get_or s i t)
 stands [] i l = absurd (omega arith)
 stands (x ∷ s) i l = (get_or (x ∷ s) i x, get_or_default (x ∷ s) i x (get_or (x ∷ s) i x) l)

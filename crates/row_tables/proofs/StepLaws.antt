@@ -17,7 +17,7 @@ use Rattle.doc_model.specs.Apply.{with_plain, effect, apply}
 use Rattle.doc_model.proofs.Choices.{cond_true, cond_false}
 use Rattle.doc_model.proofs.ByIdsLaws.{bytes_apart, found_id}
 use Rattle.doc_model.proofs.DocumentParts.{applied}
-use Rattle.row_tables.specs.Steps.{is_record, table_named, table_change, plain_after, table_place}
+use Rattle.row_tables.specs.Steps.{is_record, table_named, table_change, plain_after, table_index}
 use Rattle.row_tables.proofs.Walks.{drop_read}
 
 -- a record action changes the table that it names
@@ -50,21 +50,21 @@ pub record_found : (s : Document) (id : List ℕ) (t : Table) → record_table s
 record_found s id t =
     elim (is_schema_id id) as (λ b. cond b None (find_id table_id id s) ≡ Some t → find_id table_id id s ≡ Some t) [ true ↦ λ e. absurd (cc) | false ↦ λ e. e ]
 
--- ---- tables by their places
+-- ---- tables by their indexes
 
-pub table_within : (row : ℕ) (ts : List Table) → table_place row ts ≤ length ts
+pub table_within : (row : ℕ) (ts : List Table) → table_index row ts ≤ length ts
 table_within row [] = omega arith
 table_within row (t ∷ ts) =
-    let later : table_place row ts ≤ length ts = table_within row ts in
-    elim (ltb row (table_row t)) as (λ b. cond b 0 (table_place row ts + 1) ≤ length (t ∷ ts)) [ true ↦ omega arith | false ↦ omega arith ]
+    let later : table_index row ts ≤ length ts = table_within row ts in
+    elim (ltb row (table_row t)) as (λ b. cond b 0 (table_index row ts + 1) ≤ length (t ∷ ts)) [ true ↦ omega arith | false ↦ omega arith ]
 
-pub put_by_row-table_place : (t : Table) (ts : List Table) → put_by_row table_row t ts ≡ insert ts (table_place t.row ts) t
-put_by_row-table_place t [] = refl
-put_by_row-table_place t (u ∷ ts) =
-    let next : suc (table_place t.row ts) ≡ table_place t.row ts + 1 = omega arith in
-    elim (ltb t.row u.row) as (λ b. cond b (t ∷ u ∷ ts) (u ∷ put_by_row table_row t ts) ≡ insert (u ∷ ts) (cond b 0 (table_place t.row ts + 1)) t) [
+pub put_by_row-table_index : (t : Table) (ts : List Table) → put_by_row table_row t ts ≡ insert ts (table_index t.row ts) t
+put_by_row-table_index t [] = refl
+put_by_row-table_index t (u ∷ ts) =
+    let next : suc (table_index t.row ts) ≡ table_index t.row ts + 1 = omega arith in
+    elim (ltb t.row u.row) as (λ b. cond b (t ∷ u ∷ ts) (u ∷ put_by_row table_row t ts) ≡ insert (u ∷ ts) (cond b 0 (table_index t.row ts + 1)) t) [
       | true ↦ refl
-      | false ↦ ap (λ xs. u ∷ xs) (put_by_row-table_place t ts) ∙ ap (λ n. insert (u ∷ ts) n t) next
+      | false ↦ ap (λ xs. u ∷ xs) (put_by_row-table_index t ts) ∙ ap (λ n. insert (u ∷ ts) n t) next
     ]
 
 pub find_at : (ts : List Table) (id : List ℕ) (i : ℕ) (t : Table) → i < length ts → t ≡ get_or ts i t → bytes_eq t.id id ≡ true → slice_get ts i ≡ find_id table_id id (drop i ts)
@@ -93,7 +93,7 @@ module _ (id : List ℕ) (f : Table → Table) where
       ap (λ r. u ∷ r) (with_table-at s i t d.1 (omega arith) e is)
       ∙ sym (ap (λ x. x ∷ with_table id f s) (cond_false (bytes_eq u.id id) (f u) u apart))
 
--- a record action written at the place of its table
+-- a record action written at the index of its table
 pub record_put : (s : Document) (a : DocAction) (i : ℕ) (t new : Table) → AreDistinct table_id s → is_record a ≡ true → valid s a ≡ true → i < length s → slice_get s i ≡ find_id table_id (table_named a) s → t ≡ get_or s i t → new ≡ table_change a t
     → set s i new ≡ apply s a
 record_put s a i t new d r v l g e n =

@@ -15,8 +15,8 @@ use Rattle.doc_model.specs.Records.{or_else, value_for, given, update_rows}
 use Rattle.doc_model.proofs.Choices.{cond_true, cond_false, false_from, each_weaker, map_each}
 use Rattle.doc_model.proofs.GridLaws.{grid_of-cell}
 use Rattle.doc_model.proofs.RowsLaws.{number_itself, each_has, has_below}
-use Rattle.row_tables.specs.InPlace.{id_place, set_cell, written, written_back, column_writes, all_writes}
-use Rattle.row_tables.specs.RowPlaces.{row_place}
+use Rattle.row_tables.specs.InPlace.{id_index, set_cell, written, written_back, column_writes, all_writes}
+use Rattle.row_tables.specs.RowIndexes.{row_index}
 use Rattle.row_tables.specs.declared.written.Write.{Write}
 use Rattle.row_tables.proofs.AddedLaws.{map_same}
 use Rattle.row_tables.proofs.Walks.{drop_read}
@@ -31,14 +31,14 @@ cells_same cs rs f g h = map_each (λ r. map (λ d. f d r) cs) (λ r. map (λ d.
 -- ---- one value
 
 -- where a row that is there stands
-pub place_found : (q : ℕ) (rs : List ℕ) → IsAscending rs → has rs q ≡ true → (row_place q rs < length rs) × (get_or rs (row_place q rs) 0 ≡ q)
-place_found q [] a e = absurd (false≢true e)
-place_found q (r ∷ rs) a e =
-    let next : suc (row_place q rs) ≡ row_place q rs + 1 = omega arith in
-    elim (ltb r q) as (λ b. ltb r q ≡ b → (cond b (row_place q rs + 1) 0 < length (r ∷ rs)) × (get_or (r ∷ rs) (cond b (row_place q rs + 1) 0) 0 ≡ q)) [
+pub index_found : (q : ℕ) (rs : List ℕ) → IsAscending rs → has rs q ≡ true → (row_index q rs < length rs) × (get_or rs (row_index q rs) 0 ≡ q)
+index_found q [] a e = absurd (false≢true e)
+index_found q (r ∷ rs) a e =
+    let next : suc (row_index q rs) ≡ row_index q rs + 1 = omega arith in
+    elim (ltb r q) as (λ b. ltb r q ≡ b → (cond b (row_index q rs + 1) 0 < length (r ∷ rs)) × (get_or (r ∷ rs) (cond b (row_index q rs + 1) 0) 0 ≡ q)) [
       | true ↦ λ below.
           let lt : r < q = ltb-true r q below in
-          let later : (row_place q rs < length rs) × (get_or rs (row_place q rs) 0 ≡ q) = place_found q rs a.1 (ap (λ b. b || has rs q) (sym (ne_eqb r q (λ same. absurd (omega arith)))) ∙ e) in
+          let later : (row_index q rs < length rs) × (get_or rs (row_index q rs) 0 ≡ q) = index_found q rs a.1 (ap (λ b. b || has rs q) (sym (ne_eqb r q (λ same. absurd (omega arith)))) ∙ e) in
           (omega (arith, later.0), ap (λ n. get_or (r ∷ rs) n 0) (sym next) ∙ later.1)
       | false ↦ λ above.
           let le : q ≤ r = ltb-false r q above in
@@ -52,11 +52,11 @@ place_found q (r ∷ rs) a e =
     low r q rs a le apart = has_below q rs (each_weaker (λ x. r < x) (λ x. q < x) (λ x lt. let h : r < x = lt in omega (arith, h)) rs a.0)
 
 -- a value set beside the row that is there
-set_row : {X : Type 0} (f : ℕ → X) (y : X) (q : ℕ) (rs : List ℕ) → IsAscending rs → has rs q ≡ true → set (map f rs) (row_place q rs) y ≡ map (λ r. cond (eqb q r) y (f r)) rs
+set_row : {X : Type 0} (f : ℕ → X) (y : X) (q : ℕ) (rs : List ℕ) → IsAscending rs → has rs q ≡ true → set (map f rs) (row_index q rs) y ≡ map (λ r. cond (eqb q r) y (f r)) rs
 set_row f y q [] a e = absurd (false≢true e)
 set_row f y q (r ∷ rs) a e =
-    let next : suc (row_place q rs) ≡ row_place q rs + 1 = omega arith in
-    elim (ltb r q) as (λ b. ltb r q ≡ b → set (map f (r ∷ rs)) (cond b (row_place q rs + 1) 0) y ≡ map (λ r. cond (eqb q r) y (f r)) (r ∷ rs)) [
+    let next : suc (row_index q rs) ≡ row_index q rs + 1 = omega arith in
+    elim (ltb r q) as (λ b. ltb r q ≡ b → set (map f (r ∷ rs)) (cond b (row_index q rs + 1) 0) y ≡ map (λ r. cond (eqb q r) y (f r)) (r ∷ rs)) [
       | true ↦ λ below.
           let lt : r < q = ltb-true r q below in
           ap (λ n. set (map f (r ∷ rs)) n y) (sym next)
@@ -64,18 +64,18 @@ set_row f y q (r ∷ rs) a e =
           ∙ ap (λ x. x ∷ map (λ r. cond (eqb q r) y (f r)) rs) (sym (cond_false (eqb q r) y (f r) (ne_eqb q r (λ same. absurd (omega arith)))))
       | false ↦ λ above.
           let le : q ≤ r = ltb-false r q above in
-          let found : (row_place q (r ∷ rs) < length (r ∷ rs)) × (get_or (r ∷ rs) (row_place q (r ∷ rs)) 0 ≡ q) = place_found q (r ∷ rs) a e in
-          let same : r ≡ q = ap (λ n. get_or (r ∷ rs) n 0) (sym (cond_false (ltb r q) (row_place q rs + 1) 0 above)) ∙ found.1 in
+          let found : (row_index q (r ∷ rs) < length (r ∷ rs)) × (get_or (r ∷ rs) (row_index q (r ∷ rs)) 0 ≡ q) = index_found q (r ∷ rs) a e in
+          let same : r ≡ q = ap (λ n. get_or (r ∷ rs) n 0) (sym (cond_false (ltb r q) (row_index q rs + 1) 0 above)) ∙ found.1 in
           ap (λ xs. y ∷ xs) (map_each f (λ r. cond (eqb q r) y (f r)) rs (each_weaker (λ x. r < x) (λ x. f x ≡ cond (eqb q x) y (f x)) (λ x lt. let h : r < x = lt in sym (cond_false (eqb q x) y (f x) (ne_eqb q x (λ is. absurd (omega arith))))) rs a.0))
           ∙ ap (λ x. x ∷ map (λ r. cond (eqb q r) y (f r)) rs) (sym (cond_true (eqb q r) y (f r) (subst (λ n. eqb q n ≡ true) (sym same) (number_itself q))))
     ] refl
 
 -- a value set in the column of an id, where there is one
-set_id : (f : ColDef → CellValue) (v : CellValue) (c : List ℕ) (cs : List ColDef) → AreDistinct column_id cs → set (map f cs) (id_place c cs) v ≡ map (λ d. cond (bytes_eq c d.id) v (f d)) cs
+set_id : (f : ColDef → CellValue) (v : CellValue) (c : List ℕ) (cs : List ColDef) → AreDistinct column_id cs → set (map f cs) (id_index c cs) v ≡ map (λ d. cond (bytes_eq c d.id) v (f d)) cs
 set_id f v c [] h = refl
 set_id f v c (d ∷ cs) h =
-    let next : suc (id_place c cs) ≡ id_place c cs + 1 = omega arith in
-    elim (bytes_eq c d.id) as (λ b. bytes_eq c d.id ≡ b → set (map f (d ∷ cs)) (cond b 0 (id_place c cs + 1)) v ≡ cond b v (f d) ∷ map (λ d. cond (bytes_eq c d.id) v (f d)) cs) [
+    let next : suc (id_index c cs) ≡ id_index c cs + 1 = omega arith in
+    elim (bytes_eq c d.id) as (λ b. bytes_eq c d.id ≡ b → set (map f (d ∷ cs)) (cond b 0 (id_index c cs + 1)) v ≡ cond b v (f d) ∷ map (λ d. cond (bytes_eq c d.id) v (f d)) cs) [
       | true ↦ λ is.
           let same : c ≡ d.id = (bytes_eq-Decides c d.id).0 is in
           ap (λ xs. v ∷ xs) (map_each f (λ d. cond (bytes_eq c d.id) v (f d)) cs (each_weaker (λ (e : ColDef). bytes_eq d.id e.id ≡ false) (λ (e : ColDef). f e ≡ cond (bytes_eq c e.id) v (f e)) (λ e apart. sym (cond_false (bytes_eq c e.id) v (f e) (ap (λ n. bytes_eq n e.id) same ∙ apart))) cs h.0))
@@ -84,12 +84,12 @@ set_id f v c (d ∷ cs) h =
 
 module _ (cs : List ColDef) (rs : List ℕ) (distinct : AreDistinct column_id cs) (ascending : IsAscending rs) where
   -- the cells with one value written
-  one_write : (f : ColDef → ℕ → CellValue) (c : List ℕ) (q : ℕ) (v : CellValue) → has rs q ≡ true → set (cells_of cs rs f) (row_place q rs) (set (get_or (cells_of cs rs f) (row_place q rs) []) (id_place c cs) v) ≡ cells_of cs rs (λ d r. cond (bytes_eq c d.id) (cond (eqb q r) v (f d r)) (f d r))
+  one_write : (f : ColDef → ℕ → CellValue) (c : List ℕ) (q : ℕ) (v : CellValue) → has rs q ≡ true → set (cells_of cs rs f) (row_index q rs) (set (get_or (cells_of cs rs f) (row_index q rs) []) (id_index c cs) v) ≡ cells_of cs rs (λ d r. cond (bytes_eq c d.id) (cond (eqb q r) v (f d r)) (f d r))
   one_write f c q v here =
-      let found : (row_place q rs < length rs) × (get_or rs (row_place q rs) 0 ≡ q) = place_found q rs ascending here in
+      let found : (row_index q rs < length rs) × (get_or rs (row_index q rs) 0 ≡ q) = index_found q rs ascending here in
       let list : List CellValue = map (λ (d : ColDef). cond (bytes_eq c d.id) v (f d q)) cs in
-      ap (λ l. set (cells_of cs rs f) (row_place q rs) (set l (id_place c cs) v)) (get_or-map (λ r. map (λ d. f d r) cs) rs (row_place q rs) 0 [] found.0 ∙ ap (λ r. map (λ d. f d r) cs) found.1)
-      ∙ ap (set (cells_of cs rs f) (row_place q rs)) (set_id (λ d. f d q) v c cs distinct)
+      ap (λ l. set (cells_of cs rs f) (row_index q rs) (set l (id_index c cs) v)) (get_or-map (λ r. map (λ d. f d r) cs) rs (row_index q rs) 0 [] found.0 ∙ ap (λ r. map (λ d. f d r) cs) found.1)
+      ∙ ap (set (cells_of cs rs f) (row_index q rs)) (set_id (λ d. f d q) v c cs distinct)
       ∙ set_row (λ r. map (λ d. f d r) cs) list q rs ascending here
       ∙ map_same (λ r. cond (eqb q r) list (map (λ d. f d r) cs)) (λ r. map (λ (d : ColDef). cond (bytes_eq c d.id) (cond (eqb q r) v (f d r)) (f d r)) cs) rs (λ r.
       elim (eqb q r) as (λ b. eqb q r ≡ b → cond b list (map (λ d. f d r) cs) ≡ map (λ (d : ColDef). cond (bytes_eq c d.id) (cond b v (f d r)) (f d r)) cs) [
@@ -113,12 +113,12 @@ module _ (cs : List ColDef) (rs : List ℕ) (distinct : AreDistinct column_id cs
   nothing : (f : ColDef → ℕ → CellValue) (c : List ℕ) → cells_of cs rs f ≡ cells_of cs rs (λ d r. cond (bytes_eq c d.id) (f d r) (f d r))
   nothing f c = cells_same cs rs f (λ (d : ColDef) r. cond (bytes_eq c d.id) (f d r) (f d r)) (λ d r _. elim (bytes_eq c d.id) as (λ b. f d r ≡ cond b (f d r) (f d r)) [ true ↦ refl | false ↦ refl ])
 
-  column_written : (f : ColDef → ℕ → CellValue) (c : List ℕ) (rows : List ℕ) (vs : List CellValue) → written (column_writes rs (id_place c cs) rows vs) (cells_of cs rs f) ≡ cells_of cs rs (λ d r. cond (bytes_eq c d.id) (unwrap_or (value_for rows vs r) (f d r)) (f d r))
+  column_written : (f : ColDef → ℕ → CellValue) (c : List ℕ) (rows : List ℕ) (vs : List CellValue) → written (column_writes rs (id_index c cs) rows vs) (cells_of cs rs f) ≡ cells_of cs rs (λ d r. cond (bytes_eq c d.id) (unwrap_or (value_for rows vs r) (f d r)) (f d r))
   column_written f c [] vs = nothing f c
   column_written f c (q ∷ rows) [] = nothing f c
   column_written f c (q ∷ rows) (v ∷ vs) =
-      let w : Write = record { row = row_place q rs; column = id_place c cs; value = v } in
-      let rest : List Write = column_writes rs (id_place c cs) rows vs in
+      let w : Write = record { row = row_index q rs; column = id_index c cs; value = v } in
+      let rest : List Write = column_writes rs (id_index c cs) rows vs in
       let after : ColDef → ℕ → CellValue = λ d r. cond (bytes_eq c d.id) (unwrap_or (or_else (value_for rows vs r) (cond (eqb q r) (Some v) None)) (f d r)) (f d r) in
       let one : ColDef → ℕ → CellValue = λ d r. cond (bytes_eq c d.id) (cond (eqb q r) v (f d r)) (f d r) in
       elim (has rs q) as (λ b. has rs q ≡ b → written (cond b (w ∷ rest) rest) (cells_of cs rs f) ≡ cells_of cs rs after) [
@@ -147,7 +147,7 @@ module _ (g : Grid ColDef) (grid : IsGrid column_id g) (rows : List ℕ) where
   columns_written f [] = refl
   columns_written f (k ∷ ks) =
       let one : ColDef → ℕ → CellValue = λ d r. cond (bytes_eq k.id d.id) (unwrap_or (value_for rows k.values r) (f d r)) (f d r) in
-      written-append (column_writes g.rows (id_place k.id g.columns) rows k.values) (all_writes g rows ks) (cells_of g.columns g.rows f)
+      written-append (column_writes g.rows (id_index k.id g.columns) rows k.values) (all_writes g rows ks) (cells_of g.columns g.rows f)
       ∙ ap (written (all_writes g rows ks)) (column_written g.columns g.rows grid.distinct grid.ascending f k.id rows k.values)
       ∙ columns_written one ks
       ∙ cells_same g.columns g.rows (λ (d : ColDef) r. unwrap_or (given rows ks d.id r) (one d r)) (λ (d : ColDef) r. unwrap_or (given rows (k ∷ ks) d.id r) (f d r)) (λ d r _. choose (bytes_eq k.id d.id) (value_for rows k.values r) (given rows ks d.id r) (f d r))

@@ -3,7 +3,7 @@ pub mod Known
 pub mod Told
 pub mod Spots
 pub mod Kept
-pub mod RowPlaces
+pub mod RowIndexes
 pub mod InPlace
 pub mod Steps
 pub mod Back

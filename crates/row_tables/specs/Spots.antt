@@ -4,14 +4,14 @@ use Rattle.doc_model.specs.declared.column.ColDef.{ColDef}
 use Rattle.doc_model.specs.Schema.{Described, described_row, put_described}
 
 -- the first one whose row is not below, or the end
-abbrev pub described_place : ℕ → List Described → ℕ
-described_place row [] = 0
-described_place row (e ∷ es) = cond (nat_le row (described_row e)) 0 (described_place row es + 1)
+abbrev pub described_index : ℕ → List Described → ℕ
+described_index row [] = 0
+described_index row (e ∷ es) = cond (nat_le row (described_row e)) 0 (described_index row es + 1)
 
--- whether one of that row stands at the place
+-- whether one of that row stands at the index
 abbrev pub stands_at : ℕ → ℕ → List Described → Bool
-stands_at row place es =
-    elim (slice_get es place) [ None ↦ false | Some e ↦ nat_eq (described_row e) row ]
+stands_at row index es =
+    elim (slice_get es index) [ None ↦ false | Some e ↦ nat_eq (described_row e) row ]
 
 -- the columns of one table
 abbrev pub columns_of : ℕ → List ColDef → List Described

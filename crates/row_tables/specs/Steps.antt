@@ -7,7 +7,7 @@ use Rattle.doc_model.specs.Records.{add_rows, update_rows, remove_rows}
 use Rattle.doc_model.specs.Column.{column_id, start_of}
 use Rattle.doc_model.specs.declared.column.ColDef.{ColDef}
 use Rattle.doc_model.specs.Grid.{Grid, IsGrid}
-use Rattle.doc_model.specs.Rows.{is_once, none_in}
+use Rattle.doc_model.specs.Rows.{has_no_duplicates, none_in}
 use Rattle.doc_model.specs.Document.{Table, table_id, table_row, on_grid, renamed, with_table, put_by_row}
 use Rattle.doc_model.specs.Apply.{new_table, add_column, remove_column, with_column, with_name, with_info}
 
@@ -33,7 +33,7 @@ table_named (ModifyColumn table column info) = table
 
 -- where a record action may be put: a grid, to which new rows come once
 abbrev pub adds_new : DocAction → Grid ColDef → Type 0
-adds_new (BulkAdd table rows ks) g = (is_once rows ≡ true) × (none_in rows g.rows ≡ true)
+adds_new (BulkAdd table rows ks) g = (has_no_duplicates rows ≡ true) × (none_in rows g.rows ≡ true)
 adds_new _ g = ⊤
 
 abbrev pub ActsOn : DocAction → Grid ColDef → Type 0
@@ -58,7 +58,7 @@ plain_after (AddTable table row columns) plain =
 plain_after (RemoveTable table) plain = without_id table_id table plain
 plain_after a plain = with_table (table_named a) (table_change a) plain
 
--- the place of the first table with a greater row, or the end
-abbrev pub table_place : ℕ → List Table → ℕ
-table_place row [] = 0
-table_place row (t ∷ plain) = cond (nat_lt row (table_row t)) 0 (table_place row plain + 1)
+-- the index of the first table with a greater row, or the end
+abbrev pub table_index : ℕ → List Table → ℕ
+table_index row [] = 0
+table_index row (t ∷ plain) = cond (nat_lt row (table_row t)) 0 (table_index row plain + 1)

@@ -5,9 +5,9 @@ ghost use Rattle.doc_model.specs.Column.{column_id, start_of};
 ghost use Rattle.doc_model.specs.Document.{on_grid};
 ghost use Rattle.doc_model.specs.Grid.{IsGrid};
 ghost use Rattle.doc_model.specs.Records.{add_rows, given};
-ghost use Rattle.doc_model.specs.Rows.{IsAscending, is_once};
+ghost use Rattle.doc_model.specs.Rows.{IsAscending, has_no_duplicates};
 ghost use Rattle.row_tables.specs.InPlace.{on_rows};
-ghost use Rattle.row_tables.specs.RowPlaces.{AreNew, AreWithin, given_at, new_places, put_at, row_place, taken_out};
+ghost use Rattle.row_tables.specs.RowIndexes.{AreNew, AreWithin, given_at, new_indexes, put_at, row_index, taken_out};
 
 use crate::RowTable;
 use crate::given::given_value;
@@ -31,25 +31,25 @@ pub(crate) fn start_of(alloc: Global, column: &ColDef) -> CellValue
     }
 }
 
-// The cells of the new row at this place among the rows of an action.
+// The cells of the new row at this index among the rows of an action.
 #[derive(Drop)]
 struct NewRow<'a> {
     alloc: Global,
     values: &'a [CellColumn],
-    place: usize,
+    index: usize,
 }
 
 impl Maker<ColDef> for NewRow<'_> {
     ghost use Rattle.std.specs.Prelude.{unwrap_or};
     ghost use Rattle.doc_model.specs.Column.{start_of};
-    ghost use Rattle.row_tables.specs.RowPlaces.{given_at};
+    ghost use Rattle.row_tables.specs.RowIndexes.{given_at};
 
     type Made = CellValue;
 
-    ghost made = { λ a d. unwrap_or (given_at a.values.now d.id a.place) (start_of d) };
+    ghost made = { λ a d. unwrap_or (given_at a.values.now d.id a.index) (start_of d) };
 
     fn make(&self, column: &ColDef) -> Result<CellValue, AllocError> {
-        match given_value(self.values, &column.id, self.place) {
+        match given_value(self.values, &column.id, self.index) {
             Some(value) => copy_of(value),
             None => Ok(start_of(self.alloc, column)),
         }
@@ -63,15 +63,15 @@ fn cells_of_new(
     rows: &[u32],
     values: &[CellColumn],
 ) -> Result<Vec<ValueList>, AllocError>
-    requires { is_once rows.now ≡ true }
+    requires { has_no_duplicates rows.now ≡ true }
     ensures { IfOk result (λ v. v.items ≡ map (λ r. map (λ d. unwrap_or (given rows.now values.now d.id r) (start_of d)) columns.now) rows.now) }
 {
     let mut lists = Vec::with_capacity(alloc, rows.len())?;
-    for (place, _row) in rows.iter().enumerate() {
+    for (index, _row) in rows.iter().enumerate() {
         let row = NewRow {
             alloc,
             values,
-            place,
+            index,
         };
         lists.push(ValueList::from(all_made(alloc, columns, &row)?))?;
     }
@@ -79,47 +79,47 @@ fn cells_of_new(
 }
 
 // Where a row goes.
-fn place_for(rows: &[u32], row: u32) -> usize
+fn index_for(rows: &[u32], row: u32) -> usize
     requires { IsAscending rows.now }
-    ensures { result ≡ row_place row rows.now }
+    ensures { result ≡ row_index row rows.now }
 {
     match search_row(rows, row) {
-        Ok(place) | Err(place) => place,
+        Ok(index) | Err(index) => index,
     }
 }
 
 // Puts new rows into their places, and notes these.
-fn insert_rows(rows: &mut Vec<u32>, new: &[u32], places: &mut Vec<usize>)
+fn insert_rows(rows: &mut Vec<u32>, new: &[u32], indexes: &mut Vec<usize>)
     requires new { AreNew new.now rows.old.items }
     requires room { vec_len rows.old + length new.now ≤ vec_capacity rows.old }
-    requires room_of_places { vec_len places.old + length new.now ≤ vec_capacity places.old }
-    ensures rows { rows.new.items ≡ put_at (new_places new.now rows.old.items) new.now rows.old.items }
-    ensures places { places.new.items ≡ places.old.items ++ new_places new.now rows.old.items }
+    requires room_of_indexes { vec_len indexes.old + length new.now ≤ vec_capacity indexes.old }
+    ensures rows { rows.new.items ≡ put_at (new_indexes new.now rows.old.items) new.now rows.old.items }
+    ensures indexes { indexes.new.items ≡ indexes.old.items ++ new_indexes new.now rows.old.items }
 {
     for row in new {
-        let place = place_for(rows, *row);
-        insert_reserved(rows, place, *row);
-        places.push_reserved(place);
+        let index = index_for(rows, *row);
+        insert_reserved(rows, index, *row);
+        indexes.push_reserved(index);
     }
 }
 
 // Puts the cells of new rows in at their places.
-fn insert_cells(cells: &mut Vec<ValueList>, places: &[usize], lists: Vec<ValueList>)
-    requires within { AreWithin places.now (length cells.old.items) }
-    requires each { length lists.items ≡ length places.now }
+fn insert_cells(cells: &mut Vec<ValueList>, indexes: &[usize], lists: Vec<ValueList>)
+    requires within { AreWithin indexes.now (length cells.old.items) }
+    requires each { length lists.items ≡ length indexes.now }
     requires room { vec_len cells.old + length lists.items ≤ vec_capacity cells.old }
-    ensures { cells.new.items ≡ put_at places.now lists.items cells.old.items }
+    ensures { cells.new.items ≡ put_at indexes.now lists.items cells.old.items }
 {
     let mut placed = 0;
     for list in lists {
-        insert_reserved(cells, places[placed], list);
+        insert_reserved(cells, indexes[placed], list);
         placed += 1;
     }
 }
 
 impl RowTable {
     /// Puts new rows in, with the given values and elsewhere what new cells hold, and gives their
-    /// places.
+    /// indexes.
     pub(crate) fn add_rows(
         &mut self,
         new: &[u32],
@@ -128,29 +128,29 @@ impl RowTable {
         requires grid { IsGrid column_id self.old.grid }
         requires new { AreNew new.now self.old.grid.rows }
         ensures ok { OnOk result (self.new ≡ on_grid (add_rows column_id start_of new.now values.now) self.old) }
-        ensures back { IfOk result (λ places. on_grid (on_rows (taken_out places.items) (taken_out places.items)) self.new ≡ self.old) }
+        ensures back { IfOk result (λ indexes. on_grid (on_rows (taken_out indexes.items) (taken_out indexes.items)) self.new ≡ self.old) }
         ensures err { OnErr result (self.new ≡ self.old) }
     {
         let alloc = self.alloc();
         let lists = cells_of_new(alloc, &self.columns, new, values)?;
-        let mut places = Vec::with_capacity(alloc, new.len())?;
+        let mut indexes = Vec::with_capacity(alloc, new.len())?;
         self.rows.reserve(new.len())?;
         self.cells.reserve(new.len())?;
-        insert_rows(&mut self.rows, new, &mut places);
-        insert_cells(&mut self.cells, &places, lists);
-        Ok(places)
+        insert_rows(&mut self.rows, new, &mut indexes);
+        insert_cells(&mut self.cells, &indexes, lists);
+        Ok(indexes)
     }
 
-    /// Takes out what stands at these places, at the last one first.
+    /// Takes out what stands at these indexes, at the last one first.
     ///
     /// Memory: none.
-    pub(crate) fn take_out(&mut self, places: Vec<usize>)
-        ensures { self.new ≡ on_grid (on_rows (taken_out places.items) (taken_out places.items)) self.old }
+    pub(crate) fn take_out(&mut self, indexes: Vec<usize>)
+        ensures { self.new ≡ on_grid (on_rows (taken_out indexes.items) (taken_out indexes.items)) self.old }
     {
-        let mut places = places;
-        while let Some(place) = places.pop() {
-            remove_at(&mut self.rows, place);
-            remove_at(&mut self.cells, place);
+        let mut indexes = indexes;
+        while let Some(index) = indexes.pop() {
+            remove_at(&mut self.rows, index);
+            remove_at(&mut self.cells, index);
         }
     }
 }

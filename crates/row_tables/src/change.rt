@@ -10,11 +10,11 @@ use crate::written::Write;
 use doc_model::DocAction;
 use std::alloc::AllocError;
 
-/// What takes back a record action: the places of the rows that came, the values that were
+/// What takes back a record action: the indexes of the rows that came, the values that were
 /// written over, or the rows that went.
 #[derive(Drop)]
 pub(crate) enum Change {
-    Added { places: Vec<usize> },
+    Added { indexes: Vec<usize> },
     Written { writes: Vec<Write> },
     Taken { back: TakenRows },
 }
@@ -22,7 +22,7 @@ pub(crate) enum Change {
 impl RowTable {
     /// Applies a record action to the table that it names.
     ///
-    /// Errors: want of memory; the table is then as it was.
+    /// Errors: out of memory; the table is then as it was.
     pub(crate) fn put(&mut self, action: &DocAction) -> Result<Change, AllocError>
         requires record { is_record action.now ≡ true }
         requires fits { ActsOn action.now self.old.grid }
@@ -33,8 +33,8 @@ impl RowTable {
     {
         match action {
             DocAction::BulkAdd { rows, columns, .. } => {
-                let places = self.add_rows(rows.as_slice(), columns.as_slice())?;
-                Ok(Change::Added { places })
+                let indexes = self.add_rows(rows.as_slice(), columns.as_slice())?;
+                Ok(Change::Added { indexes })
             }
             DocAction::BulkUpdate { rows, columns, .. } => {
                 let writes = self.write_values(rows.as_slice(), columns.as_slice())?;
@@ -56,7 +56,7 @@ impl RowTable {
         ensures { self.new ≡ change_back change self.old }
     {
         match change {
-            Change::Added { places } => self.take_out(places),
+            Change::Added { indexes } => self.take_out(indexes),
             Change::Written { writes } => self.write_back(writes),
             Change::Taken { back } => self.put_rows_again(back),
         }

@@ -14,15 +14,15 @@ use crate::copies::{copy_of_column, copy_of_name};
 use crate::fill::{CellSource, Kept};
 use crate::making::{Maker, all_made};
 use cell_types::{CellValue, Name};
-use doc_model::{ColDef, ColInfo, place_of_column};
+use doc_model::{ColDef, ColInfo, index_of_column};
 use std::alloc::{AllocError, Global};
 
 // Puts a column before the first one with a greater row.
 fn put_column(columns: &mut Vec<ColDef>, column: ColDef) -> Result<(), AllocError>
     ensures { IfOk result (λ _. columns.new.items ≡ put_by_row column_row column columns.old.items) }
 {
-    let place = place_of_column(columns, column.row);
-    columns.insert(place, column)?;
+    let index = index_of_column(columns, column.row);
+    columns.insert(index, column)?;
     Ok(())
 }
 

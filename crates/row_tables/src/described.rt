@@ -2,7 +2,7 @@
 
 ghost use Rattle.std.specs.Prelude.{◌≡◌, IfOk};
 ghost use Rattle.doc_model.specs.Schema.{all_columns, described_row, in_order, put_described};
-ghost use Rattle.row_tables.specs.Spots.{columns_of, described_place, put_all, stands_at};
+ghost use Rattle.row_tables.specs.Spots.{columns_of, described_index, put_all, stands_at};
 
 use crate::RowTable;
 use crate::copies::copy_of_column;
@@ -48,22 +48,22 @@ impl Described {
 }
 
 // The first one whose row is not below, or the end.
-fn place_of(sorted: &[Described], row: u32) -> usize
-    ensures { result ≡ described_place row sorted.now }
+fn index_of(sorted: &[Described], row: u32) -> usize
+    ensures { result ≡ described_index row sorted.now }
 {
-    for (place, other) in sorted.iter().enumerate() {
+    for (index, other) in sorted.iter().enumerate() {
         if row <= other.row() {
-            return place;
+            return index;
         }
     }
     sorted.len()
 }
 
-// Whether a column of that row stands at the place.
-fn stands_at(sorted: &[Described], place: usize, row: u32) -> bool
-    ensures { result ≡ stands_at row place sorted.now }
+// Whether a column of that row stands at the index.
+fn stands_at(sorted: &[Described], index: usize, row: u32) -> bool
+    ensures { result ≡ stands_at row index sorted.now }
 {
-    match sorted.get(place) {
+    match sorted.get(index) {
         Some(other) => other.row() == row,
         None => false,
     }
@@ -73,11 +73,11 @@ fn stands_at(sorted: &[Described], place: usize, row: u32) -> bool
 fn put_described(sorted: &mut Vec<Described>, one: Described) -> Result<(), AllocError>
     ensures { IfOk result (λ _. sorted.new.items ≡ put_described one sorted.old.items) }
 {
-    let place = place_of(sorted, one.row());
-    if stands_at(sorted, place, one.row()) {
-        sorted[place] = one;
+    let index = index_of(sorted, one.row());
+    if stands_at(sorted, index, one.row()) {
+        sorted[index] = one;
     } else {
-        sorted.insert(place, one)?;
+        sorted.insert(index, one)?;
     }
     Ok(())
 }

@@ -5,37 +5,37 @@ ghost use Rattle.std.specs.List.{insert, remove};
 
 use std::mem;
 
-/// Puts an item in at a place, or at the end where the place is past it.
+/// Puts an item in at an index, or at the end where the index is past it.
 ///
 /// Memory: none.
-pub(crate) fn insert_reserved<T: Drop>(items: &mut Vec<T>, place: usize, item: T)
+pub(crate) fn insert_reserved<T: Drop>(items: &mut Vec<T>, index: usize, item: T)
     requires { vec_len items.old < vec_capacity items.old }
-    ensures items { items.new.items ≡ insert items.old.items place item }
+    ensures items { items.new.items ≡ insert items.old.items index item }
     ensures len { vec_len items.new ≡ vec_len items.old + 1 }
     ensures capacity { vec_capacity items.old ≤ vec_capacity items.new }
 {
     let end = items.len();
-    if items.insert(place.min(end), item).is_err() {
+    if items.insert(index.min(end), item).is_err() {
         unreachable!()
     }
 }
 
-/// Removes what stands at a place, where something does.
-pub(crate) fn remove_at<T: Drop>(items: &mut Vec<T>, place: usize)
-    ensures { items.new.items ≡ remove items.old.items place }
+/// Removes what stands at an index, where something does.
+pub(crate) fn remove_at<T: Drop>(items: &mut Vec<T>, index: usize)
+    ensures { items.new.items ≡ remove items.old.items index }
 {
-    if place < items.len() {
-        let _removed = items.remove(place);
+    if index < items.len() {
+        let _removed = items.remove(index);
     }
 }
 
-/// Swaps an item with what stands at a place, where something does.
-pub(crate) fn swap_at<T>(items: &mut Vec<T>, place: usize, item: &mut T)
-    ensures items { items.new.items ≡ slice_set items.old.items place item.old }
-    ensures item { item.new ≡ slice_index_or items.old.items place item.old }
+/// Swaps an item with what stands at an index, where something does.
+pub(crate) fn swap_at<T>(items: &mut Vec<T>, index: usize, item: &mut T)
+    ensures items { items.new.items ≡ slice_set items.old.items index item.old }
+    ensures item { item.new ≡ slice_index_or items.old.items index item.old }
 {
-    if place < items.len() {
-        mem::swap(&mut items[place], item);
+    if index < items.len() {
+        mem::swap(&mut items[index], item);
     }
 }
 

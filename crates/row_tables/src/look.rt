@@ -18,9 +18,9 @@ use doc_model::ColDef;
 pub(crate) fn cells_of_row<'a>(rows: &[u32], cells: &'a [ValueList], row: u32) -> &'a [CellValue]
     ensures { result.now ≡ beside (λ q. nat_eq q row) rows.now cells.now [] }
 {
-    for (place, other) in rows.iter().enumerate() {
+    for (index, other) in rows.iter().enumerate() {
         if *other == row {
-            return match cells.get(place) {
+            return match cells.get(index) {
                 Some(list) => list.as_slice(),
                 None => &[],
             };
@@ -36,10 +36,10 @@ pub(crate) fn search_cells<'a>(rows: &[u32], cells: &'a [ValueList], row: u32) -
     requires { IsAscending rows.now }
     ensures { result.now ≡ beside (λ q. nat_eq q row) rows.now cells.now [] }
 {
-    let Ok(place) = search_row(rows, row) else {
+    let Ok(index) = search_row(rows, row) else {
         return &[];
     };
-    match cells.get(place) {
+    match cells.get(index) {
         Some(list) => list.as_slice(),
         None => &[],
     }
@@ -55,9 +55,9 @@ pub(crate) fn cell_in_row<'a>(
 ) -> Option<&'a CellValue>
     ensures { option_copied result ≡ found_beside (λ d. bytes_eq (column_id d) id.now) columns.now cells.now }
 {
-    for (place, column) in columns.iter().enumerate() {
+    for (index, column) in columns.iter().enumerate() {
         if column.id.as_str() == id.as_str() {
-            return cells.get(place);
+            return cells.get(index);
         }
     }
     None

@@ -12,79 +12,79 @@ ghost use Rattle.row_tables.specs.Steps.{is_record, plain_after, table_change, t
 
 use crate::RowTable;
 use crate::in_place::{insert_reserved, move_to, remove_at, swap_at};
-use crate::steps::{changed_table, place_by_row, place_of_table, table_named};
+use crate::steps::{changed_table, index_by_row, index_of_table, table_named};
 use cell_types::Name;
 use doc_model::{ColDef, DocAction};
 use std::alloc::AllocError;
 
-/// What takes back the change of a plain table: the table before it, the place of one that came, or
+/// What takes back the change of a plain table: the table before it, the index of one that came, or
 /// one that went, with room for all tables.
 #[derive(Drop)]
 pub(crate) enum PlainChange {
     Changed {
-        place: usize,
+        index: usize,
         old: RowTable,
     },
     Came {
-        place: usize,
+        index: usize,
     },
     Went {
-        place: usize,
+        index: usize,
         old: RowTable,
         room: Vec<RowTable>,
     },
 }
 
-// Puts another table at a place.
-fn replace_table(tables: &mut Vec<RowTable>, place: usize, new: RowTable) -> PlainChange
-    ensures done { tables.new.items ≡ slice_set tables.old.items place new }
+// Puts another table at an index.
+fn replace_table(tables: &mut Vec<RowTable>, index: usize, new: RowTable) -> PlainChange
+    ensures done { tables.new.items ≡ slice_set tables.old.items index new }
     ensures back { plain_back result tables.new.items ≡ tables.old.items }
     ensures fit { plain_fits result tables.new.items }
 {
     let mut old = new;
-    swap_at(tables, place, &mut old);
-    PlainChange::Changed { place, old }
+    swap_at(tables, index, &mut old);
+    PlainChange::Changed { index, old }
 }
 
-// Puts a table in at a place.
+// Puts a table in at an index.
 fn insert_table(
     tables: &mut Vec<RowTable>,
-    place: usize,
+    index: usize,
     new: RowTable,
 ) -> Result<PlainChange, AllocError>
-    requires { place ≤ vec_len tables.old }
-    ensures done { OnOk result (tables.new.items ≡ insert tables.old.items place new) }
+    requires { index ≤ vec_len tables.old }
+    ensures done { OnOk result (tables.new.items ≡ insert tables.old.items index new) }
     ensures back { IfOk result (λ change. plain_back change tables.new.items ≡ tables.old.items) }
     ensures fit { IfOk result (λ change. plain_fits change tables.new.items) }
     ensures err { OnErr result (tables.new.items ≡ tables.old.items) }
 {
-    tables.insert(place, new)?;
-    Ok(PlainChange::Came { place })
+    tables.insert(index, new)?;
+    Ok(PlainChange::Came { index })
 }
 
-// Takes the table at a place out, once there is room for all tables.
-fn take_table(tables: &mut Vec<RowTable>, place: usize) -> Result<PlainChange, AllocError>
-    requires { place < vec_len tables.old }
-    ensures done { OnOk result (tables.new.items ≡ remove tables.old.items place) }
+// Takes the table at an index out, once there is room for all tables.
+fn take_table(tables: &mut Vec<RowTable>, index: usize) -> Result<PlainChange, AllocError>
+    requires { index < vec_len tables.old }
+    ensures done { OnOk result (tables.new.items ≡ remove tables.old.items index) }
     ensures back { IfOk result (λ change. plain_back change tables.new.items ≡ tables.old.items) }
     ensures fit { IfOk result (λ change. plain_fits change tables.new.items) }
     ensures err { OnErr result (tables.new.items ≡ tables.old.items) }
 {
     let room = Vec::with_capacity(*tables.allocator(), tables.len())?;
-    let old = tables.remove(place);
-    Ok(PlainChange::Went { place, old, room })
+    let old = tables.remove(index);
+    Ok(PlainChange::Went { index, old, room })
 }
 
-// The place of the table of this id, which is there.
-fn found_place(tables: &[RowTable], id: &Name) -> usize
+// The index of the table of this id, which is there.
+fn found_index(tables: &[RowTable], id: &Name) -> usize
     requires { has_id table_id tables.now id.now ≡ true }
     ensures within { result < length tables.now }
     ensures found { slice_get tables.now result ≡ find_id table_id id.now tables.now }
 {
-    let Some(place) = place_of_table(tables, id) else {
+    let Some(index) = index_of_table(tables, id) else {
         unreachable!()
     };
-    place
+    index
 }
 
 // Adds a table without rows.
@@ -100,8 +100,8 @@ fn add_table(
     ensures err { OnErr result (tables.new.items ≡ tables.old.items) }
 {
     let new = RowTable::empty(*tables.allocator(), id, row, columns)?;
-    let place = place_by_row(tables, row);
-    insert_table(tables, place, new)
+    let index = index_by_row(tables, row);
+    insert_table(tables, index, new)
 }
 
 // Removes the table of this id.
@@ -113,8 +113,8 @@ fn remove_table(tables: &mut Vec<RowTable>, id: &Name) -> Result<PlainChange, Al
     ensures fit { IfOk result (λ change. plain_fits change tables.new.items) }
     ensures err { OnErr result (tables.new.items ≡ tables.old.items) }
 {
-    let place = found_place(tables, id);
-    take_table(tables, place)
+    let index = found_index(tables, id);
+    take_table(tables, index)
 }
 
 // Changes the table that the action names. That table alone is copied.
@@ -127,9 +127,9 @@ fn change_table(tables: &mut Vec<RowTable>, action: &DocAction) -> Result<PlainC
     ensures fit { IfOk result (λ change. plain_fits change tables.new.items) }
     ensures err { OnErr result (tables.new.items ≡ tables.old.items) }
 {
-    let place = found_place(tables, table_named(action));
-    let new = changed_table(&tables[place], action)?;
-    Ok(replace_table(tables, place, new))
+    let index = found_index(tables, table_named(action));
+    let new = changed_table(&tables[index], action)?;
+    Ok(replace_table(tables, index, new))
 }
 
 /// Changes the plain tables as a schema action does.
@@ -137,7 +137,7 @@ fn change_table(tables: &mut Vec<RowTable>, action: &DocAction) -> Result<PlainC
 /// All tables are walked: no schema action names a metadata table, and their row is 0, so that no
 /// new table goes before them.
 ///
-/// Errors: want of memory; all tables are then as they were. Cost: linear in the tables, which stay
+/// Errors: out of memory; all tables are then as they were. Cost: linear in the tables, which stay
 /// where they are or move by one place, and that of the changed table.
 pub(crate) fn change_plain(
     tables: &mut Vec<RowTable>,
@@ -170,14 +170,14 @@ pub(crate) fn take_plain_back(tables: &mut Vec<RowTable>, change: PlainChange)
     ensures { tables.new.items ≡ plain_back change tables.old.items }
 {
     match change {
-        PlainChange::Changed { place, old } => {
+        PlainChange::Changed { index, old } => {
             let mut table = old;
-            swap_at(tables, place, &mut table);
+            swap_at(tables, index, &mut table);
         }
-        PlainChange::Came { place } => remove_at(tables, place),
-        PlainChange::Went { place, old, room } => {
+        PlainChange::Came { index } => remove_at(tables, index),
+        PlainChange::Went { index, old, room } => {
             let mut all = move_to(tables, room);
-            insert_reserved(&mut all, place, old);
+            insert_reserved(&mut all, index, old);
             *tables = all;
         }
     }

@@ -4,14 +4,14 @@ ghost use Rattle.std.specs.Prelude.{◌≡◌, true, false, IfOk, OnErr, OnOk};
 ghost use Rattle.doc_model.specs.Apply.{apply};
 ghost use Rattle.doc_model.specs.DocumentLaws.{IsWhole};
 ghost use Rattle.doc_model.specs.Valid.{valid};
-ghost use Rattle.row_tables.specs.Back.{has_place, put_back};
+ghost use Rattle.row_tables.specs.Back.{has_index, put_back};
 ghost use Rattle.row_tables.specs.Steps.{is_record};
 
 use crate::RowTable;
 use crate::change::Change;
 use crate::plain_change::{PlainChange, change_plain, take_plain_back};
 use crate::schema::{SchemaTables, schema_tables, swap_schema};
-use crate::steps::{is_record, place_of_table, table_named};
+use crate::steps::{index_of_table, is_record, table_named};
 use doc_model::DocAction;
 use std::alloc::AllocError;
 
@@ -20,7 +20,7 @@ use std::alloc::AllocError;
 #[derive(Drop)]
 pub(crate) enum Replaced {
     Changed {
-        place: usize,
+        index: usize,
         change: Change,
     },
     Schema {
@@ -33,7 +33,7 @@ pub(crate) enum Replaced {
 ///
 /// Memory: none.
 pub(crate) fn put_back(tables: &mut Vec<RowTable>, replaced: Replaced)
-    requires { has_place replaced tables.old.items }
+    requires { has_index replaced tables.old.items }
     ensures { tables.new.items ≡ put_back replaced tables.old.items }
 {
     match replaced {
@@ -41,9 +41,9 @@ pub(crate) fn put_back(tables: &mut Vec<RowTable>, replaced: Replaced)
             let _after = swap_schema(tables, schema);
             take_plain_back(tables, change);
         }
-        Replaced::Changed { place, change } => {
-            if place < tables.len() {
-                tables[place].take_back(change);
+        Replaced::Changed { index, change } => {
+            if index < tables.len() {
+                tables[index].take_back(change);
             }
         }
     }
@@ -57,7 +57,7 @@ fn schema_put(tables: &mut Vec<RowTable>, action: &DocAction) -> Result<Replaced
     requires schema { is_record action.now ≡ false }
     ensures done { OnOk result (tables.new.items ≡ apply tables.old.items action.now) }
     ensures back { IfOk result (λ replaced. put_back replaced tables.new.items ≡ tables.old.items) }
-    ensures fit { IfOk result (λ replaced. has_place replaced tables.new.items) }
+    ensures fit { IfOk result (λ replaced. has_index replaced tables.new.items) }
     ensures err { OnErr result (tables.new.items ≡ tables.old.items) }
 {
     let alloc = *tables.allocator();
@@ -81,19 +81,19 @@ fn record_put(tables: &mut Vec<RowTable>, action: &DocAction) -> Result<Replaced
     requires record { is_record action.now ≡ true }
     ensures done { OnOk result (tables.new.items ≡ apply tables.old.items action.now) }
     ensures back { IfOk result (λ replaced. put_back replaced tables.new.items ≡ tables.old.items) }
-    ensures fit { IfOk result (λ replaced. has_place replaced tables.new.items) }
+    ensures fit { IfOk result (λ replaced. has_index replaced tables.new.items) }
     ensures err { OnErr result (tables.new.items ≡ tables.old.items) }
 {
-    let Some(place) = place_of_table(tables, table_named(action)) else {
+    let Some(index) = index_of_table(tables, table_named(action)) else {
         unreachable!()
     };
-    let change = tables[place].put(action)?;
-    Ok(Replaced::Changed { place, change })
+    let change = tables[index].put(action)?;
+    Ok(Replaced::Changed { index, change })
 }
 
 /// Applies an action.
 ///
-/// Errors: want of memory; all tables are then as they were.
+/// Errors: out of memory; all tables are then as they were.
 pub(crate) fn action_put(
     tables: &mut Vec<RowTable>,
     action: &DocAction,
@@ -102,7 +102,7 @@ pub(crate) fn action_put(
     requires valid { valid tables.old.items action.now ≡ true }
     ensures done { OnOk result (tables.new.items ≡ apply tables.old.items action.now) }
     ensures back { IfOk result (λ replaced. put_back replaced tables.new.items ≡ tables.old.items) }
-    ensures fit { IfOk result (λ replaced. has_place replaced tables.new.items) }
+    ensures fit { IfOk result (λ replaced. has_index replaced tables.new.items) }
     ensures err { OnErr result (tables.new.items ≡ tables.old.items) }
 {
     if is_record(action) {

@@ -1,4 +1,4 @@
-//! Rows that go, each from its place.
+//! Rows that go, each from its index.
 
 ghost use Rattle.std.specs.Prelude.{◌≡◌, ◌≤◌, ◌+◌, IfOk, OnErr, OnOk, length, vec_capacity, vec_len};
 ghost use Rattle.doc_model.specs.Column.{column_id};
@@ -14,10 +14,10 @@ use crate::search::search_row;
 use cell_types::ValueList;
 use std::alloc::AllocError;
 
-/// A row that is gone, its place, and its cells.
+/// A row that is gone, its index, and its cells.
 #[derive(Drop)]
 pub(crate) struct TakenRow {
-    pub(crate) place: usize,
+    pub(crate) index: usize,
     pub(crate) row: u32,
     pub(crate) cells: ValueList,
 }
@@ -49,10 +49,10 @@ fn take_out(
     ensures cells_len { vec_len cells.new + vec_len taken.new ≡ vec_len cells.old }
 {
     for row in gone {
-        if let Ok(place) = search_row(rows, *row) {
-            let row = rows.remove(place);
-            let cells = cells.remove(place);
-            taken.push_reserved(TakenRow { place, row, cells });
+        if let Ok(index) = search_row(rows, *row) {
+            let row = rows.remove(index);
+            let cells = cells.remove(index);
+            taken.push_reserved(TakenRow { index, row, cells });
         }
     }
 }
@@ -66,8 +66,8 @@ fn put_again(rows: &mut Vec<u32>, cells: &mut Vec<ValueList>, taken: Vec<TakenRo
 {
     let mut taken = taken;
     while let Some(last) = taken.pop() {
-        insert_reserved(rows, last.place, last.row);
-        insert_reserved(cells, last.place, last.cells);
+        insert_reserved(rows, last.index, last.row);
+        insert_reserved(cells, last.index, last.cells);
     }
 }
 

@@ -2,9 +2,9 @@
 
 ghost use Rattle.std.specs.Prelude.{◌≡◌};
 ghost use Rattle.doc_model.specs.Rows.{IsAscending};
-ghost use Rattle.row_tables.specs.RowPlaces.{row_search};
+ghost use Rattle.row_tables.specs.RowIndexes.{row_search};
 
-/// The place of a row, or where it would go.
+/// The index of a row, or where it would go.
 ///
 /// Memory: none. Cost: the logarithm of the number of rows.
 pub(crate) fn search_row(rows: &[u32], row: u32) -> Result<usize, usize>

@@ -1,9 +1,9 @@
-//! Document actions as changes of one table, and the place of that table.
+//! Document actions as changes of one table, and the index of that table.
 
 ghost use Rattle.std.specs.Prelude.{◌≡◌, ◌<◌, false, None, IfOk, MatchOption, length, slice_get};
 ghost use Rattle.doc_model.specs.ByIds.{find_id};
 ghost use Rattle.doc_model.specs.Document.{table_id};
-ghost use Rattle.row_tables.specs.Steps.{is_record, table_change, table_named, table_place};
+ghost use Rattle.row_tables.specs.Steps.{is_record, table_change, table_named, table_index};
 
 use crate::RowTable;
 use cell_types::Name;
@@ -56,15 +56,15 @@ pub(crate) fn changed_table(table: &RowTable, action: &DocAction) -> Result<RowT
     }
 }
 
-/// The place of the table of this id.
+/// The index of the table of this id.
 ///
 /// Memory: none. Cost: linear in the tables.
-pub(crate) fn place_of_table(tables: &[RowTable], id: &Name) -> Option<usize>
+pub(crate) fn index_of_table(tables: &[RowTable], id: &Name) -> Option<usize>
     ensures { MatchOption result (find_id table_id id.now tables.now ≡ None) (λ k. (k < length tables.now) × (slice_get tables.now k ≡ find_id table_id id.now tables.now)) }
 {
-    for (place, table) in tables.iter().enumerate() {
+    for (index, table) in tables.iter().enumerate() {
         if table.id().as_str() == id.as_str() {
-            return Some(place);
+            return Some(index);
         }
     }
     None
@@ -73,12 +73,12 @@ pub(crate) fn place_of_table(tables: &[RowTable], id: &Name) -> Option<usize>
 /// Where a table of that row goes: before the first one with a greater row.
 ///
 /// Memory: none. Cost: linear in the tables.
-pub(crate) fn place_by_row(tables: &[RowTable], row: u32) -> usize
-    ensures { result ≡ table_place row tables.now }
+pub(crate) fn index_by_row(tables: &[RowTable], row: u32) -> usize
+    ensures { result ≡ table_index row tables.now }
 {
-    for (place, table) in tables.iter().enumerate() {
+    for (index, table) in tables.iter().enumerate() {
         if row < table.row() {
-            return place;
+            return index;
         }
     }
     tables.len()

@@ -93,12 +93,12 @@ impl DocTables for RowTables {
 
     ghost fits = { λ back s. fits_back back.replaced s };
 
-    fn table(&self, place: usize) -> Option<&Name> {
-        Some(self.tables.get(place)?.id())
+    fn table(&self, index: usize) -> Option<&Name> {
+        Some(self.tables.get(index)?.id())
     }
 
-    fn column(&self, table: &Name, place: usize) -> Option<&ColDef> {
-        find_table(&self.tables, table)?.columns().get(place)
+    fn column(&self, table: &Name, index: usize) -> Option<&ColDef> {
+        find_table(&self.tables, table)?.columns().get(index)
     }
 
     fn rows(&self, table: &Name) -> Option<&[u32]> {

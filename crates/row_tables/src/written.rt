@@ -6,7 +6,7 @@ ghost use Rattle.doc_model.specs.Document.{on_grid};
 ghost use Rattle.doc_model.specs.Grid.{IsGrid};
 ghost use Rattle.doc_model.specs.Records.{update_rows};
 ghost use Rattle.doc_model.specs.Rows.{IsAscending};
-ghost use Rattle.row_tables.specs.InPlace.{all_writes, column_writes, id_place, on_rows, set_cell, written, written_back};
+ghost use Rattle.row_tables.specs.InPlace.{all_writes, column_writes, id_index, on_rows, set_cell, written, written_back};
 
 use crate::RowTable;
 use crate::in_place::swap_at;
@@ -16,7 +16,7 @@ use doc_model::{CellColumn, ColDef};
 use std::alloc::{AllocError, Global};
 use std::mem;
 
-/// A value for the cell at the places of a row and a column.
+/// A value for the cell at the indexes of a row and a column.
 #[derive(Drop)]
 pub(crate) struct Write {
     pub(crate) row: usize,
@@ -24,13 +24,13 @@ pub(crate) struct Write {
     pub(crate) value: CellValue,
 }
 
-// The place of the column of this id, or the end.
-fn place_of_id(columns: &[ColDef], id: &Name) -> usize
-    ensures { result ≡ id_place id.now columns.now }
+// The index of the column of this id, or the end.
+fn index_of_id(columns: &[ColDef], id: &Name) -> usize
+    ensures { result ≡ id_index id.now columns.now }
 {
-    for (place, column) in columns.iter().enumerate() {
+    for (index, column) in columns.iter().enumerate() {
         if id.as_str() == column.id.as_str() {
-            return place;
+            return index;
         }
     }
     columns.len()
@@ -47,8 +47,8 @@ fn note_column(
     requires { IsAscending there.now }
     ensures { OnOk result (writes.new.items ≡ writes.old.items ++ column_writes there.now column rows.now values.now) }
 {
-    for (place, row) in rows.iter().enumerate() {
-        let Some(value) = values.get(place) else {
+    for (index, row) in rows.iter().enumerate() {
+        let Some(value) = values.get(index) else {
             return Ok(());
         };
         if let Ok(row) = search_row(there, *row) {
@@ -62,13 +62,13 @@ fn note_column(
     Ok(())
 }
 
-// Swaps a value with the one at a place of a list.
-fn swap_value(alloc: Global, list: &mut ValueList, place: usize, value: &mut CellValue)
-    ensures list { list.new ≡ slice_set list.old place value.old }
-    ensures value { value.new ≡ slice_index_or list.old place value.old }
+// Swaps a value with the one at an index of a list.
+fn swap_value(alloc: Global, list: &mut ValueList, index: usize, value: &mut CellValue)
+    ensures list { list.new ≡ slice_set list.old index value.old }
+    ensures value { value.new ≡ slice_index_or list.old index value.old }
 {
     let mut cells = mem::replace(list, ValueList::new(alloc)).into_vec();
-    swap_at(&mut cells, place, value);
+    swap_at(&mut cells, index, value);
     *list = ValueList::from(cells);
 }
 
@@ -98,8 +98,8 @@ fn swap_cells(cells: &mut Vec<ValueList>, writes: &mut Vec<Write>)
     ensures done { cells.new.items ≡ written writes.old.items cells.old.items }
     ensures back { written_back writes.new.items cells.new.items ≡ cells.old.items }
 {
-    for place in 0..writes.len() {
-        swap_cell(cells, &mut writes[place]);
+    for index in 0..writes.len() {
+        swap_cell(cells, &mut writes[index]);
     }
 }
 
@@ -111,11 +111,11 @@ impl RowTable {
     {
         let mut writes = Vec::new(self.alloc());
         for column in given {
-            let place = place_of_id(&self.columns, &column.id);
+            let index = index_of_id(&self.columns, &column.id);
             note_column(
                 &mut writes,
                 &self.rows,
-                place,
+                index,
                 rows,
                 column.values.as_slice(),
             )?;

@@ -99,7 +99,7 @@ impl<M: Machine> Gate<M> {
     /// Makes a gate round a machine, with its passes.
     ///
     /// The passes are numbered from 0, and each has seen the history that the machine brought.
-    /// Errors: `NoGate`, which is want of memory and hands the machine back.
+    /// Errors: `NoGate`, which is out of memory and hands the machine back.
     /// Memory: the list of the passes, one word and one slot.
     pub fn new(alloc: Global, machine: M, passes: u32) -> Result<(Gate<M>, PassList<M>), NoGate<M>>
         requires { (0 < passes) × (passes ≤ 64) }

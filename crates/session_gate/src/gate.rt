@@ -49,7 +49,7 @@ impl<M: Machine> Gate<M> {
     ///
     /// It may wait: a thread that finds the turn held sleeps until one is returned and spends no
     /// processor time. That it is ever served, or in which order, is not promised.
-    /// Errors: want of memory in the machine's step; the pass may then have seen more, but no call
+    /// Errors: out of memory in the machine's step; the pass may then have seen more, but no call
     /// of its own is added.
     /// Memory: none but the step's. Cost: the step, and a few atomic steps.
     pub fn call<R: Threads + Wait + Sync>(

@@ -41,7 +41,7 @@ pub trait Machine {
 
     /// Takes one event, and answers it.
     ///
-    /// Errors: want of memory; the history is then as it was.
+    /// Errors: out of memory; the history is then as it was.
     fn step<R: Threads + Wait + Sync>(
         &mut self,
         rt: &R,

@@ -98,7 +98,7 @@ new_name s id c new h =
 
 -- the table of an action that is allowed has a name
 pub action_named : (s : Document) → IsWhole s → (a : UserAction) → is_allowed s a ≡ true → is_name (table_of a) ≡ true
-action_named s w (Add table single count explicit ks) h = table_named s w table (λ t. list_all (may_give t.grid) ks) h
+action_named s w (Add table single count has_row_ids ks) h = table_named s w table (λ t. list_all (may_give t.grid) ks) h
 action_named s w (Update table single rows ks) h = table_named s w table (λ t. may_name t.grid.rows rows && list_all (may_give t.grid) ks) h
 action_named s w (Remove table single rows) h = table_named s w table (λ t. may_name t.grid.rows rows) h
 action_named s w (AddTable table cs) h = (and_parts (is_name table) (list_all has_good_id cs) (and_parts (is_name table && list_all has_good_id cs) (list_all is_plain cs) h).0).0

@@ -21,7 +21,7 @@ in_schema-only : (v : List ViewTable) (table : List ℕ) (rest : ViewTable → O
 in_schema-only v table rest = ap (λ o. against (is_metadata_id table) objection.MetaTable o) (in_table-only v table rest)
 
 pub objection_to-only : OneTableLaw
-objection_to-only v (Add table single count explicit ks) = in_records-only v table (λ t. to_records t (Add table single count explicit ks))
+objection_to-only v (Add table single count has_row_ids ks) = in_records-only v table (λ t. to_records t (Add table single count has_row_ids ks))
 objection_to-only v (Update table single rows ks) = in_records-only v table (λ t. to_records t (Update table single rows ks))
 objection_to-only v (Remove table single rows) = in_records-only v table (λ t. to_records t (Remove table single rows))
 objection_to-only v (AddTable table cs) = refl

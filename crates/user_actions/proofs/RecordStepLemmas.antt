@@ -21,7 +21,7 @@ use Rattle.doc_model.specs.DocumentLaws.{IsWhole}
 use Rattle.doc_model.specs.Grid.{Grid}
 use Rattle.doc_model.specs.MetadataIds.{is_schema_id, is_acl_id}
 use Rattle.doc_model.specs.Records.{given_id}
-use Rattle.doc_model.specs.Rows.{IsAscending, all_in, has, is_once, none_in}
+use Rattle.doc_model.specs.Rows.{IsAscending, all_in, has, has_no_duplicates, none_in}
 use Rattle.doc_model.specs.Schema.{no_grid}
 use Rattle.doc_model.specs.Sound.{IsSoundGrid}
 use Rattle.doc_model.specs.Valid.{from_one, gives_column, gives_data, is_data, passes, record_table, schema_table, valid}
@@ -101,14 +101,14 @@ has_ids known (n ∷ ns) r h gone =
     int_itself : (z : ℤ) → int_eq z z ≡ true
     int_itself z = int_eq_equiv.refl z
 
-ids_once : (known : List ℕ) (ns : List ℤ) → are_once ns ≡ true → list_all (is_row known) ns ≡ true → is_once (row_ids ns) ≡ true
+ids_once : (known : List ℕ) (ns : List ℤ) → are_once ns ≡ true → list_all (is_row known) ns ≡ true → has_no_duplicates (row_ids ns) ≡ true
 ids_once known [] once h = refl
 ids_once known (n ∷ ns) once h =
     let o : (not (has_number ns n) ≡ true) × (are_once ns ≡ true) = and_parts (not (has_number ns n)) (are_once ns) once in
     let p : (is_row known n ≡ true) × (list_all (is_row known) ns ≡ true) = and_parts (is_row known n) (list_all (is_row known) ns) h in
     let m : (m : ℕ) × (n ≡ pos m) × (row_number n ≡ Some m) × (has known m ≡ true) = row_of known n p.0 in
     let absent : has_number ns (pos m.0) ≡ false = ap (has_number ns) (sym m.1) ∙ not_true (has_number ns n) o.0 in
-    both_true (not (has (row_ids ns) (unwrap_or (row_number n) 0))) (is_once (row_ids ns))
+    both_true (not (has (row_ids ns) (unwrap_or (row_number n) 0))) (has_no_duplicates (row_ids ns))
     (ap (λ q. not (has (row_ids ns) (unwrap_or q 0))) m.2 ∙ ap not (has_ids known ns m.0 p.1 absent)) (ids_once known ns o.1 p.1)
 
 -- rows of a sound table are from 1
@@ -182,12 +182,12 @@ module _ (fits : (ty : ColType) (vs : List CellValue) → list_all is_base vs �
       → valid s (BulkAdd table (numbers_after (last_row s table) count) (all_fitted s table ks)) ≡ true
   valid-add s table count ks may whole =
       let rows : List ℕ = numbers_after (last_row s table) count in
-      plain_records s table (λ t. list_all (may_give t.grid) ks) (λ t. is_once rows && from_one rows && none_in rows t.grid.rows && gives_data t.grid rows (all_fitted s table ks))
+      plain_records s table (λ t. list_all (may_give t.grid) ks) (λ t. has_no_duplicates rows && from_one rows && none_in rows t.grid.rows && gives_data t.grid rows (all_fitted s table ks))
       (λ t found m.
       let g : grid_at s table ≡ t.grid = grid_found s table t found in
-      both_true ((is_once rows && from_one rows) && none_in rows t.grid.rows) (gives_data t.grid rows (all_fitted s table ks))
-      (both_true (is_once rows && from_one rows) (none_in rows t.grid.rows)
-      (both_true (is_once rows) (from_one rows) (once_ascending rows (numbers_ascend (last_row s table) count)) (above_from_one (last_row s table) rows (numbers_above (last_row s table) count)))
+      both_true ((has_no_duplicates rows && from_one rows) && none_in rows t.grid.rows) (gives_data t.grid rows (all_fitted s table ks))
+      (both_true (has_no_duplicates rows && from_one rows) (none_in rows t.grid.rows)
+      (both_true (has_no_duplicates rows) (from_one rows) (once_ascending rows (numbers_ascend (last_row s table) count)) (above_from_one (last_row s table) rows (numbers_above (last_row s table) count)))
       (ap (λ (x : Grid ColDef). none_in rows x.rows) (sym g) ∙ above_none_in rows (grid_at s table).rows (numbers_above (last_row s table) count)))
       (ap (λ (x : Grid ColDef). gives_data t.grid rows (map (fitted x) ks)) g
       ∙ data_given t.grid rows ks m (ap (λ n. are_whole n ks) (length-numbers_after (last_row s table) count) ∙ whole))) may
@@ -199,21 +199,21 @@ module _ (fits : (ty : ColType) (vs : List CellValue) → list_all is_base vs �
       → passes (schema_table s table) (λ t. may_name t.grid.rows rows && list_all (may_give t.grid) ks) ≡ true → are_whole (length rows) ks ≡ true
       → valid s (BulkUpdate table (row_ids rows) (all_fitted s table ks)) ≡ true
   valid-update s w table rows ks may whole =
-      plain_records s table (λ t. may_name t.grid.rows rows && list_all (may_give t.grid) ks) (λ t. is_once (row_ids rows) && from_one (row_ids rows) && all_in (row_ids rows) t.grid.rows && gives_data t.grid (row_ids rows) (all_fitted s table ks))
+      plain_records s table (λ t. may_name t.grid.rows rows && list_all (may_give t.grid) ks) (λ t. has_no_duplicates (row_ids rows) && from_one (row_ids rows) && all_in (row_ids rows) t.grid.rows && gives_data t.grid (row_ids rows) (all_fitted s table ks))
       (λ t found m.
       let g : grid_at s table ≡ t.grid = grid_found s table t found in
       let a : (may_name t.grid.rows rows ≡ true) × (list_all (may_give t.grid) ks ≡ true) = and_parts (may_name t.grid.rows rows) (list_all (may_give t.grid) ks) m in
       let b : (are_once rows ≡ true) × (list_all (is_row t.grid.rows) rows ≡ true) = and_parts (are_once rows) (list_all (is_row t.grid.rows) rows) a.0 in
       let known : all_in (row_ids rows) t.grid.rows ≡ true = ids_in t.grid.rows rows b.1 in
-      both_true ((is_once (row_ids rows) && from_one (row_ids rows)) && all_in (row_ids rows) t.grid.rows) (gives_data t.grid (row_ids rows) (all_fitted s table ks))
-      (both_true (is_once (row_ids rows) && from_one (row_ids rows)) (all_in (row_ids rows) t.grid.rows)
-      (both_true (is_once (row_ids rows)) (from_one (row_ids rows)) (ids_once t.grid.rows rows b.0 b.1) (low_ids t.grid.rows (row_ids rows) (sound_rows s w table t found) known)) known)
+      both_true ((has_no_duplicates (row_ids rows) && from_one (row_ids rows)) && all_in (row_ids rows) t.grid.rows) (gives_data t.grid (row_ids rows) (all_fitted s table ks))
+      (both_true (has_no_duplicates (row_ids rows) && from_one (row_ids rows)) (all_in (row_ids rows) t.grid.rows)
+      (both_true (has_no_duplicates (row_ids rows)) (from_one (row_ids rows)) (ids_once t.grid.rows rows b.0 b.1) (low_ids t.grid.rows (row_ids rows) (sound_rows s w table t found) known)) known)
       (ap (λ (x : Grid ColDef). gives_data t.grid (row_ids rows) (map (fitted x) ks)) g
       ∙ data_given t.grid (row_ids rows) ks a.1 (ap (λ n. are_whole n ks) (length-map rows (λ n. unwrap_or (row_number n) 0)) ∙ whole))) may
 
   pub valid-remove : (s : Document) (table : List ℕ) (rows : List ℤ) → passes (schema_table s table) (λ t. may_name t.grid.rows rows) ≡ true → valid s (BulkRemove table (row_ids rows)) ≡ true
   valid-remove s table rows may =
-      plain_records s table (λ t. may_name t.grid.rows rows) (λ t. is_once (row_ids rows) && all_in (row_ids rows) t.grid.rows)
+      plain_records s table (λ t. may_name t.grid.rows rows) (λ t. has_no_duplicates (row_ids rows) && all_in (row_ids rows) t.grid.rows)
       (λ t found m.
       let b : (are_once rows ≡ true) × (list_all (is_row t.grid.rows) rows ≡ true) = and_parts (are_once rows) (list_all (is_row t.grid.rows) rows) m in
-      both_true (is_once (row_ids rows)) (all_in (row_ids rows) t.grid.rows) (ids_once t.grid.rows rows b.0 b.1) (ids_in t.grid.rows rows b.1)) may
+      both_true (has_no_duplicates (row_ids rows)) (all_in (row_ids rows) t.grid.rows) (ids_once t.grid.rows rows b.0 b.1) (ids_in t.grid.rows rows b.1)) may

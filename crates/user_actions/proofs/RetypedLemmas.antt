@@ -22,7 +22,7 @@ use Rattle.doc_model.specs.Column.{column_id, is_base, is_empty, is_short, is_so
 use Rattle.doc_model.specs.Document.{Table, Document, table_id, on_grid, with_table}
 use Rattle.doc_model.specs.DocumentLaws.{IsWhole}
 use Rattle.doc_model.specs.Grid.{Grid, cell}
-use Rattle.doc_model.specs.Rows.{has, is_once, all_in, IsAscending}
+use Rattle.doc_model.specs.Rows.{has, has_no_duplicates, all_in, IsAscending}
 use Rattle.doc_model.specs.Same.{same_type, same_value}
 use Rattle.doc_model.specs.Schema.{with_schema, resources, rules, plain_tables, no_grid}
 use Rattle.doc_model.specs.Sound.{IsSoundGrid}
@@ -137,10 +137,10 @@ module _ (r u : Grid ColDef) (p : List Table) (good : IsGood r u p) (table : Lis
 
     valid_refitted : valid after (action.BulkUpdate table rows (given ∷ [])) ≡ true
     valid_refitted =
-        ap (λ o. passes o (λ x. is_once rows && from_one rows && all_in rows x.grid.rows && gives_data x.grid rows (given ∷ []))) (record_table_plain r u (with_table table (on_grid changed) p) table plain ∙ found_after)
-        ∙ both_true ((is_once rows && from_one rows) && all_in rows t.grid.rows) (gives_data (changed t.grid) rows (given ∷ []))
-        (both_true (is_once rows && from_one rows) (all_in rows t.grid.rows)
-        (both_true (is_once rows) (from_one rows) (once_ascending rows ascend) (from_one_in rows t.grid sound_t known))
+        ap (λ o. passes o (λ x. has_no_duplicates rows && from_one rows && all_in rows x.grid.rows && gives_data x.grid rows (given ∷ []))) (record_table_plain r u (with_table table (on_grid changed) p) table plain ∙ found_after)
+        ∙ both_true ((has_no_duplicates rows && from_one rows) && all_in rows t.grid.rows) (gives_data (changed t.grid) rows (given ∷ []))
+        (both_true (has_no_duplicates rows && from_one rows) (all_in rows t.grid.rows)
+        (both_true (has_no_duplicates rows) (from_one rows) (once_ascending rows ascend) (from_one_in rows t.grid sound_t known))
         known) gives_refitted
 
   valid_retyped : ((ty : ColType) (v : CellValue) → is_base v ≡ true → is_base (fit ty v) ≡ true) → is_sound_info info ≡ true → all_valid whole (map action_of (retyped table t.grid d info)) ≡ true

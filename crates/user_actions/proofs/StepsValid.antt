@@ -37,7 +37,7 @@ other_valid s true a h = refl
 other_valid s false a h = one_valid s a (h refl)
 
 pub all_valid-steps_of : (s : Document) → IsWhole s → (a : UserAction) → is_allowed s a ≡ true → is_well_formed a ≡ true → HasFresh s a → all_valid s (map action_of (steps_of s a)) ≡ true
-all_valid-steps_of s w (Add table single count explicit ks) h whole fresh = one_valid s (action.BulkAdd table (numbers_after (last_row s table) count) (all_fitted s table ks)) (valid-add all_base-fit s table count ks h whole)
+all_valid-steps_of s w (Add table single count has_row_ids ks) h whole fresh = one_valid s (action.BulkAdd table (numbers_after (last_row s table) count) (all_fitted s table ks)) (valid-add all_base-fit s table count ks h whole)
 all_valid-steps_of s w (Update table single rows ks) h whole fresh =
     any_valid s (row_ids rows) (action.BulkUpdate table (row_ids rows) (all_fitted s table ks)) (valid-update all_base-fit s w table rows ks h whole)
 all_valid-steps_of s w (Remove table single rows) h whole fresh = one_valid s (action.BulkRemove table (row_ids rows)) (valid-remove all_base-fit s table rows h)

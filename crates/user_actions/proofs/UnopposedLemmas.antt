@@ -165,9 +165,9 @@ change_none s t p c h =
     not_false false e = absurd (true≢false e)
 
 pub is_allowed-unopposed : UnopposedLaw
-is_allowed-unopposed s (Add table single count explicit ks) u =
-    records_none s u.view u.shown table (λ t. to_records t (Add table single count explicit ks)) (λ t. list_all (may_give t.grid) ks)
-    (λ t p none. columns_none s t p ks (against explicit objection.BadValue (on_values ks)) (λ n. values_none ks (against_none explicit objection.BadValue (on_values ks) n).1) none) u.none
+is_allowed-unopposed s (Add table single count has_row_ids ks) u =
+    records_none s u.view u.shown table (λ t. to_records t (Add table single count has_row_ids ks)) (λ t. list_all (may_give t.grid) ks)
+    (λ t p none. columns_none s t p ks (against has_row_ids objection.BadValue (on_values ks)) (λ n. values_none ks (against_none has_row_ids objection.BadValue (on_values ks) n).1) none) u.none
 is_allowed-unopposed s (Update table single rows ks) u =
     records_none s u.view u.shown table (λ t. to_records t (Update table single rows ks)) (λ t. may_name t.grid.rows rows && list_all (may_give t.grid) ks)
     (λ t p none.

@@ -1,4 +1,4 @@
--- A walk over things by their places, and the greatest of rows that ascend.
+-- A walk over things by their indexes, and the greatest of rows that ascend.
 use Rattle.std.specs.Prelude.{ℤ, ◌==◌}
 use Rattle.std.proofs.Common.{ℕ, zero, suc, ◌+◌, ◌-◌, ◌<◌, false, List, [], ◌∷◌, ◌++◌, map, length, length-append, take, slice_get, get_or, ◌≡◌, refl, sym, ap, ◌∙◌, Some, None, arith, ltb}
 use Rattle.std.proofs.lemmas.Option.{slice_get_within, get_or_from_slice_get}
@@ -40,7 +40,7 @@ all_taken (x ∷ all) (suc n) h = ap (λ l. x ∷ l) (all_taken all n h)
 pub walk_end : {X Y : Type 0} (f : X → Y) (all : List X) (ys : List Y) (n : ℕ) → n ≡ length ys → ys ≡ map f (take (length ys) all) → slice_get all n ≡ None → ys ≡ map f all
 walk_end f all ys n counts so past = so ∙ ap (λ k. map f (take k all)) (sym counts) ∙ ap (map f) (all_taken all n past)
 
--- the table at a place
+-- the table at an index
 pub table_read : (s : Document) (i : ℕ) (id : List ℕ) → table_at s i ≡ Some id → (t : Table) × (slice_get s i ≡ Some t) × (id ≡ t.id)
 table_read s i id h = elim (slice_get s i) as (λ o. slice_get s i ≡ o → option_map table_id o ≡ Some id → (t : Table) × (slice_get s i ≡ Some t) × (id ≡ t.id)) [
   | None ↦ λ is e. absurd (cc)
@@ -73,12 +73,12 @@ greatest_last (r ∷ q ∷ rows) h (suc i) e =
     cond_true (ltb r (greatest (q ∷ rows))) (greatest (q ∷ rows)) r (lt-ltb r (greatest (q ∷ rows)) (omega (arith, rest, above))) ∙ rest
 
 -- the next of so many numbers after one
-pub numbers_next : (last place count : ℕ) → place < count
-    → numbers_after (last + place) (count - place) ≡ (last + place + 1) ∷ numbers_after (last + (place + 1)) (count - (place + 1))
-numbers_next last place count lt =
-    let left : count - place ≡ suc (count - (place + 1)) = omega (arith, lt) in
-    let next : last + place + 1 ≡ last + (place + 1) = omega arith in
-    ap (numbers_after (last + place)) left ∙ ap (λ n. (last + place + 1) ∷ numbers_after n (count - (place + 1))) next
+pub numbers_next : (last index count : ℕ) → index < count
+    → numbers_after (last + index) (count - index) ≡ (last + index + 1) ∷ numbers_after (last + (index + 1)) (count - (index + 1))
+numbers_next last index count lt =
+    let left : count - index ≡ suc (count - (index + 1)) = omega (arith, lt) in
+    let next : last + index + 1 ≡ last + (index + 1) = omega arith in
+    ap (numbers_after (last + index)) left ∙ ap (λ n. (last + index + 1) ∷ numbers_after n (count - (index + 1))) next
 
 -- where a row is given, something is done
 pub any_row : {X : Type 0} (rows : List ℤ) (x : X) → (length rows == 0) ≡ false → if_any (row_ids rows) x ≡ x ∷ []

@@ -26,7 +26,7 @@ may_name known rows = are_once rows && list_all (is_row known) rows
 
 -- whether the document has what the action names, and the action gives what may be given
 abbrev pub is_allowed : Document → UserAction → Bool
-is_allowed s (Add table single count explicit ks) = passes (schema_table s table) (λ t.
+is_allowed s (Add table single count has_row_ids ks) = passes (schema_table s table) (λ t.
     list_all (may_give t.grid) ks)
 is_allowed s (Update table single rows ks) = passes (schema_table s table) (λ t.
     may_name t.grid.rows rows && list_all (may_give t.grid) ks)

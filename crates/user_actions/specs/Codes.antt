@@ -15,7 +15,7 @@ code_of objection.FormulaColumn = 11
 code_of objection.BadValue = 12
 code_of objection.BadName = 14
 
--- the refusal of the action at that place of its bundle
+-- the refusal of the action at that index of its bundle
 abbrev pub refusal_of : ℕ → Option Objection → Option Refusal
 refusal_of action None = None
 refusal_of action (Some this) = Some (Kind (code_of this) action)

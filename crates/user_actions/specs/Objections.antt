@@ -112,8 +112,8 @@ on_table table cs =
 
 -- a record action on a table that is there
 abbrev pub to_records : ViewTable → UserAction → Option Objection
-to_records t (Add table single count explicit ks) =
-    on_columns t ks (against explicit objection.BadValue (on_values ks))
+to_records t (Add table single count has_row_ids ks) =
+    on_columns t ks (against has_row_ids objection.BadValue (on_values ks))
 to_records t (Update table single rows ks) = on_rows t rows (on_columns t ks (on_values ks))
 to_records t (Remove table single rows) = on_rows t rows None
 to_records t _ = None

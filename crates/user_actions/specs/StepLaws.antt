@@ -27,7 +27,7 @@ are_whole count ks =
 
 -- whether an action gives each column once, with a value for each of its rows
 abbrev pub is_well_formed : UserAction → Bool
-is_well_formed (Add table single count explicit ks) = are_whole count ks
+is_well_formed (Add table single count has_row_ids ks) = are_whole count ks
 is_well_formed (Update table single rows ks) = are_whole (length rows) ks
 is_well_formed _ = true
 

@@ -120,7 +120,7 @@ modified table g c =
 
 -- the document actions of a user action; a rename to the own id is none
 abbrev pub steps_of : Document → UserAction → List Step
-steps_of s (user.Add table single count explicit ks) =
+steps_of s (user.Add table single count has_row_ids ks) =
     direct (action.BulkAdd table (numbers_after (last_row s table) count) (all_fitted s table ks)) ∷ []
 steps_of s (user.Update table single rows ks) =
     if_any (row_ids rows) (direct (action.BulkUpdate table (row_ids rows) (all_fitted s table ks)))
@@ -138,7 +138,7 @@ steps_of s (user.ModifyColumn table c) = modified table (grid_at s table) c
 
 -- the greatest of the new rows of an action, 0 where it makes none
 abbrev pub last_new_row : Document → UserAction → ℕ
-last_new_row s (user.Add table single count explicit ks) = last_row s table + count
+last_new_row s (user.Add table single count has_row_ids ks) = last_row s table + count
 last_new_row s (user.AddTable table cs) =
     max (last_row s tables_id + 1) (last_row s columns_id + length cs)
 last_new_row s (user.AddColumn table c) = last_row s columns_id + 1

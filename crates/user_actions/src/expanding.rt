@@ -115,7 +115,7 @@ fn makes_rows(action: &UserAction) -> bool
 /// The document actions that a user action stands for, in their order; nothing where a new row
 /// would pass the last row id, though they are valid there too. Limits are not asked here.
 ///
-/// Errors: want of memory. Cost: the rows and values that are given; a new type of a column costs
+/// Errors: out of memory. Cost: the rows and values that are given; a new type of a column costs
 /// all its cells, and a new id the ids beside it.
 /// Source: docs/DEFINITIONS.md, "user_actions".
 pub fn steps<D: DocTables>(

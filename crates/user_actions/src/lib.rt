@@ -23,8 +23,8 @@ mod refusing;
 mod retyping;
 mod rows;
 mod schema_steps;
+mod table_readers;
 mod tables;
-mod told;
 mod values;
 
 pub use expanding::steps;
@@ -32,4 +32,4 @@ pub use laws::{one_table_law, unopposed_law};
 pub use objection::Objection;
 pub use record_steps::row_ids;
 pub use refusing::{refuse, table_of};
-pub use told::last_row;
+pub use table_readers::last_row;

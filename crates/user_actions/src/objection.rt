@@ -45,7 +45,7 @@ impl Objection {
         }
     }
 
-    /// The refusal of the action at that place of its bundle.
+    /// The refusal of the action at that index of its bundle.
     pub fn refusal(self, action: u32) -> Refusal
         ensures { result ≡ Refusal.Kind (code_of self) action }
     {

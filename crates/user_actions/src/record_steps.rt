@@ -12,7 +12,7 @@ ghost use Rattle.user_actions.specs.Steps.{all_fitted, direct, fitted, last_row,
 ghost use Rattle.user_actions.specs.Allowed.{has_name};
 
 use crate::rows::row_number;
-use crate::told::last_row;
+use crate::table_readers::last_row;
 use cell_types::{CellValue, ColType, Name, RowList, ValueList, convert};
 use doc_model::{
     CellColumn, ColumnList, DocAction, DocTables, LAST_ROW_ID, Step, StepList, UserColumn,
@@ -27,15 +27,15 @@ fn new_rows(alloc: Global, last: u32, count: u32) -> Result<RowList, AllocError>
     ensures { IfOk result (λ rows. rows ≡ numbers_after last count) }
 {
     let mut rows = Vec::with_capacity(alloc, count as usize)?;
-    for place in 0..count {
-        rows.push(last + place + 1)?;
+    for index in 0..count {
+        rows.push(last + index + 1)?;
     }
     Ok(RowList::from(rows))
 }
 
 /// The rows that were written; a number that is no row id is 0, which no table has.
 ///
-/// Errors: want of memory.
+/// Errors: out of memory.
 pub fn row_ids(alloc: Global, rows: &[i64]) -> Result<RowList, AllocError>
     ensures { IfOk result (λ l. l ≡ row_ids rows.now) }
 {

@@ -64,8 +64,8 @@ fn on_values(given: &[UserColumn]) -> Option<Objection>
 }
 
 // The columns that an action gives values; the next objection is that a row id is given.
-fn on_columns(table: &ViewTable, explicit: bool, given: &[UserColumn]) -> Option<Objection>
-    ensures { result ≡ on_columns table.now given.now (against explicit BadValue (on_values given.now)) }
+fn on_columns(table: &ViewTable, has_row_ids: bool, given: &[UserColumn]) -> Option<Objection>
+    ensures { result ≡ on_columns table.now given.now (against has_row_ids BadValue (on_values given.now)) }
 {
     let columns = table.columns.as_slice();
     if !are_shown(columns, given) {
@@ -74,7 +74,7 @@ fn on_columns(table: &ViewTable, explicit: bool, given: &[UserColumn]) -> Option
     if is_any_computed(columns, given) {
         return Some(Objection::FormulaColumn);
     }
-    if explicit {
+    if has_row_ids {
         return Some(Objection::BadValue);
     }
     on_values(given)
@@ -173,10 +173,10 @@ fn to_records(
 {
     match action {
         UserAction::Add {
-            explicit,
+            has_row_ids,
             columns,
             ..
-        } => Ok(on_columns(table, *explicit, columns.as_slice())),
+        } => Ok(on_columns(table, *has_row_ids, columns.as_slice())),
         UserAction::Update { rows, columns, .. } => {
             let next = on_columns(table, false, columns.as_slice());
             on_rows(alloc, table, rows.as_slice(), next)
@@ -249,10 +249,10 @@ fn objection_to(
     }
 }
 
-/// Why the action at that place of its bundle is refused, by its user's view alone; nothing where
+/// Why the action at that index of its bundle is refused, by its user's view alone; nothing where
 /// nothing stands against it. Limits and access rules are not asked here.
 ///
-/// Errors: want of memory. Cost: the tables, the columns of the one that is named times those that
+/// Errors: out of memory. Cost: the tables, the columns of the one that is named times those that
 /// are given, and the rows and values that are given.
 /// Source: docs/PROTOCOL.md, "refusals".
 pub fn refuse(

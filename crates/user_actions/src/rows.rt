@@ -20,7 +20,7 @@ fn note(seen: &mut BTreeSet<i64>, number: &i64) -> Result<bool, AllocError>
     Ok(seen.insert(*number)?)
 }
 
-// The number that stands so many places before the end.
+// The number that stands so many indexes before the end.
 fn number_before(numbers: &[i64], taken: usize) -> &i64
     requires { taken < length numbers.now }
     ensures { drop (length numbers.now - (taken + 1)) numbers.now ≡ result.now ∷ drop (length numbers.now - taken) numbers.now }

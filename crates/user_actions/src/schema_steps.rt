@@ -14,7 +14,7 @@ ghost use Rattle.user_actions.specs.Steps.{column_ids, column_said, direct, info
 
 use crate::infos::type_of;
 use crate::record_steps::direct;
-use crate::told::{column_ids, last_row, table_ids};
+use crate::table_readers::{column_ids, last_row, table_ids};
 use cell_types::{CellText, ColType, Name};
 use doc_model::{
     ColDef, ColDefList, ColInfo, DocAction, DocTables, LAST_ROW_ID, StepList, UserCol,

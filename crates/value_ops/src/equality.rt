@@ -66,8 +66,8 @@ fn equal_items(left: &[CellItem], right: &[CellItem]) -> bool
     if left.len() != right.len() {
         return false;
     }
-    for place in 0..left.len() {
-        if !equal_item(&left[place], &right[place]) {
+    for index in 0..left.len() {
+        if !equal_item(&left[index], &right[index]) {
             return false;
         }
     }

@@ -303,10 +303,10 @@ fn compares(alloc: Global, value: Sample, other: Sample, want: bool) -> bool {
     are_same(&value_of(alloc, value), &copied(alloc, other), want)
 }
 
-// Whether a value is the same as the copy of the value at its own place, and as no other copy.
-fn is_copy_alone(alloc: Global, value: Sample, place: usize) -> bool {
+// Whether a value is the same as the copy of the value at its own index, and as no other copy.
+fn is_copy_alone(alloc: Global, value: Sample, index: usize) -> bool {
     for (at, other) in TEXTS.iter().enumerate() {
-        if !compares(alloc, value, other.0, at == place) {
+        if !compares(alloc, value, other.0, at == index) {
             return false;
         }
     }
@@ -315,7 +315,7 @@ fn is_copy_alone(alloc: Global, value: Sample, place: usize) -> bool {
 
 #[test]
 fn values_are_the_same_as_their_copies_alone(rt: HostRuntime) {
-    for (place, row) in TEXTS.iter().enumerate() {
-        assert!(rt; is_copy_alone(rt.alloc(), row.0, place), "at {}", row.1);
+    for (index, row) in TEXTS.iter().enumerate() {
+        assert!(rt; is_copy_alone(rt.alloc(), row.0, index), "at {}", row.1);
     }
 }

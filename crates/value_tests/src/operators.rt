@@ -392,8 +392,8 @@ fn has_truth(alloc: Global, sample: Sample, want: bool) -> bool {
 
 #[test]
 fn empty_values_are_false(rt: HostRuntime) {
-    for (place, row) in TRUTHS.iter().enumerate() {
-        assert!(rt; has_truth(rt.alloc(), row.0, row.1), "at value {place}");
+    for (index, row) in TRUTHS.iter().enumerate() {
+        assert!(rt; has_truth(rt.alloc(), row.0, row.1), "at value {index}");
     }
 }
 

@@ -58,7 +58,7 @@ module _ (test : ℕ → Bool) (v : List ViewTable) (table : List ℕ) (rest : V
   in_schema-passing = ap (λ o. against (is_metadata_id table) objection.MetaTable o) in_table-passing
 
 pub objection_to-passing : (v : List ViewTable) (a : UserAction) → objection_to (map (passing (has (rows_asked a))) v) a ≡ objection_to v a
-objection_to-passing v (Add table single count explicit ks) = in_records-passing (has []) v table (λ t. to_records t (Add table single count explicit ks)) (λ t. refl)
+objection_to-passing v (Add table single count has_row_ids ks) = in_records-passing (has []) v table (λ t. to_records t (Add table single count has_row_ids ks)) (λ t. refl)
 objection_to-passing v (Update table single rows ks) =
     in_records-passing (has (row_ids rows)) v table (λ t. to_records t (Update table single rows ks)) (λ t. on_rows-passing t rows (on_columns t ks (on_values ks)))
 objection_to-passing v (Remove table single rows) =

@@ -1,11 +1,11 @@
--- Walks over what a store tells of its tables and columns by their places.
+-- Walks over what a store tells of its tables and columns by their indexes.
 use Rattle.std.proofs.Common.{ℕ, ◌+◌, ◌-◌, ◌<◌, false, List, [], ◌∷◌, ◌++◌, map, take, length, length-append, slice_get, ◌≡◌, refl, sym, ap, ◌∙◌, Option, Some, None, arith}
 use Rattle.std.proofs.lemmas.List.{map-append}
 use Rattle.std.proofs.lemmas.Option.{slice_get_within}
 use Rattle.std.specs.Option.{option_map}
 use Rattle.doc_model.specs.declared.column.ColDef.{ColDef}
 use Rattle.doc_model.specs.declared.view.ViewCol.{ViewCol}
-use Rattle.doc_model.specs.ByIds.{AreDistinct, by_id, find_id, has_id, place}
+use Rattle.doc_model.specs.ByIds.{AreDistinct, by_id, find_id, has_id, put_by_id}
 use Rattle.doc_model.specs.Column.{column_id}
 use Rattle.doc_model.specs.Document.{Document, Table, table_id}
 use Rattle.doc_model.specs.DocumentLaws.{IsWhole}
@@ -40,10 +40,10 @@ module _ (all : List ColDef) (ys : List ViewCol) (n : ℕ) (d : ColDef) (v : Vie
       ap (λ l. has_id shown_id l v.id) before ∙ ap (λ w. has_id shown_id (by_id shown_id (map shown_column (take n all))) (shown_id w)) is
       ∙ has_id-by_id shown_id (map shown_column (take n all)) d.id ∙ absent
 
-  pub columns_next : (zs : List ViewCol) → zs ≡ place shown_id v ys → length zs ≡ length ys + 1 → zs ≡ by_id shown_id (map shown_column (take (length zs) all))
+  pub columns_next : (zs : List ViewCol) → zs ≡ put_by_id shown_id v ys → length zs ≡ length ys + 1 → zs ≡ by_id shown_id (map shown_column (take (length zs) all))
   columns_next zs placed longer =
       let next : n + 1 ≡ length zs = omega (arith, counts, longer) in
-      placed ∙ ap (λ w. place shown_id w ys) is ∙ ap (place shown_id (shown_column d)) before
+      placed ∙ ap (λ w. index shown_id w ys) is ∙ ap (put_by_id shown_id (shown_column d)) before
       ∙ sym (by_id-last shown_id (map shown_column (take n all)) (shown_column d) absent)
       ∙ ap (by_id shown_id) (sym (map-append shown_column (take n all) (d ∷ [])))
       ∙ ap (λ l. by_id shown_id (map shown_column l)) (sym (take_next all n d at))
@@ -58,7 +58,7 @@ columns_end all ys n counts so past =
 
 -- ---- the ids of the tables
 
--- the table at a place
+-- the table at an index
 pub table_read : (s : Document) (i : ℕ) (id : List ℕ) → table_at s i ≡ Some id → (t : Table) × (slice_get s i ≡ Some t) × (id ≡ t.id)
 table_read s i id h = elim (slice_get s i) as (λ o. slice_get s i ≡ o → option_map table_id o ≡ Some id → (t : Table) × (slice_get s i ≡ Some t) × (id ≡ t.id)) [
   | None ↦ λ is e. absurd (cc)

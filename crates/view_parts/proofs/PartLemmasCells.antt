@@ -8,7 +8,7 @@ use Rattle.cell_types.specs.declared.value.CellValue.TheVariants.{Null}
 use Rattle.doc_model.specs.declared.column.CellColumn.{CellColumn}
 use Rattle.doc_model.specs.declared.view.ViewCol.{ViewCol}
 use Rattle.doc_model.specs.declared.view.ViewTable.{ViewTable}
-use Rattle.doc_model.specs.ByIds.{find_id, has_id, place, without_id}
+use Rattle.doc_model.specs.ByIds.{find_id, has_id, put_by_id, without_id}
 use Rattle.doc_model.specs.Grid.{Grid, beside, grid_of}
 use Rattle.doc_model.specs.Records.{given}
 use Rattle.doc_model.specs.Rows.{has, insert_rows, without}
@@ -111,12 +111,12 @@ alike_edited test (remove_column c) g h a =
     filled_alike test (without_id shown_id c g.columns) (without_id shown_id c h.columns) g.rows h.rows (λ d r. at g d.id r) (λ d r. at h d.id r)
     (ap (without_id shown_id c) a.columns) a.rows (λ d r t. a.cells d.id r t)
 alike_edited test (add_column n) g h a =
-    filled_alike test (place shown_id n g.columns) (place shown_id n h.columns) g.rows h.rows
+    filled_alike test (put_by_id shown_id n g.columns) (put_by_id shown_id n h.columns) g.rows h.rows
     (λ d r. cond (bytes_eq d.id n.id) (shown_start n) (at g d.id r)) (λ d r. cond (bytes_eq d.id n.id) (shown_start n) (at h d.id r))
-    (ap (place shown_id n) a.columns) a.rows (λ d r t. ap (λ v. cond (bytes_eq d.id n.id) (shown_start n) v) (a.cells d.id r t))
+    (ap (put_by_id shown_id n) a.columns) a.rows (λ d r t. ap (λ v. cond (bytes_eq d.id n.id) (shown_start n) v) (a.cells d.id r t))
 alike_edited test (modify_column n) g h a =
-    filled_alike test (place shown_id n g.columns) (place shown_id n h.columns) g.rows h.rows (λ d r. at g d.id r) (λ d r. at h d.id r)
-    (ap (place shown_id n) a.columns) a.rows (λ d r t. a.cells d.id r t)
+    filled_alike test (put_by_id shown_id n g.columns) (put_by_id shown_id n h.columns) g.rows h.rows (λ d r. at g d.id r) (λ d r. at h d.id r)
+    (ap (put_by_id shown_id n) a.columns) a.rows (λ d r t. a.cells d.id r t)
 alike_edited test (remove rows) g h a =
     filled_alike test g.columns h.columns (without rows g.rows) (without rows h.rows) (λ d r. at g (shown_id d) r) (λ d r. at h (shown_id d) r) a.columns
     (λ r t. has-filter (λ r. not (has rows r)) g.rows r ∙ ap (λ b. not (has rows r) && b) (a.rows r t) ∙ sym (has-filter (λ r. not (has rows r)) h.rows r))

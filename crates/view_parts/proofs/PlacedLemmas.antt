@@ -7,8 +7,8 @@ use Rattle.std.proofs.lemmas.Slice.Eq.{bytes_eq-Decides}
 use Rattle.std.proofs.lemmas.List.Sums.{prefix_len-le-length}
 use Rattle.std.specs.List.{AllByRecursion, insert, position, position_or_len}
 use Rattle.std.specs.Str.{bytes_eq}
-use Rattle.doc_model.specs.ByIds.{AreDistinct, by_id, find_id, has_id, place, precedes}
-use Rattle.doc_model.proofs.ByIdsLaws.{bytes_apart, bytes_itself, find-place, IsByIds-by_id, IsByIds-place, same_by_ids}
+use Rattle.doc_model.specs.ByIds.{AreDistinct, by_id, find_id, has_id, put_by_id, precedes}
+use Rattle.doc_model.proofs.ByIdsLaws.{bytes_apart, bytes_itself, find-put_by_id, IsByIds-by_id, IsByIds-put_by_id, same_by_ids}
 use Rattle.doc_model.proofs.Choices.{cond_false, cond_true}
 
 -- neither of two tests passes
@@ -36,7 +36,7 @@ module _ {X : Type 0} (id : X → List ℕ) where
   -- an id finds the same in the order of the ids
   pub find-by_id : (c : List ℕ) (xs : List X) → find_id id c (by_id id xs) ≡ find_id id c xs
   find-by_id c [] = refl
-  find-by_id c (x ∷ xs) = find-place id x (by_id id xs) c ∙ ap (λ o. cond (bytes_eq (id x) c) (Some x) o) (find-by_id c xs)
+  find-by_id c (x ∷ xs) = find-put_by_id id x (by_id id xs) c ∙ ap (λ o. cond (bytes_eq (id x) c) (Some x) o) (find-by_id c xs)
 
   find-last : (c : List ℕ) (xs : List X) (x : X) → has_id id xs (id x) ≡ false → find_id id c (xs ++ x ∷ []) ≡ cond (bytes_eq (id x) c) (Some x) (find_id id c xs)
   find-last c [] x h = refl
@@ -49,27 +49,27 @@ module _ {X : Type 0} (id : X → List ℕ) where
       ] refl
 
   -- a thing of a new id behind the others is the last that is put in its place
-  pub by_id-last : (xs : List X) (x : X) → has_id id xs (id x) ≡ false → by_id id (xs ++ x ∷ []) ≡ place id x (by_id id xs)
+  pub by_id-last : (xs : List X) (x : X) → has_id id xs (id x) ≡ false → by_id id (xs ++ x ∷ []) ≡ put_by_id id x (by_id id xs)
   by_id-last xs x h =
-      same_by_ids id (by_id id (xs ++ x ∷ [])) (place id x (by_id id xs))
-      (IsByIds-by_id id (xs ++ x ∷ [])) (IsByIds-place id x (by_id id xs) (IsByIds-by_id id xs))
+      same_by_ids id (by_id id (xs ++ x ∷ [])) (put_by_id id x (by_id id xs))
+      (IsByIds-by_id id (xs ++ x ∷ [])) (IsByIds-put_by_id id x (by_id id xs) (IsByIds-by_id id xs))
       (λ c. find-by_id c (xs ++ x ∷ []) ∙ find-last c xs x h
-      ∙ sym (find-place id x (by_id id xs) c ∙ ap (λ o. cond (bytes_eq (id x) c) (Some x) o) (find-by_id c xs)))
+      ∙ sym (find-put_by_id id x (by_id id xs) c ∙ ap (λ o. cond (bytes_eq (id x) c) (Some x) o) (find-by_id c xs)))
 
   -- a thing of a new id goes before the first one with a greater id
-  pub place-insert : (x : X) (xs : List X) → has_id id xs (id x) ≡ false → place id x xs ≡ insert xs (position_or_len (λ y. precedes (id x) (id y)) xs) x
-  place-insert x [] h = refl
-  place-insert x (y ∷ xs) h =
+  pub put_by_id-insert : (x : X) (xs : List X) → has_id id xs (id x) ≡ false → put_by_id id x xs ≡ insert xs (position_or_len (λ y. precedes (id x) (id y)) xs) x
+  put_by_id-insert x [] h = refl
+  put_by_id-insert x (y ∷ xs) h =
       let both : (bytes_eq (id y) (id x) ≡ false) × (has_id id xs (id x) ≡ false) = neither (bytes_eq (id y) (id x)) (has_id id xs (id x)) h in
-      let rest : place id x xs ≡ insert xs (position_or_len (λ y. precedes (id x) (id y)) xs) x = place-insert x xs both.1 in
+      let rest : put_by_id id x xs ≡ insert xs (position_or_len (λ y. precedes (id x) (id y)) xs) x = put_by_id-insert x xs both.1 in
       let next : suc (position_or_len (λ y. precedes (id x) (id y)) xs) ≡ 1 + position_or_len (λ y. precedes (id x) (id y)) xs = omega arith in
-      elim (precedes (id x) (id y)) as (λ b. cond b (x ∷ y ∷ xs) (cond (bytes_eq (id x) (id y)) (x ∷ xs) (y ∷ place id x xs)) ≡ insert (y ∷ xs) (cond (not b) (1 + position_or_len (λ y. precedes (id x) (id y)) xs) 0) x) [
+      elim (precedes (id x) (id y)) as (λ b. cond b (x ∷ y ∷ xs) (cond (bytes_eq (id x) (id y)) (x ∷ xs) (y ∷ put_by_id id x xs)) ≡ insert (y ∷ xs) (cond (not b) (1 + position_or_len (λ y. precedes (id x) (id y)) xs) 0) x) [
         | true ↦ refl
-        | false ↦ cond_false (bytes_eq (id x) (id y)) (x ∷ xs) (y ∷ place id x xs) (bytes_apart (id y) (id x) both.0) ∙ ap (λ l. y ∷ l) rest
+        | false ↦ cond_false (bytes_eq (id x) (id y)) (x ∷ xs) (y ∷ put_by_id id x xs) (bytes_apart (id y) (id x) both.0) ∙ ap (λ l. y ∷ l) rest
             ∙ ap (λ k. insert (y ∷ xs) k x) next
       ]
 
-  -- what stands at a place has another id than what stands before it
+  -- what stands at an index has another id than what stands before it
   pub absent_before : (xs : List X) (n : ℕ) (x : X) → AreDistinct id xs → slice_get xs n ≡ Some x → has_id id (take n xs) (id x) ≡ false
   absent_before [] zero x d h = refl
   absent_before [] (suc n) x d h = refl
@@ -88,7 +88,7 @@ module _ {X : Type 0} (id : X → List ℕ) where
         | false ↦ absent-filter p xs c both.1
       ]
 
-  -- what stands at a place is what its id finds
+  -- what stands at an index is what its id finds
   pub found_at : (xs : List X) (n : ℕ) (x : X) → AreDistinct id xs → slice_get xs n ≡ Some x → find_id id (id x) xs ≡ Some x
   found_at [] zero x d h = absurd (cc)
   found_at [] (suc n) x d h = absurd (cc)
@@ -97,7 +97,7 @@ module _ {X : Type 0} (id : X → List ℕ) where
       cond_false (bytes_eq (id y) (id x)) (Some y) (find_id id (id x) xs) (each_got (λ z. bytes_eq (id y) (id z) ≡ false) xs n x d.0 h)
       ∙ found_at xs n x d.1 h
 
-  -- the place that a search answers, or the end
+  -- the index that a search answers, or the end
   pub goes_at : (x : X) (xs seen : List X) (o : Option ℕ) (long n : ℕ) → seen ≡ xs → length seen ≡ long → o ≡ position (λ y. precedes (id x) (id y)) seen → n ≡ unwrap_or o long
       → (n ≤ long) × (n ≡ position_or_len (λ y. precedes (id x) (id y)) xs)
   goes_at x xs seen o long n same counts found is =
@@ -111,6 +111,6 @@ module _ {X : Type 0} (id : X → List ℕ) where
       (omega (arith, here, low, counts), here ∙ ap (position_or_len p) same)
 
   pub put_there : (x : X) (xs seen ys : List X) (o : Option ℕ) (long n : ℕ) → has_id id xs (id x) ≡ false → seen ≡ xs → length seen ≡ long → o ≡ position (λ y. precedes (id x) (id y)) seen → n ≡ unwrap_or o long
-      → ys ≡ insert xs n x → ys ≡ place id x xs
+      → ys ≡ insert xs n x → ys ≡ put_by_id id x xs
   put_there x xs seen ys o long n new same counts found is made =
-      made ∙ ap (λ k. insert xs k x) (goes_at x xs seen o long n same counts found is).1 ∙ sym (place-insert x xs new)
+      made ∙ ap (λ k. insert xs k x) (goes_at x xs seen o long n same counts found is).1 ∙ sym (put_by_id-insert x xs new)

@@ -8,7 +8,7 @@ use Rattle.doc_model.specs.declared.action.DocAction.{DocAction}
 use Rattle.doc_model.specs.declared.column.ColDef.{ColDef}
 use Rattle.doc_model.specs.declared.user_action.UserAction.{UserAction}
 use Rattle.doc_model.specs.declared.view.ViewTable.{ViewTable}
-use Rattle.doc_model.specs.ByIds.{AreDistinct, by_id, find_id, has_id, IsByIds, place, precedes}
+use Rattle.doc_model.specs.ByIds.{AreDistinct, by_id, find_id, has_id, IsByIds, put_by_id, precedes}
 use Rattle.doc_model.specs.Changes.{IsView, shown_table_id}
 use Rattle.doc_model.specs.Document.{Document, Table, table_id}
 use Rattle.doc_model.specs.DocumentLaws.{IsWhole}
@@ -94,21 +94,21 @@ module _ (test : List ℕ → ℕ → Bool) where
   abbrev passed : ViewTable → ViewTable
   passed t = passing (test t.id) t
 
-  map-place : (x : ViewTable) (xs : List ViewTable) → map passed (place shown_table_id x xs) ≡ place shown_table_id (passed x) (map passed xs)
-  map-place x [] = refl
-  map-place x (y ∷ xs) =
-      elim (precedes x.id y.id) as (λ b. map passed (cond b (x ∷ y ∷ xs) (cond (bytes_eq x.id y.id) (x ∷ xs) (y ∷ place shown_table_id x xs)))
-      ≡ cond b (passed x ∷ passed y ∷ map passed xs) (cond (bytes_eq x.id y.id) (passed x ∷ map passed xs) (passed y ∷ place shown_table_id (passed x) (map passed xs)))) [
+  map-put_by_id : (x : ViewTable) (xs : List ViewTable) → map passed (put_by_id shown_table_id x xs) ≡ put_by_id shown_table_id (passed x) (map passed xs)
+  map-put_by_id x [] = refl
+  map-put_by_id x (y ∷ xs) =
+      elim (precedes x.id y.id) as (λ b. map passed (cond b (x ∷ y ∷ xs) (cond (bytes_eq x.id y.id) (x ∷ xs) (y ∷ put_by_id shown_table_id x xs)))
+      ≡ cond b (passed x ∷ passed y ∷ map passed xs) (cond (bytes_eq x.id y.id) (passed x ∷ map passed xs) (passed y ∷ put_by_id shown_table_id (passed x) (map passed xs)))) [
         | true ↦ refl
-        | false ↦ elim (bytes_eq x.id y.id) as (λ b. map passed (cond b (x ∷ xs) (y ∷ place shown_table_id x xs)) ≡ cond b (passed x ∷ map passed xs) (passed y ∷ place shown_table_id (passed x) (map passed xs))) [
+        | false ↦ elim (bytes_eq x.id y.id) as (λ b. map passed (cond b (x ∷ xs) (y ∷ put_by_id shown_table_id x xs)) ≡ cond b (passed x ∷ map passed xs) (passed y ∷ put_by_id shown_table_id (passed x) (map passed xs))) [
           | true ↦ refl
-          | false ↦ ap (λ l. passed y ∷ l) (map-place x xs)
+          | false ↦ ap (λ l. passed y ∷ l) (map-put_by_id x xs)
         ]
       ]
 
   map-by_id : (xs : List ViewTable) → map passed (by_id shown_table_id xs) ≡ by_id shown_table_id (map passed xs)
   map-by_id [] = refl
-  map-by_id (x ∷ xs) = map-place x (by_id shown_table_id xs) ∙ ap (place shown_table_id (passed x)) (map-by_id xs)
+  map-by_id (x ∷ xs) = map-put_by_id x (by_id shown_table_id xs) ∙ ap (put_by_id shown_table_id (passed x)) (map-by_id xs)
 
 -- ---- the part that actions are about
 

@@ -5,7 +5,7 @@ use Rattle.std.proofs.lemmas.List.Elements.{filter-append}
 use Rattle.doc_model.specs.declared.action.DocAction.{DocAction}
 use Rattle.doc_model.specs.declared.column.ColDef.{ColDef}
 use Rattle.doc_model.specs.declared.view.ViewTable.{ViewTable}
-use Rattle.doc_model.specs.ByIds.{by_id, has_id, place}
+use Rattle.doc_model.specs.ByIds.{by_id, has_id, put_by_id}
 use Rattle.doc_model.specs.Changes.{shown_table_id}
 use Rattle.doc_model.specs.Document.{Document, Table, table_id}
 use Rattle.doc_model.specs.DocumentLaws.{IsWhole}
@@ -18,7 +18,7 @@ use Rattle.view_parts.specs.Shown.{is_shown}
 use Rattle.view_parts.specs.Wanted.{is_wanted, rows_wanted, shown_with, table_wanted, wanted}
 use Rattle.view_parts.proofs.PlacedLemmas.{absent-filter, absent_before, by_id-last, found_at, take_next}
 
--- the table whose id stands at a place
+-- the table whose id stands at an index
 named_at : (s : Document) (k : ℕ) (d id : List ℕ) → k < length (map table_id s) → id ≡ get_or (map table_id s) k d → (t : Table) × (slice_get s k ≡ Some t) × (id ≡ t.id)
 named_at [] k d id lt e = absurd (omega arith)
 named_at (t ∷ s) zero d id lt e = (t, refl, e)
@@ -61,15 +61,15 @@ module _ (owner : Bool) (o : Option (List DocAction)) (s : Document) (whole : Is
       ap (λ i. shown_with i (grid_at s i) (rows_wanted o i (grid_at s i).rows)) here.2
       ∙ ap (λ g. shown_with t.id g (rows_wanted o t.id g.rows)) its
 
-  pub tables_next : (zs : List ViewTable) → zs ≡ cond (is_wanted o id && is_shown owner id) (place shown_table_id (shown_with id (grid_at s id) (rows_wanted o id (grid_at s id).rows)) ys) ys → zs ≡ taken owner o s (k + 1)
+  pub tables_next : (zs : List ViewTable) → zs ≡ cond (is_wanted o id && is_shown owner id) (put_by_id shown_table_id (shown_with id (grid_at s id) (rows_wanted o id (grid_at s id).rows)) ys) ys → zs ≡ taken owner o s (k + 1)
   tables_next zs made =
       let t : Table = here.0 in
       let before : List Table = filter (is_taken owner o) (take k s) in
       made
-      ∙ ap (λ i. cond (is_wanted o i && is_shown owner i) (place shown_table_id (shown_with id (grid_at s id) (rows_wanted o id (grid_at s id).rows)) ys) ys) here.2
-      ∙ ap (λ w. cond (is_taken owner o t) (place shown_table_id w ys) ys) built
-      ∙ ap (λ l. cond (is_taken owner o t) (place shown_table_id (table_wanted o t) l) l) so
-      ∙ elim (is_taken owner o t) as (λ b. cond b (place shown_table_id (table_wanted o t) (taken owner o s k)) (taken owner o s k) ≡ by_id shown_table_id (map (table_wanted o) (before ++ cond b (t ∷ []) []))) [
+      ∙ ap (λ i. cond (is_wanted o i && is_shown owner i) (put_by_id shown_table_id (shown_with id (grid_at s id) (rows_wanted o id (grid_at s id).rows)) ys) ys) here.2
+      ∙ ap (λ w. cond (is_taken owner o t) (put_by_id shown_table_id w ys) ys) built
+      ∙ ap (λ l. cond (is_taken owner o t) (put_by_id shown_table_id (table_wanted o t) l) l) so
+      ∙ elim (is_taken owner o t) as (λ b. cond b (put_by_id shown_table_id (table_wanted o t) (taken owner o s k)) (taken owner o s k) ≡ by_id shown_table_id (map (table_wanted o) (before ++ cond b (t ∷ []) []))) [
         | true ↦ sym (by_id-last shown_table_id (map (table_wanted o) before) (table_wanted o t) absent) ∙ ap (by_id shown_table_id) (sym (map-append (table_wanted o) before (t ∷ [])))
         | false ↦ ap (λ l. by_id shown_table_id (map (table_wanted o) l)) (sym (append-nil before))
       ]

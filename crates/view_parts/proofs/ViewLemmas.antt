@@ -11,7 +11,7 @@ use Rattle.doc_model.specs.Grid.{cell}
 use Rattle.doc_model.specs.Sound.{IsSoundGrid}
 use Rattle.doc_model.specs.ViewEdits.{shown_id, IsShown}
 use Rattle.doc_model.proofs.Choices.{keep, each_weaker, each_mapped, each_filter}
-use Rattle.doc_model.proofs.ByIdsLaws.{found_id, found_all, find-place, IsByIds-by_id, AreDistinct-IsByIds, each_by_id, each_found, find-filtered}
+use Rattle.doc_model.proofs.ByIdsLaws.{found_id, found_all, find-put_by_id, IsByIds-by_id, AreDistinct-IsByIds, each_by_id, each_found, find-filtered}
 use Rattle.doc_model.proofs.GridLaws.{IsGrid-grid_of}
 use Rattle.doc_model.proofs.RowsLaws.{all_in_itself}
 use Rattle.user_actions.specs.Unopposed.{IsColumnOf, IsTableOf}
@@ -67,7 +67,7 @@ each_table_of owner s whole =
 pub find-by_id : {X : Type 0} (id : X → List ℕ) (c : List ℕ) (xs : List X) → find_id id c (by_id id xs) ≡ find_id id c xs
 find-by_id id c [] = refl
 find-by_id id c (x ∷ xs) =
-    find-place id x (by_id id xs) c ∙ ap (λ o. cond (bytes_eq (id x) c) (Some x) o) (find-by_id id c xs)
+    find-put_by_id id x (by_id id xs) c ∙ ap (λ o. cond (bytes_eq (id x) c) (Some x) o) (find-by_id id c xs)
 
 -- things made of others under their ids are found as these are
 pub find-mapped : {X Y : Type 0} (of : X → List ℕ) (id : Y → List ℕ) (f : X → Y) → ((x : X) → id (f x) ≡ of x) → (c : List ℕ) (xs : List X) → find_id id c (map f xs) ≡ option_map f (find_id of c xs)

@@ -7,7 +7,7 @@ use Rattle.doc_model.specs.declared.action.DocAction.TheVariants.{BulkAdd, BulkU
 use Rattle.doc_model.specs.declared.column.ColDef.{ColDef}
 use Rattle.doc_model.specs.declared.view.ViewCol.{ViewCol}
 use Rattle.doc_model.specs.declared.view.ViewTable.{ViewTable}
-use Rattle.doc_model.specs.ByIds.{by_id, place}
+use Rattle.doc_model.specs.ByIds.{by_id, put_by_id}
 use Rattle.doc_model.specs.Changes.{shown_table_id}
 use Rattle.doc_model.specs.Column.{column_id}
 use Rattle.doc_model.specs.Document.{Document, Table}
@@ -55,7 +55,7 @@ wanted_at o s id = shown_with id (grid_at s id) (rows_wanted o id (grid_at s id)
 -- the tables with that of an id in its place, where it is wanted and seen
 abbrev pub with_wanted : Bool → Option (List DocAction) → Document → List ℕ → List ViewTable → List ViewTable
 with_wanted owner o s id v =
-    cond (is_wanted o id && is_shown owner id) (place shown_table_id (wanted_at o s id) v) v
+    cond (is_wanted o id && is_shown owner id) (put_by_id shown_table_id (wanted_at o s id) v) v
 
 -- the wanted tables that owners see, or others, by id
 abbrev pub wanted : Bool → Option (List DocAction) → Document → List ViewTable

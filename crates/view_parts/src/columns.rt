@@ -3,7 +3,7 @@
 ghost use Rattle.std.specs.Prelude.{◌≡◌, ◌+◌, false, length, IfOk, OnOk};
 ghost use Rattle.std.specs.List.{position};
 ghost use Rattle.doc_model.specs.declared.view.ViewCol.{ViewCol};
-ghost use Rattle.doc_model.specs.ByIds.{has_id, place, precedes};
+ghost use Rattle.doc_model.specs.ByIds.{has_id, put_by_id, precedes};
 ghost use Rattle.doc_model.specs.DocumentLaws.{IsWhole};
 ghost use Rattle.doc_model.specs.ViewEdits.{shown_id};
 ghost use Rattle.doc_readers.specs.Parts.{grid_at};
@@ -25,8 +25,8 @@ fn shown_column(column: &ColDef) -> Result<ViewCol, AllocError>
     })
 }
 
-// The place of the first column with a greater id.
-fn column_place(columns: &[ViewCol], id: &Name) -> Option<usize>
+// The index of the first column with a greater id.
+fn column_index(columns: &[ViewCol], id: &Name) -> Option<usize>
     ensures { result ≡ position (λ (d : ViewCol). precedes id.now d.id) columns.now }
 {
     columns.iter().position(|column| id.cmp(&column.id).is_lt())
@@ -35,17 +35,17 @@ fn column_place(columns: &[ViewCol], id: &Name) -> Option<usize>
 // Puts a column of a new id in its place.
 fn put_column(columns: &mut Vec<ViewCol>, column: ViewCol) -> Result<(), AllocError>
     requires new { has_id shown_id columns.old.items column.id ≡ false }
-    ensures placed { OnOk result (columns.new.items ≡ place shown_id column columns.old.items) }
+    ensures placed { OnOk result (columns.new.items ≡ put_by_id shown_id column columns.old.items) }
     ensures longer { OnOk result (length columns.new.items ≡ length columns.old.items + 1) }
 {
-    let place = column_place(columns.as_slice(), &column.id).unwrap_or(columns.len());
-    columns.insert(place, column)?;
+    let index = column_index(columns.as_slice(), &column.id).unwrap_or(columns.len());
+    columns.insert(index, column)?;
     Ok(())
 }
 
 /// The columns of a table, by id.
 ///
-/// Errors: want of memory. Cost: the square of the columns.
+/// Errors: out of memory. Cost: the square of the columns.
 pub(crate) fn shown_columns<D: DocTables>(
     alloc: Global,
     tables: &D,

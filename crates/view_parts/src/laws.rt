@@ -15,7 +15,7 @@ pub fn part_law()
 {}
 
 /// What stands against a user action rests on the table and the rows alone that it names.
-pub fn asked_law()
+pub fn requested_law()
     ensures { AskedLaw }
 {
     one_table_law();

@@ -22,6 +22,6 @@ mod tables;
 mod wanted;
 mod whole;
 
-pub use laws::{allowed_law, asked_law, part_law, view_law};
-pub use parts::{asked_view, touched_view};
+pub use laws::{allowed_law, part_law, requested_law, view_law};
+pub use parts::{affected_view, requested_view};
 pub use whole::{is_column_shown, rows_shown, whole_view};

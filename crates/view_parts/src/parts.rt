@@ -21,9 +21,9 @@ use user_actions::{row_ids, table_of};
 /// The part of what owners see of a document, or others, that these actions are about: the tables
 /// that they name, with the rows that they are about.
 ///
-/// Errors: want of memory. Cost: the cells of those rows, and of whole tables for schema actions; and
+/// Errors: out of memory. Cost: the cells of those rows, and of whole tables for schema actions; and
 /// the tables times the actions.
-pub fn touched_view<D: DocTables>(
+pub fn affected_view<D: DocTables>(
     alloc: Global,
     tables: &D,
     owner: bool,
@@ -101,8 +101,8 @@ fn asked_table<D: DocTables>(
 /// The table that a user action names, as owners see it, or others, with the rows that the action
 /// names.
 ///
-/// Errors: want of memory. Cost: the cells of those rows.
-pub fn asked_view<D: DocTables>(
+/// Errors: out of memory. Cost: the cells of those rows.
+pub fn requested_view<D: DocTables>(
     alloc: Global,
     tables: &D,
     owner: bool,

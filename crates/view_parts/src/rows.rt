@@ -33,7 +33,7 @@ fn rows_there(alloc: Global, wanted: &[u32], rows: &[u32]) -> Result<Vec<u32>, A
 
 /// The rows of a table that are wanted.
 ///
-/// Errors: want of memory. Cost: sorting the wanted rows, and for each the logarithm of the rows.
+/// Errors: out of memory. Cost: sorting the wanted rows, and for each the logarithm of the rows.
 pub(crate) fn rows_among(
     alloc: Global,
     wanted: Vec<u32>,

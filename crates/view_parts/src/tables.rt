@@ -3,7 +3,7 @@
 ghost use Rattle.std.specs.Prelude.{◌≡◌, false, map, IfOk, OnOk};
 ghost use Rattle.std.specs.List.{position};
 ghost use Rattle.doc_model.specs.declared.view.ViewTable.{ViewTable};
-ghost use Rattle.doc_model.specs.ByIds.{has_id, place, precedes};
+ghost use Rattle.doc_model.specs.ByIds.{has_id, put_by_id, precedes};
 ghost use Rattle.doc_model.specs.Changes.{shown_table_id};
 ghost use Rattle.doc_model.specs.Document.{table_id};
 ghost use Rattle.doc_model.specs.DocumentLaws.{IsWhole};
@@ -28,7 +28,7 @@ pub(crate) fn is_shown(owner: bool, id: &Name) -> bool
 
 /// The ids of all tables, in the order of the document.
 ///
-/// Errors: want of memory. Cost: the tables.
+/// Errors: out of memory. Cost: the tables.
 pub(crate) fn table_ids<D: DocTables>(alloc: Global, tables: &D) -> Result<Vec<Name>, AllocError>
     ensures { IfOk result (λ v. v.items ≡ map table_id (D.document tables.now)) }
 {
@@ -73,7 +73,7 @@ fn all_cells<D: DocTables>(
 
 /// A table as it is seen, with these rows alone.
 ///
-/// Errors: want of memory. Cost: the cells of these rows, and the square of the columns.
+/// Errors: out of memory. Cost: the cells of these rows, and the square of the columns.
 pub(crate) fn shown_with<D: DocTables>(
     alloc: Global,
     tables: &D,
@@ -93,8 +93,8 @@ pub(crate) fn shown_with<D: DocTables>(
     })
 }
 
-// The place of the first table with a greater id.
-fn table_place(tables: &[ViewTable], id: &Name) -> Option<usize>
+// The index of the first table with a greater id.
+fn table_index(tables: &[ViewTable], id: &Name) -> Option<usize>
     ensures { result ≡ position (λ (t : ViewTable). precedes id.now t.id) tables.now }
 {
     tables.iter().position(|table| id.cmp(&table.id).is_lt())
@@ -102,12 +102,12 @@ fn table_place(tables: &[ViewTable], id: &Name) -> Option<usize>
 
 /// Puts a table of a new id in its place.
 ///
-/// Errors: want of memory; what the tables are then is not said. Cost: linear in the tables.
+/// Errors: out of memory; what the tables are then is not said. Cost: linear in the tables.
 pub(crate) fn put_table(tables: &mut Vec<ViewTable>, table: ViewTable) -> Result<(), AllocError>
     requires { has_id shown_table_id tables.old.items table.id ≡ false }
-    ensures { OnOk result (tables.new.items ≡ place shown_table_id table tables.old.items) }
+    ensures { OnOk result (tables.new.items ≡ put_by_id shown_table_id table tables.old.items) }
 {
-    let place = table_place(tables.as_slice(), &table.id).unwrap_or(tables.len());
-    tables.insert(place, table)?;
+    let index = table_index(tables.as_slice(), &table.id).unwrap_or(tables.len());
+    tables.insert(index, table)?;
     Ok(())
 }

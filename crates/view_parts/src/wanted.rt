@@ -166,7 +166,7 @@ fn put_wanted<D: DocTables>(
 
 /// The wanted tables that owners see, or others, by id: all where no actions are given.
 ///
-/// Errors: want of memory. Cost: the cells of their wanted rows, the square of the tables, and the
+/// Errors: out of memory. Cost: the cells of their wanted rows, the square of the tables, and the
 /// tables times the actions.
 pub(crate) fn wanted_tables<D: DocTables>(
     alloc: Global,

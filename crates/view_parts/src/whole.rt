@@ -15,7 +15,7 @@ use std::alloc::{AllocError, Global};
 
 /// What owners see of a document, or others.
 ///
-/// Errors: want of memory. Cost: all cells that are seen.
+/// Errors: out of memory. Cost: all cells that are seen.
 pub fn whole_view<D: DocTables>(alloc: Global, tables: &D, owner: bool) -> Result<View, AllocError>
     requires whole { IsWhole (D.document tables.now) }
     ensures tables { IfOk result (λ v. v.tables ≡ view owner (D.document tables.now)) }

@@ -1,6 +1,6 @@
 //! Plan: a view is patched out of the empty one; what leads to another is told as short lines that
 //! were written by hand (`tells_what_changed`); the changes lead there, and nothing leads from a
-//! view to an equal one (`changes_lead_there`); what does not fit is told by its place
+//! view to an equal one (`changes_lead_there`); what does not fit is told by its index
 //! (`tells_what_does_not_fit`).
 
 ghost use Rattle.std.specs.Prelude.{IfOk};
@@ -145,28 +145,28 @@ fn changes_lead_there(rt: HostRuntime) {
 
 static REMOVED_TWICE: [Step; 2] = [Step::Removed(&[2]), Step::Removed(&[2])];
 
-fn is_unfit(patched: &Result<View, PatchFault>, place: u32) -> bool {
+fn is_unfit(patched: &Result<View, PatchFault>, index: u32) -> bool {
     match patched {
-        Err(PatchFault::Unfit { index }) => *index == place,
+        Err(PatchFault::Unfit { index }) => *index == index,
         _ => false,
     }
 }
 
-fn are_unfit(alloc: Global, view: &View, actions: &ViewActionList, place: u32) -> bool
+fn are_unfit(alloc: Global, view: &View, actions: &ViewActionList, index: u32) -> bool
     requires { IsView view.now.tables }
 {
     if actions.len() >= 100 || !are_full(actions) {
         return false;
     }
-    is_unfit(&patch(alloc, view, actions), place)
+    is_unfit(&patch(alloc, view, actions), index)
 }
 
-// Whether both were made, and the action at this place does not fit.
+// Whether both were made, and the action at this index does not fit.
 fn stops(
     alloc: Global,
     view: &Result<View, AllocError>,
     actions: &Result<ViewActionList, AllocError>,
-    place: u32,
+    index: u32,
 ) -> bool
     requires { IfOk view.now (λ v. IsView v.tables) }
 {
@@ -176,7 +176,7 @@ fn stops(
     let Ok(actions) = actions else {
         return false;
     };
-    are_unfit(alloc, view, actions, place)
+    are_unfit(alloc, view, actions, index)
 }
 
 fn stops_at_the_second(alloc: Global) -> bool {

@@ -12,7 +12,7 @@ use doc_model::laws::new_document_law;
 use doc_model::{UserAction, UserActionList, View};
 use row_tables::RowTables;
 use std::alloc::{AllocError, Global};
-use view_parts::{asked_view, is_column_shown, rows_shown};
+use view_parts::{is_column_shown, requested_view, rows_shown};
 
 fn new_document(alloc: Global) -> Result<RowTables, AllocError>
     ensures { IfOk result IsWhole }
@@ -89,7 +89,7 @@ fn is_first(view: &Result<View, AllocError>, want: &str) -> bool {
 fn is_asked(alloc: Global, document: &RowTables, action: &UserAction, want: &str) -> bool
     requires { IsWhole document.now }
 {
-    is_first(&asked_view(alloc, document, true, action), want)
+    is_first(&requested_view(alloc, document, true, action), want)
 }
 
 // Whether both were made, and the action asks for this table first.

@@ -32,7 +32,7 @@ fn empty(alloc: Global) -> View
     }
 }
 
-// Whether this is the code of the refusal of the action at the place 3, or 0 and there is none.
+// Whether this is the code of the refusal of the action at the index 3, or 0 and there is none.
 fn is_code(answer: Result<Option<Refusal>, AllocError>, want: u8) -> bool {
     match answer {
         Ok(None) => want == 0,
@@ -62,10 +62,10 @@ fn refuses(alloc: Global, asked: Asked, want: u8) -> bool {
 
 #[test]
 fn names_the_first_objection(rt: HostRuntime) {
-    for (place, row) in ASKED.iter().enumerate() {
+    for (index, row) in ASKED.iter().enumerate() {
         assert!(rt;
             refuses(rt.alloc(), row.0, row.1),
-            "not {} at {place}",
+            "not {} at {index}",
             row.1
         );
     }

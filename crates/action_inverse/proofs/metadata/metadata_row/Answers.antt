@@ -15,22 +15,22 @@ returns-in_err-other g c =
     let s = g.D.DocTables.document c.args.tables.now in
     let rows = c.in_ok-rows.rows.now in
     absurd (never_past s c.requires rows (rows_are s c.requires c.in_ok-described.described.now rows c.in_ok-described.ensures c.in_ok-rows.ensures)
-    c.loop-place.place c.loop-place-test.true c.args.table.now c.loop-place.invariant c.in_err-other.ensures)
+    c.loop-index.index c.loop-index-test.true c.args.table.now c.loop-index.invariant c.in_err-other.ensures)
 
 pub returns-then-same_as : goal.returns-then-same_as
 returns-then-same_as g c =
     let s = g.D.DocTables.document c.args.tables.now in
     let rows = c.in_ok-rows.rows.now in
     row_found s c.requires rows (rows_are s c.requires c.in_ok-described.described.now rows c.in_ok-described.ensures c.in_ok-rows.ensures)
-    c.loop-place.place c.loop-place-test.true c.args.table.now c.loop-place.invariant 0 c.in_ok-other.other.now c.in_ok-other.ensures
+    c.loop-index.index c.loop-index-test.true c.args.table.now c.loop-index.invariant 0 c.in_ok-other.other.now c.in_ok-other.ensures
     (c.same_as.ensures.0 c.if-same_as.true)
 
-pub loop-place-preserved : goal.loop-place-preserved
-loop-place-preserved g c =
+pub loop-index-preserved : goal.loop-index-preserved
+loop-index-preserved g c =
     let s = g.D.DocTables.document c.args.tables.now in
     let rows = c.in_ok-rows.rows.now in
     row_past s c.requires rows (rows_are s c.requires c.in_ok-described.described.now rows c.in_ok-described.ensures c.in_ok-rows.ensures)
-    c.loop-place.place c.loop-place-test.true c.args.table.now c.loop-place.invariant c.in_ok-other.other.now c.in_ok-other.ensures
+    c.loop-index.index c.loop-index-test.true c.args.table.now c.loop-index.invariant c.in_ok-other.other.now c.in_ok-other.ensures
     (λ e. both_ways c.same_as.result c.if-same_as.false (c.same_as.ensures.1 e))
 
 pub returns : goal.returns
@@ -38,4 +38,4 @@ returns g c =
     let s = g.D.DocTables.document c.args.tables.now in
     let rows = c.in_ok-rows.rows.now in
     row_absent s c.requires rows (rows_are s c.requires c.in_ok-described.described.now rows c.in_ok-described.ensures c.in_ok-rows.ensures)
-    c.loop-place.place c.loop-place-test.false c.args.table.now c.loop-place.invariant
+    c.loop-index.index c.loop-index-test.false c.args.table.now c.loop-index.invariant

@@ -1,13 +1,13 @@
 use Rattle.std.proofs.Common.{◌≡◌, ◌∙◌, ap, map, sym, subst, true, ltb}
 use Rattle.cell_types.specs.NameRule.{is_name}
 use Rattle.doc_model.specs.Apply.{all_valid}
-use Rattle.action_limits.specs.Capped.{IsExtentAdded, all_moved, settled}
-use Rattle.action_limits.specs.Left.{TellsPeaks}
+use Rattle.action_limits.specs.Capped.{AreMaximaAdded, all_moved, settled}
+use Rattle.action_limits.specs.Left.{TellsMaxima}
 use Rattle.user_actions.specs.Kinds.{table_of}
 use Rattle.user_actions.specs.StepLaws.{action_of}
 use Rattle.user_actions.specs.Steps.{steps_of}
 use Rattle.action_limits.specs.Tallies.{IsExpansion, after}
-use Rattle.action_limits.proofs.AddMoves.{add_few, add_fresh, add_peaks, add_tables}
+use Rattle.action_limits.proofs.AddMoves.{add_few, add_fresh, add_maxima, add_tables}
 use Rattle.user_actions.proofs.AllowedLemmas.{action_named}
 use Rattle.action_limits.proofs.ExpansionLemmas.{IsExact, any_told, early_is, exact_from, settled_is}
 use Rattle.action_limits.proofs.Rising.{TellsMore, most_told}
@@ -25,12 +25,12 @@ returns-in-Some g c =
     let a = c.args.action.now in
     let ok : all_valid s (map action_of (steps_of s a)) ≡ true = all_valid-steps_of s c.requires.whole a c.requires.allowed c.requires.well_formed (add_fresh s a c.args.count c.requires.adds) in
     let named : c.in_ok-table.table ≡ table_of a = c.in_ok-table.ensures ∙ c.table_of.ensures in
-    let extent : IsExtentAdded s (table_of a) c.args.count c.extent_added-added.result = subst (λ t. IsExtentAdded s t c.args.count c.extent_added-added.result) named c.extent_added-added.ensures in
-    let more : TellsMore c.extent_added-added.result s (after s a) = add_peaks s a c.args.count c.extent_added-added.result c.requires.whole c.requires.adds ok extent in
-    let most : TellsPeaks c.wider-most.result (after s a) = most_told s (after s a) c.peaks_before.result c.extent_added-added.result c.wider-most.result c.peaks_before.ensures more c.wider-most.ensures.columns c.wider-most.ensures.rows c.wider-most.ensures.row_id in
+    let maxima : AreMaximaAdded s (table_of a) c.args.count c.maxima_added-added.result = subst (λ t. AreMaximaAdded s t c.args.count c.maxima_added-added.result) named c.maxima_added-added.ensures in
+    let more : TellsMore c.maxima_added-added.result s (after s a) = add_maxima s a c.args.count c.maxima_added-added.result c.requires.whole c.requires.adds ok maxima in
+    let most : TellsMaxima c.wider-most.result (after s a) = most_told s (after s a) c.maxima_before.result c.maxima_added-added.result c.wider-most.result c.maxima_before.ensures more c.wider-most.ensures.columns c.wider-most.ensures.rows c.wider-most.ensures.row_id in
     early_is (after s a) c.sums_of-before.result c.wider-most.result c.in-Some.kind
     (ap (ltb 2048) (c.sums_of-before.ensures.tables ∙ c.requires.tally.tables ∙ add_tables s a c.args.count c.requires.whole c.requires.adds ok)) most
-    (sym c.first_of_peaks.ensures ∙ c.in-Some.is)
+    (sym c.first_of_maxima.ensures ∙ c.in-Some.is)
 
 pub returns : goal.returns
 returns g c =
@@ -38,9 +38,9 @@ returns g c =
     let a = c.args.action.now in
     let ok : all_valid s (map action_of (steps_of s a)) ≡ true = all_valid-steps_of s c.requires.whole a c.requires.allowed c.requires.well_formed (add_fresh s a c.args.count c.requires.adds) in
     let named : c.in_ok-table.table ≡ table_of a = c.in_ok-table.ensures ∙ c.table_of.ensures in
-    let extent : IsExtentAdded s (table_of a) c.args.count c.extent_added-added.result = subst (λ t. IsExtentAdded s t c.args.count c.extent_added-added.result) named c.extent_added-added.ensures in
-    let more : TellsMore c.extent_added-added.result s (after s a) = add_peaks s a c.args.count c.extent_added-added.result c.requires.whole c.requires.adds ok extent in
-    let most : TellsPeaks c.wider-most.result (after s a) = most_told s (after s a) c.peaks_before.result c.extent_added-added.result c.wider-most.result c.peaks_before.ensures more c.wider-most.ensures.columns c.wider-most.ensures.rows c.wider-most.ensures.row_id in
+    let maxima : AreMaximaAdded s (table_of a) c.args.count c.maxima_added-added.result = subst (λ t. AreMaximaAdded s t c.args.count c.maxima_added-added.result) named c.maxima_added-added.ensures in
+    let more : TellsMore c.maxima_added-added.result s (after s a) = add_maxima s a c.args.count c.maxima_added-added.result c.requires.whole c.requires.adds ok maxima in
+    let most : TellsMaxima c.wider-most.result (after s a) = most_told s (after s a) c.maxima_before.result c.maxima_added-added.result c.wider-most.result c.maxima_before.ensures more c.wider-most.ensures.columns c.wider-most.ensures.rows c.wider-most.ensures.row_id in
     let made : c.in-Some-2.steps ≡ steps_of s a = rw c.in-Some-2.is at c.in_ok-steps.ensures.made in
     let exact : IsExact c.sums_of-before.result s = exact_from s c.args.tally c.sums_of-before.result c.requires.tally c.sums_of-before.ensures in
     let told = any_told s c.sums_of-before.result (steps_of s a) (add_few s a c.args.count c.requires.adds) c.requires.whole ok exact in

@@ -3,5 +3,5 @@ use Rattle.doc_model.proofs.TotalsLaws.{sum_of}
 use Rattle.action_limits.specs.Capped.{capped, counted_cells}
 use Rattle.action_limits.proofs.limits.all_cells.Given as goal
 
-abbrev pub invariant-loop-place : goal.invariant-loop-place
-invariant-loop-place g l = l.cells ≡ capped (sum_of counted_cells (take l.place (g.D.DocTables.document l.tables)))
+abbrev pub invariant-loop-index : goal.invariant-loop-index
+invariant-loop-index g l = l.cells ≡ capped (sum_of counted_cells (take l.index (g.D.DocTables.document l.tables)))

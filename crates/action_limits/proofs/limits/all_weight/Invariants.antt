@@ -3,5 +3,5 @@ use Rattle.doc_model.proofs.TotalsLaws.{sum_of}
 use Rattle.action_limits.specs.Capped.{capped, counted_weight}
 use Rattle.action_limits.proofs.limits.all_weight.Given as goal
 
-abbrev pub invariant-loop-place : goal.invariant-loop-place
-invariant-loop-place g l = l.weight ≡ capped (sum_of counted_weight (take l.place (g.D.DocTables.document l.tables)))
+abbrev pub invariant-loop-index : goal.invariant-loop-index
+invariant-loop-index g l = l.weight ≡ capped (sum_of counted_weight (take l.index (g.D.DocTables.document l.tables)))

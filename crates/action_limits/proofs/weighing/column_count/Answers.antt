@@ -1,7 +1,7 @@
 use Rattle.std.proofs.Common.{◌<◌, ◌≤◌, ◌^◌, length, arith}
 use Rattle.std.proofs.lemmas.Option.{slice_get_within}
 use Rattle.doc_readers.specs.Parts.{grid_at}
-use Rattle.doc_readers.proofs.ColumnLemmas.{column_read, column_past, place_below}
+use Rattle.doc_readers.proofs.ColumnLemmas.{column_read, column_past, index_below}
 use Rattle.action_limits.proofs.CountedLemmas.{nothing_there}
 use Rattle.action_limits.proofs.weighing.column_count.Goals as goal
 
@@ -10,9 +10,9 @@ loop-column-preserved g c =
     let s = g.D.DocTables.document c.args.tables.now in
     let id = c.args.table.now in
     let row : c.in-Some.column.now.row < 2 ^ 32 = grind (arith, c.row_of-row.ensures) in
-    let here : c.loop-column.place < length (grid_at s id).columns = slice_get_within (grid_at s id).columns c.loop-column.place c.in-Some.column.now (column_read s id c.loop-column.place c.in-Some.column.now c.in-Some.ensures) in
+    let here : c.loop-column.index < length (grid_at s id).columns = slice_get_within (grid_at s id).columns c.loop-column.index c.in-Some.column.now (column_read s id c.loop-column.index c.in-Some.column.now c.in-Some.ensures) in
     record {
-      within = place_below s c.requires id c.loop-column.place c.in-Some.column.now c.in-Some.ensures row;
+      within = index_below s c.requires id c.loop-column.index c.in-Some.column.now c.in-Some.ensures row;
       there = omega (arith, here);
     }
 
@@ -20,5 +20,5 @@ pub returns : goal.returns
 returns g c =
     let s = g.D.DocTables.document c.args.tables.now in
     let id = c.args.table.now in
-    let past : length (grid_at s id).columns ≤ c.loop-column.place = nothing_there (grid_at s id).columns c.loop-column.place (column_past s id c.loop-column.place c.in_default.ensures) in
+    let past : length (grid_at s id).columns ≤ c.loop-column.index = nothing_there (grid_at s id).columns c.loop-column.index (column_past s id c.loop-column.index c.in_default.ensures) in
     omega (arith, past, c.loop-column.invariant.there)

@@ -5,6 +5,6 @@ use Rattle.doc_readers.specs.Parts.{grid_at}
 use Rattle.action_limits.specs.Capped.{capped}
 use Rattle.action_limits.proofs.weighing.formulas_weight.Given as goal
 
-abbrev pub invariant-loop-place : goal.invariant-loop-place
-invariant-loop-place g l =
-    l.weight ≡ capped (sum_of formula_bytes (take l.place (grid_at (g.D.DocTables.document l.tables) l.table).columns))
+abbrev pub invariant-loop-index : goal.invariant-loop-index
+invariant-loop-index g l =
+    l.weight ≡ capped (sum_of formula_bytes (take l.index (grid_at (g.D.DocTables.document l.tables) l.table).columns))

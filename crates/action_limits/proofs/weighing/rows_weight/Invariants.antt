@@ -6,7 +6,7 @@ use Rattle.doc_readers.specs.Parts.{grid_at}
 use Rattle.action_limits.specs.Capped.{capped}
 use Rattle.action_limits.proofs.weighing.rows_weight.Given as goal
 
-abbrev pub invariant-loop-place : goal.invariant-loop-place
-invariant-loop-place g l =
+abbrev pub invariant-loop-index : goal.invariant-loop-index
+invariant-loop-index g l =
     let t = grid_at (g.D.DocTables.document l.tables) l.table in
-    l.weight ≡ capped (sum_of (λ (d : ColDef). column_weight t l.rows d.id) (take l.place t.columns))
+    l.weight ≡ capped (sum_of (λ (d : ColDef). column_weight t l.rows d.id) (take l.index t.columns))

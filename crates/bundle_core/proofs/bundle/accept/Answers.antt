@@ -13,7 +13,7 @@ post-requires-clause-few_bundles g c = few_bundles c.args.sessions.now.items c.r
 
 pub returns-in-Ok-clause-sessions : goal.returns-in-Ok-clause-sessions
 returns-in-Ok-clause-sessions g c =
-    let P : List ℕ → Type 0 = λ reply. Posts c.ready_bundle.new.sessions.items c.post.new.sessions.items c.args.place reply c.post.result.items in
+    let P : List ℕ → Type 0 = λ reply. Posts c.ready_bundle.new.sessions.items c.post.new.sessions.items c.args.index reply c.post.result.items in
     record {
       prepared = c.ready_bundle.new.sessions.items;
       same = c.in-Ok.ensures.same;

@@ -28,9 +28,9 @@ returns-clause-reply g c =
     let x = c.index.result.now in
     c.in_ok-reply.ensures
     ∙ ap (λ (y : SessionState). reply_text (Bundle (y.holder.bundles + 1) (map (told_of (view (is_owner y.holder.user) t)) c.deref-3.result.now))) c.index.ensures
-    ∙ ap (λ u. reply_text (Bundle ((get_or c.args.sessions.now.items c.args.place x).holder.bundles + 1) (map (told_of (view (is_owner (get_or c.args.sessions.now.items c.args.place x).holder.user) u)) c.deref-3.result.now))) after
-    ∙ ap (λ l. reply_text (Bundle ((get_or c.args.sessions.now.items c.args.place x).holder.bundles + 1) (map (told_of (view (is_owner (get_or c.args.sessions.now.items c.args.place x).holder.user) (apply_all s c.args.plan.now.actions.items))) l))) c.deref-3.ensures.value
-    ∙ reply_is c.args.sessions.now.items c.args.place x (apply_all s c.args.plan.now.actions.items) c.args.plan.now.made.items c.requires.within
+    ∙ ap (λ u. reply_text (Bundle ((get_or c.args.sessions.now.items c.args.index x).holder.bundles + 1) (map (told_of (view (is_owner (get_or c.args.sessions.now.items c.args.index x).holder.user) u)) c.deref-3.result.now))) after
+    ∙ ap (λ l. reply_text (Bundle ((get_or c.args.sessions.now.items c.args.index x).holder.bundles + 1) (map (told_of (view (is_owner (get_or c.args.sessions.now.items c.args.index x).holder.user) (apply_all s c.args.plan.now.actions.items))) l))) c.deref-3.ensures.value
+    ∙ reply_is c.args.sessions.now.items c.args.index x (apply_all s c.args.plan.now.actions.items) c.args.plan.now.made.items c.requires.within
 
 pub returns-clause-ready : goal.returns-clause-ready
 returns-clause-ready g c =

@@ -25,7 +25,7 @@ returns-in-Refused-clause-ok g c =
     IfOk-weaker c.stay.result _ _ (λ lines b.
     let P : Document → Type 0 = λ t. Answers c.args.users.now s t xs c.stay.new.sessions.items c.args.entry.now lines.items in
     subst P (sym c.in_ok-verdict.ensures.same)
-    (find_refused c.args.users.now s xs c.args.place c.args.entry.now c.requires.finds d c.args.actions.now v c.stay.new.sessions.items lines.items c.requires.whole c.requires.asks (c.requires.quick d) own b)) c.stay.ensures.ok
+    (find_refused c.args.users.now s xs c.args.index c.args.entry.now c.requires.finds d c.args.actions.now v c.stay.new.sessions.items lines.items c.requires.whole c.requires.asks (c.requires.quick d) own b)) c.stay.ensures.ok
 
 pub returns-in_ok-lines-in-Accepted-clause-ok : goal.returns-in_ok-lines-in-Accepted-clause-ok
 returns-in_ok-lines-in-Accepted-clause-ok g c =
@@ -40,10 +40,10 @@ returns-in_ok-lines-in-Accepted-clause-ok g c =
     let own = ap (λ (x : SessionState). judge (is_owner x.holder.user) s c.args.actions.now) (sym c.index.ensures)
     ∙ ap (λ b. judge b s c.args.actions.now) (sym c.is_owner-owner.ensures)
     ∙ ap (judge c.is_owner-owner.result s) (sym c.as_slice.ensures) ∙ plan.judged in
-    let B : Document → Type 0 = λ t. Bundles xs ys c.args.place (told_changes t p.actions.items) (bundle_reply xs c.args.place (apply_all t p.actions.items) p.made.items) lines in
+    let B : Document → Type 0 = λ t. Bundles xs ys c.args.index (told_changes t p.actions.items) (bundle_reply xs c.args.index (apply_all t p.actions.items) p.made.items) lines in
     let P : Document → Type 0 = λ t. Answers c.args.users.now s t xs ys c.args.entry.now lines in
     subst P (sym (done.document ∙ ap (λ t. apply_all t p.actions.items) c.in_ok-verdict.ensures.same))
-    (find_bundle c.args.users.now s (apply_all s p.actions.items) xs c.args.place c.args.entry.now c.requires.finds d c.requires.whole (IsWhole-apply_all s p.actions.items c.requires.whole plan.may.valid)
+    (find_bundle c.args.users.now s (apply_all s p.actions.items) xs c.args.index c.args.entry.now c.requires.finds d c.requires.whole (IsWhole-apply_all s p.actions.items c.requires.whole plan.may.valid)
     c.args.actions.now p.made.items (told_changes s p.actions.items) ys lines c.requires.asks c.requires.kept (c.requires.quick d) own (λ user. refl) (subst B c.in_ok-verdict.ensures.same done.sessions))
 
 pub returns-in_ok-lines-in-Accepted-clause-whole : goal.returns-in_ok-lines-in-Accepted-clause-whole

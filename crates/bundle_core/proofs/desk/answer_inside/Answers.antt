@@ -14,10 +14,10 @@ returns-in-Gone-clause-ok g c =
     let s = g.D.DocTables.document c.args.tables.now in
     let xs = c.args.sessions.now.items in
     let e = c.args.entry.now in
-    let x = get_or xs c.args.place c.remove.result in
+    let x = get_or xs c.args.index c.remove.result in
     let P : List SessionState → Type 0 = λ ys. Answers c.args.users.now s s xs ys e c.new.result.items in
     subst P (sym c.remove.ensures.items) (answers_by _ _ _ _ _ _ _ _ c.new.ensures.items
-    (find_gone c.args.users.now s xs c.args.place e c.requires.finds c.remove.result (λ l n. code_gone s n l x.lagging x.holder e.kept e.request c.in-Gone.is)))
+    (find_gone c.args.users.now s xs c.args.index e c.requires.finds c.remove.result (λ l n. code_gone s n l x.lagging x.holder e.kept e.request c.in-Gone.is)))
 
 pub returns-then-is_lagging : goal.returns-then-is_lagging
 returns-then-is_lagging g c =
@@ -25,11 +25,11 @@ returns-then-is_lagging g c =
     let xs = c.args.sessions.now.items in
     let e = c.args.entry.now in
     let d = c.index.result.now in
-    let lag : (get_or xs c.args.place d).lagging ≡ true = ap (λ (z : SessionState). z.lagging) (sym c.index.ensures) ∙ sym c.is_lagging.ensures ∙ c.if-is_lagging.true in
-    let comes = behind c.args.users.now s xs c.args.place e c.requires.finds d _ lag
+    let lag : (get_or xs c.args.index d).lagging ≡ true = ap (λ (z : SessionState). z.lagging) (sym c.index.ensures) ∙ sym c.is_lagging.ensures ∙ c.if-is_lagging.true in
+    let comes = behind c.args.users.now s xs c.args.index e c.requires.finds d _ lag
     (λ l n. code_behind (state_of s n l) e.request c.in_default.not-Gone ∙ ap (answered s None) (sym c.refused.ensures)) in
     record {
-      ok = IfOk-weaker c.leave.result _ _ (λ v left. find_leaves c.args.users.now s xs c.args.place e c.requires.finds d c.refused.result _ v.items comes left) c.leave.ensures.ok;
+      ok = IfOk-weaker c.leave.result _ _ (λ v left. find_leaves c.args.users.now s xs c.args.index e c.requires.finds d c.refused.result _ v.items comes left) c.leave.ensures.ok;
       whole = c.requires.whole;
       tally = c.requires.tally;
       err_document = on_err_always c.leave.result refl;
@@ -42,12 +42,12 @@ returns-in-Some g c =
     let xs = c.args.sessions.now.items in
     let e = c.args.entry.now in
     let d = c.index.result.now in
-    let h = (get_or xs c.args.place d).holder in
-    let quick : (get_or xs c.args.place d).lagging ≡ false = ap (λ (z : SessionState). z.lagging) (sym c.index.ensures) ∙ sym c.is_lagging.ensures ∙ c.if-is_lagging.false in
-    let comes = inside c.args.users.now s xs c.args.place e c.requires.finds d _ quick
+    let h = (get_or xs c.args.index d).holder in
+    let quick : (get_or xs c.args.index d).lagging ≡ false = ap (λ (z : SessionState). z.lagging) (sym c.index.ensures) ∙ sym c.is_lagging.ensures ∙ c.if-is_lagging.false in
+    let comes = inside c.args.users.now s xs c.args.index e c.requires.finds d _ quick
     (λ l n. code_inside (state_of s n l) h e.kept e.request c.in-Some.code (sym c.refusal_inside.ensures ∙ c.in-Some.is) ∙ ap (answered s (Some h)) (sym c.refused-in-Some.ensures)) in
     record {
-      ok = IfOk-weaker c.stay.result _ _ (λ v kept. find_stays c.args.users.now s xs c.args.place e c.requires.finds d c.refused-in-Some.result _ v.items c.requires.whole comes kept) c.stay.ensures.ok;
+      ok = IfOk-weaker c.stay.result _ _ (λ v kept. find_stays c.args.users.now s xs c.args.index e c.requires.finds d c.refused-in-Some.result _ v.items c.requires.whole comes kept) c.stay.ensures.ok;
       whole = c.requires.whole;
       tally = c.requires.tally;
       err_document = on_err_always c.stay.result refl;
@@ -60,12 +60,12 @@ returns-in_default-request g c =
     let xs = c.args.sessions.now.items in
     let e = c.args.entry.now in
     let d = c.index.result.now in
-    let h = (get_or xs c.args.place d).holder in
-    let quick : (get_or xs c.args.place d).lagging ≡ false = ap (λ (z : SessionState). z.lagging) (sym c.index.ensures) ∙ sym c.is_lagging.ensures ∙ c.if-is_lagging.false in
-    let comes = inside c.args.users.now s xs c.args.place e c.requires.finds d _ quick
+    let h = (get_or xs c.args.index d).holder in
+    let quick : (get_or xs c.args.index d).lagging ≡ false = ap (λ (z : SessionState). z.lagging) (sym c.index.ensures) ∙ sym c.is_lagging.ensures ∙ c.if-is_lagging.false in
+    let comes = inside c.args.users.now s xs c.args.index e c.requires.finds d _ quick
     (λ l n. code_sync (state_of s n l) h e.kept e.request (sym c.refusal_inside.ensures ∙ c.in_default-refusal_inside.is) c.in_default.not-Gone (λ actions is. c.in_default-request.not-Apply actions is) c.in_default-request.not-Close) in
     record {
-      ok = IfOk-weaker c.stay-in_default-request.result _ _ (λ v kept. find_stays c.args.users.now s xs c.args.place e c.requires.finds d Done _ v.items c.requires.whole comes kept) c.stay-in_default-request.ensures.ok;
+      ok = IfOk-weaker c.stay-in_default-request.result _ _ (λ v kept. find_stays c.args.users.now s xs c.args.index e c.requires.finds d Done _ v.items c.requires.whole comes kept) c.stay-in_default-request.ensures.ok;
       whole = c.requires.whole;
       tally = c.requires.tally;
       err_document = on_err_always c.stay-in_default-request.result refl;
@@ -78,12 +78,12 @@ returns-in-Close g c =
     let xs = c.args.sessions.now.items in
     let e = c.args.entry.now in
     let d = c.index.result.now in
-    let h = (get_or xs c.args.place d).holder in
-    let quick : (get_or xs c.args.place d).lagging ≡ false = ap (λ (z : SessionState). z.lagging) (sym c.index.ensures) ∙ sym c.is_lagging.ensures ∙ c.if-is_lagging.false in
-    let comes = inside c.args.users.now s xs c.args.place e c.requires.finds d _ quick
+    let h = (get_or xs c.args.index d).holder in
+    let quick : (get_or xs c.args.index d).lagging ≡ false = ap (λ (z : SessionState). z.lagging) (sym c.index.ensures) ∙ sym c.is_lagging.ensures ∙ c.if-is_lagging.false in
+    let comes = inside c.args.users.now s xs c.args.index e c.requires.finds d _ quick
     (λ l n. ap (from_inside (state_of s n l) h e.kept) c.in-Close.is) in
     record {
-      ok = IfOk-weaker c.leave-in-Close.result _ _ (λ v left. find_leaves c.args.users.now s xs c.args.place e c.requires.finds d Done _ v.items comes left) c.leave-in-Close.ensures.ok;
+      ok = IfOk-weaker c.leave-in-Close.result _ _ (λ v left. find_leaves c.args.users.now s xs c.args.index e c.requires.finds d Done _ v.items comes left) c.leave-in-Close.ensures.ok;
       whole = c.requires.whole;
       tally = c.requires.tally;
       err_document = on_err_always c.leave-in-Close.result refl;

@@ -17,7 +17,7 @@ pub returns-then-len-ge-MAX_SESSIONS-clause-ok : goal.returns-then-len-ge-MAX_SE
 returns-then-len-ge-MAX_SESSIONS-clause-ok g c =
     let full : nat_le session_bound (length c.args.sessions.now.items) ≡ true = le-leb _ _ (omega (arith, c.len.ensures, c.if-len-ge-MAX_SESSIONS.true)) in
     IfOk-weaker c.reply_alone.result _ _ (λ v p. answers_by _ _ _ _ _ _ _ _ (p ∙ ap (λ x. reply_text x ∷ []) c.too_many.ensures)
-    (miss_full c.args.users.now (g.D.DocTables.document c.args.tables.now) c.args.sessions.now.items c.args.place c.args.entry.now c.requires.misses c.args.token.now c.args.user.now c.requires.asks c.requires.known full)) c.reply_alone.ensures
+    (miss_full c.args.users.now (g.D.DocTables.document c.args.tables.now) c.args.sessions.now.items c.args.index c.args.entry.now c.requires.misses c.args.token.now c.args.user.now c.requires.asks c.requires.known full)) c.reply_alone.ensures
 
 pub returns-clause-ok : goal.returns-clause-ok
 returns-clause-ok g c =
@@ -26,9 +26,9 @@ returns-clause-ok g c =
     let s = g.D.DocTables.document c.args.tables.now in
     let x = c.in_ok-session.session in
     let opened = c.in_ok-session.ensures in
-    let stands : c.put_back.new.sessions.items ≡ insert xs c.args.place x = c.put_back.ensures ∙ ap (λ l. insert l c.args.place x) c.in_ok-reserve.ensures.items in
+    let stands : c.put_back.new.sessions.items ≡ insert xs c.args.index x = c.put_back.ensures ∙ ap (λ l. insert l c.args.index x) c.in_ok-reserve.ensures.items in
     let fields = open_of-fields s x c.args.entry.now.session (record { user = c.args.user.now; bundles = 0 }) 0 [] false
     opened.session (holder_of-fields x.holder c.args.user.now 0 opened.user opened.bundles) opened.made opened.waiting opened.lagging in
     let Q : List SessionState → Type 0 = λ ys. Answers c.args.users.now s s xs ys c.args.entry.now (reply_text (Changes (changes [] (view c.args.user.now s))) ∷ []) in
     answers_by _ _ _ _ _ _ _ _ c.in_ok-lines.ensures (subst Q (sym stands)
-    (miss_opened c.args.users.now s xs c.args.place c.args.entry.now c.requires.misses c.args.token.now c.args.user.now x c.requires.asks c.requires.known free fields))
+    (miss_opened c.args.users.now s xs c.args.index c.args.entry.now c.requires.misses c.args.token.now c.args.user.now x c.requires.asks c.requires.known free fields))

@@ -9,41 +9,41 @@ use Rattle.bundle_core.proofs.judging.judge_each.Goals as goal
 pub rule_on-requires-clause-whole : goal.rule_on-requires-clause-whole
 rule_on-requires-clause-whole g c =
     let start = g.D.DocTables.document c.args.tables.now in
-    let s = g.D.DocTables.document c.loop-place.tables in
+    let s = g.D.DocTables.document c.loop-index.tables in
     let t = g.D.DocTables.document c.put_all.new.tables in
-    let l = c.loop-place in
-    let now : IsAt c.args.owner start c.args.asked.now l.place t c.append.new.self.items [] l.made.items l.tally =
-    at_done c.args.owner start c.args.asked.now l.place s l.actions.items l.next.items l.made.items l.tally l.invariant.0 t c.append.new.self.items
+    let l = c.loop-index in
+    let now : IsAt c.args.owner start c.args.asked.now l.index t c.append.new.self.items [] l.made.items l.tally =
+    at_done c.args.owner start c.args.asked.now l.index s l.actions.items l.next.items l.made.items l.tally l.invariant.0 t c.append.new.self.items
     (c.in_ok-put_all.ensures.done ∙ ap (apply_all s) c.deref.ensures.value) c.in_ok-append.ensures.items in
-    whole_at c.args.owner start c.args.asked.now l.place t c.append.new.self.items [] l.made.items l.tally now c.requires.whole
+    whole_at c.args.owner start c.args.asked.now l.index t c.append.new.self.items [] l.made.items l.tally now c.requires.whole
 
 pub rule_on-requires-clause-form : goal.rule_on-requires-clause-form
-rule_on-requires-clause-form g c = holds_at is_in_form c.args.asked.now c.loop-place.place c.index-asked-place.result c.requires.form c.loop-place-test.true c.index-asked-place.is
+rule_on-requires-clause-form g c = holds_at is_in_form c.args.asked.now c.loop-index.index c.index-asked-index.result c.requires.form c.loop-index-test.true c.index-asked-index.is
 
 pub returns-in-Refused-clause-judged : goal.returns-in-Refused-clause-judged
 returns-in-Refused-clause-judged g c =
     let start = g.D.DocTables.document c.args.tables.now in
-    let s = g.D.DocTables.document c.loop-place.tables in
+    let s = g.D.DocTables.document c.loop-index.tables in
     let t = g.D.DocTables.document c.put_all.new.tables in
-    let l = c.loop-place in
-    let now : IsAt c.args.owner start c.args.asked.now l.place t c.append.new.self.items [] l.made.items l.tally =
-    at_done c.args.owner start c.args.asked.now l.place s l.actions.items l.next.items l.made.items l.tally l.invariant.0 t c.append.new.self.items
+    let l = c.loop-index in
+    let now : IsAt c.args.owner start c.args.asked.now l.index t c.append.new.self.items [] l.made.items l.tally =
+    at_done c.args.owner start c.args.asked.now l.index s l.actions.items l.next.items l.made.items l.tally l.invariant.0 t c.append.new.self.items
     (c.in_ok-put_all.ensures.done ∙ ap (apply_all s) c.deref.ensures.value) c.in_ok-append.ensures.items in
     judge-from c.args.owner start c.args.asked.now c.requires.form c.requires.few
-    ∙ refused_at c.args.owner start c.args.asked.now l.place t c.append.new.self.items l.made.items l.tally c.index-asked-place.result (drop (l.place + 1) c.args.asked.now) now
-    (left_at l.place c.args.asked.now c.index-asked-place.result c.loop-place-test.true c.index-asked-place.is) c.in-Refused.verdict (rw c.in-Refused.is at c.in_ok-verdict.ensures)
+    ∙ refused_at c.args.owner start c.args.asked.now l.index t c.append.new.self.items l.made.items l.tally c.index-asked-index.result (drop (l.index + 1) c.args.asked.now) now
+    (left_at l.index c.args.asked.now c.index-asked-index.result c.loop-index-test.true c.index-asked-index.is) c.in-Refused.verdict (rw c.in-Refused.is at c.in_ok-verdict.ensures)
 
-pub loop-place-preserved : goal.loop-place-preserved
-loop-place-preserved g c =
+pub loop-index-preserved : goal.loop-index-preserved
+loop-index-preserved g c =
     let start = g.D.DocTables.document c.args.tables.now in
-    let s = g.D.DocTables.document c.loop-place.tables in
+    let s = g.D.DocTables.document c.loop-index.tables in
     let t = g.D.DocTables.document c.put_all.new.tables in
-    let l = c.loop-place in
-    let now : IsAt c.args.owner start c.args.asked.now l.place t c.append.new.self.items [] l.made.items l.tally =
-    at_done c.args.owner start c.args.asked.now l.place s l.actions.items l.next.items l.made.items l.tally l.invariant.0 t c.append.new.self.items
+    let l = c.loop-index in
+    let now : IsAt c.args.owner start c.args.asked.now l.index t c.append.new.self.items [] l.made.items l.tally =
+    at_done c.args.owner start c.args.asked.now l.index s l.actions.items l.next.items l.made.items l.tally l.invariant.0 t c.append.new.self.items
     (c.in_ok-put_all.ensures.done ∙ ap (apply_all s) c.deref.ensures.value) c.in_ok-append.ensures.items in (
-      at_next c.args.owner start c.args.asked.now l.place t c.append.new.self.items l.made.items l.tally c.index-asked-place.result (drop (l.place + 1) c.args.asked.now) now
-          (left_at l.place c.args.asked.now c.index-asked-place.result c.loop-place-test.true c.index-asked-place.is) c.in-Accepted.ruled c.push.new.self.items refl (rw c.in-Accepted.is at c.in_ok-verdict.ensures) c.in_ok-push-in-Accepted.ensures.items,
+      at_next c.args.owner start c.args.asked.now l.index t c.append.new.self.items l.made.items l.tally c.index-asked-index.result (drop (l.index + 1) c.args.asked.now) now
+          (left_at l.index c.args.asked.now c.index-asked-index.result c.loop-index-test.true c.index-asked-index.is) c.in-Accepted.ruled c.push.new.self.items refl (rw c.in-Accepted.is at c.in_ok-verdict.ensures) c.in_ok-push-in-Accepted.ensures.items,
       c.in_ok-put_all.ensures.fit,
       c.in_ok-put_all.ensures.back ∙ l.invariant.2,
     )
@@ -51,7 +51,7 @@ loop-place-preserved g c =
 pub returns-clause-judged : goal.returns-clause-judged
 returns-clause-judged g c =
     let start = g.D.DocTables.document c.args.tables.now in
-    let s = g.D.DocTables.document c.loop-place.tables in
-    let l = c.loop-place in
-    let le : length c.args.asked.now ≤ l.place = omega (arith, c.loop-place-test.false) in
-    planned c.args.owner start c.args.asked.now l.place s l.actions.items l.next.items l.made.items l.tally l.invariant.0 _ c.requires.form c.requires.few le c.in_ok-append-2.ensures.items refl refl
+    let s = g.D.DocTables.document c.loop-index.tables in
+    let l = c.loop-index in
+    let le : length c.args.asked.now ≤ l.index = omega (arith, c.loop-index-test.false) in
+    planned c.args.owner start c.args.asked.now l.index s l.actions.items l.next.items l.made.items l.tally l.invariant.0 _ c.requires.form c.requires.few le c.in_ok-append-2.ensures.items refl refl

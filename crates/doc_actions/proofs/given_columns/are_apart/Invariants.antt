@@ -4,5 +4,5 @@ use Rattle.doc_model.specs.Records.{given_id}
 use Rattle.doc_actions.proofs.given_columns.are_apart.Given as goal
 
 -- the rest decides
-abbrev pub invariant-loop-place : goal.invariant-loop-place
-invariant-loop-place l = are_distinct given_id (drop l.place l.columns) ≡ are_distinct given_id l.columns
+abbrev pub invariant-loop-index : goal.invariant-loop-index
+invariant-loop-index l = are_distinct given_id (drop l.index l.columns) ≡ are_distinct given_id l.columns

@@ -3,5 +3,5 @@ use Rattle.doc_model.specs.ByIds.{are_distinct}
 use Rattle.plain_view.proofs.named.are_distinct.Given as goal
 
 -- the rest decides
-abbrev pub invariant-loop-place : goal.invariant-loop-place
-invariant-loop-place g l = are_distinct g.T.Named.id_of (drop l.place l.things) ≡ are_distinct g.T.Named.id_of l.things
+abbrev pub invariant-loop-index : goal.invariant-loop-index
+invariant-loop-index g l = are_distinct g.T.Named.id_of (drop l.index l.things) ≡ are_distinct g.T.Named.id_of l.things

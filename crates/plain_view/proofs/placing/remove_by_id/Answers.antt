@@ -8,8 +8,8 @@ pub returns-in-Some : goal.returns-in-Some
 returns-in-Some g c =
     let xs = c.args.things.now.items in
     let id = c.args.id.now in
-    let at : position (λ t. bytes_eq (g.T.Named.id_of t) id) xs ≡ Some c.in-Some.place = sym (c.in-Some.ensures ∙ ap (position (λ t. bytes_eq (g.T.Named.id_of t) id)) c.deref.ensures.value) in
-    let h = one_named g.T.Named.id_of id (λ t. t) xs c.in-Some.place c.remove.result c.requires at c.remove.ensures.value in
+    let at : position (λ t. bytes_eq (g.T.Named.id_of t) id) xs ≡ Some c.in-Some.index = sym (c.in-Some.ensures ∙ ap (position (λ t. bytes_eq (g.T.Named.id_of t) id)) c.deref.ensures.value) in
+    let h = one_named g.T.Named.id_of id (λ t. t) xs c.in-Some.index c.remove.result c.requires at c.remove.ensures.value in
     c.remove.ensures.items ∙ h.2
 
 pub returns-in-None : goal.returns-in-None

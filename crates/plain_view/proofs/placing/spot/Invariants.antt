@@ -1,5 +1,5 @@
 use Rattle.plain_view.proofs.Spots.{Passed}
 use Rattle.plain_view.proofs.placing.spot.Given as goal
 
-abbrev pub invariant-loop-place : goal.invariant-loop-place
-invariant-loop-place g l = Passed g.T.Named.id_of l.id l.things l.place
+abbrev pub invariant-loop-index : goal.invariant-loop-index
+invariant-loop-index g l = Passed g.T.Named.id_of l.id l.things l.index

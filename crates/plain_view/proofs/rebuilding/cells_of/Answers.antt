@@ -1,5 +1,5 @@
 use Rattle.doc_model.specs.Changes.{grid}
-use Rattle.plain_view.proofs.GivenPlaces.{cells_made}
+use Rattle.plain_view.proofs.GivenIndexes.{cells_made}
 use Rattle.plain_view.proofs.rebuilding.cells_of.Goals as goal
 
 pub returns : goal.returns

@@ -1,5 +1,5 @@
 use Rattle.doc_model.specs.Changes.{grid}
-use Rattle.plain_view.proofs.GivenPlaces.{rebuilt_table}
+use Rattle.plain_view.proofs.GivenIndexes.{rebuilt_table}
 use Rattle.plain_view.proofs.rebuilding.rebuilt.Goals as goal
 
 pub returns : goal.returns

@@ -1,13 +1,13 @@
 use Rattle.std.proofs.Common.{◌-◌, ◌<◌, get_or, refl, arith}
 use Rattle.std.proofs.lemmas.Bool.{false≢true}
-use Rattle.plain_view.proofs.RowPlaces.{ascending_from, below}
+use Rattle.plain_view.proofs.RowIndexes.{ascending_from, below}
 use Rattle.plain_view.proofs.rows.is_ascending.Goals as goal
 
-pub returns-then-rows-place : goal.returns-then-rows-place
-returns-then-rows-place c = (
+pub returns-then-rows-index : goal.returns-then-rows-index
+returns-then-rows-index c = (
   λ e. absurd (false≢true e),
-  λ a. let b : get_or c.args.rows.now (c.loop-place.place - 1) 0 < get_or c.args.rows.now c.loop-place.place 0 = below c.args.rows.now a (c.loop-place.place - 1) c.loop-place.place (omega arith) (omega arith) in absurd (omega (arith, b)),
+  λ a. let b : get_or c.args.rows.now (c.loop-index.index - 1) 0 < get_or c.args.rows.now c.loop-index.index 0 = below c.args.rows.now a (c.loop-index.index - 1) c.loop-index.index (omega arith) (omega arith) in absurd (omega (arith, b)),
 )
 
 pub returns : goal.returns
-returns c = (λ _. ascending_from c.args.rows.now (λ k lt. c.loop-place.invariant k (omega (arith, lt))), λ _. refl)
+returns c = (λ _. ascending_from c.args.rows.now (λ k lt. c.loop-index.invariant k (omega (arith, lt))), λ _. refl)

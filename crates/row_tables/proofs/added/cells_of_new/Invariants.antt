@@ -5,5 +5,5 @@ use Rattle.doc_model.specs.Records.{given}
 use Rattle.row_tables.proofs.added.cells_of_new.Given as goal
 
 -- the cells of the rows so far
-abbrev pub invariant-loop-place : goal.invariant-loop-place
-invariant-loop-place l = l.lists.items ≡ map (λ r. map (λ (d : ColDef). unwrap_or (given l.rows l.values d.id r) (start_of d)) l.columns) (take l.place l.rows)
+abbrev pub invariant-loop-index : goal.invariant-loop-index
+invariant-loop-index l = l.lists.items ≡ map (λ r. map (λ (d : ColDef). unwrap_or (given l.rows l.values d.id r) (start_of d)) l.columns) (take l.index l.rows)

@@ -1,7 +1,7 @@
 use Rattle.std.proofs.Common.{sym, ap, ◌∙◌}
 use Rattle.doc_model.specs.Column.{column_row}
 use Rattle.doc_model.specs.Document.{by_row, put_by_row}
-use Rattle.row_tables.proofs.Places.{drop_back}
+use Rattle.row_tables.proofs.Indexes.{drop_back}
 use Rattle.row_tables.proofs.columns.columns_by_row.Goals as goal
 
 pub loop-passed-preserved : goal.loop-passed-preserved

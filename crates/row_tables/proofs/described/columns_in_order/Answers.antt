@@ -2,7 +2,7 @@ use Rattle.std.proofs.Common.{sym, ap, drop, length, ◌-◌, ◌∙◌}
 use Rattle.doc_model.specs.Document.{Table}
 use Rattle.doc_model.specs.Schema.{all_columns, in_order}
 use Rattle.row_tables.specs.Spots.{columns_of, put_all}
-use Rattle.row_tables.proofs.Places.{drop_back}
+use Rattle.row_tables.proofs.Indexes.{drop_back}
 use Rattle.row_tables.proofs.SpotLaws.{put_all-in_order}
 use Rattle.row_tables.proofs.described.columns_in_order.Goals as goal
 

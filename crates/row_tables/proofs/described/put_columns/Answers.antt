@@ -1,7 +1,7 @@
 use Rattle.std.proofs.Common.{sym, ap, ◌∙◌}
 use Rattle.doc_model.specs.Schema.{Described, put_described}
 use Rattle.row_tables.specs.Spots.{columns_of, put_all}
-use Rattle.row_tables.proofs.Places.{drop_back}
+use Rattle.row_tables.proofs.Indexes.{drop_back}
 use Rattle.row_tables.proofs.described.put_columns.Goals as goal
 
 pub loop-passed-preserved : goal.loop-passed-preserved

@@ -3,6 +3,6 @@ use Rattle.doc_model.specs.Grid.{beside}
 use Rattle.row_tables.proofs.look.cells_of_row.Given as goal
 
 -- the rest tells what the whole tells
-abbrev pub invariant-loop-place : goal.invariant-loop-place
-invariant-loop-place l =
-    beside (λ q. nat_eq q l.row) (drop l.place l.rows) (drop l.place l.cells) [] ≡ beside (λ q. nat_eq q l.row) l.rows l.cells []
+abbrev pub invariant-loop-index : goal.invariant-loop-index
+invariant-loop-index l =
+    beside (λ q. nat_eq q l.row) (drop l.index l.rows) (drop l.index l.cells) [] ≡ beside (λ q. nat_eq q l.row) l.rows l.cells []

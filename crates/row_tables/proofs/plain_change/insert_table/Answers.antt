@@ -7,4 +7,4 @@ pub returns-clause-back : goal.returns-clause-back
 returns-clause-back c =
     let kept = c.args.tables.now.ok.0 in
     let within = c.requires in
-    ap (λ s. remove s c.args.place) c.in_ok-insert.ensures.items ∙ remove-insert c.args.tables.now.items c.args.place c.args.new (omega arith)
+    ap (λ s. remove s c.args.index) c.in_ok-insert.ensures.items ∙ remove-insert c.args.tables.now.items c.args.index c.args.new (omega arith)

@@ -5,5 +5,5 @@ use Rattle.row_tables.proofs.plain_change.remove_table.Goals as goal
 pub returns-clause-done : goal.returns-clause-done
 returns-clause-done c =
     subst (λ z. OnOk c.take_table.result (c.take_table.new.tables.items ≡ z))
-    (taken_found c.args.tables.now.items c.deref.result.now c.args.id.now c.found_place-place.result c.requires.distinct c.deref.ensures.value c.found_place-place.ensures.within c.found_place-place.ensures.found)
+    (taken_found c.args.tables.now.items c.deref.result.now c.args.id.now c.found_index-index.result c.requires.distinct c.deref.ensures.value c.found_index-index.ensures.within c.found_index-index.ensures.found)
     c.take_table.ensures.done

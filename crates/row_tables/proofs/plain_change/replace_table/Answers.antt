@@ -6,5 +6,5 @@ use Rattle.row_tables.proofs.plain_change.replace_table.Goals as goal
 pub returns-clause-back : goal.returns-clause-back
 returns-clause-back c =
     let s : List Table = c.args.tables.now.items in
-    ap (λ z. set z c.args.place c.swap_at.new.item) c.swap_at.ensures.items ∙ ap (set (set s c.args.place c.args.new) c.args.place) c.swap_at.ensures.item
-    ∙ set_back s c.args.place c.args.new
+    ap (λ z. set z c.args.index c.swap_at.new.item) c.swap_at.ensures.items ∙ ap (set (set s c.args.index c.args.new) c.args.index) c.swap_at.ensures.item
+    ∙ set_back s c.args.index c.args.new

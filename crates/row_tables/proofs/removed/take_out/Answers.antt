@@ -1,21 +1,21 @@
 use Rattle.std.proofs.Common.{ℕ, ◌≡◌, ◌<◌, true, get_or, length, vec_len, vec_capacity, ap, ◌∙◌, arith}
 use Rattle.std.proofs.lemmas.List.{get_or_default}
 use Rattle.doc_model.specs.Rows.{has}
-use Rattle.row_tables.specs.RowPlaces.{row_place, row_search}
+use Rattle.row_tables.specs.RowIndexes.{row_index, row_search}
 use Rattle.row_tables.specs.declared.removed.TakenRow.{TakenRow}
-use Rattle.row_tables.proofs.RowPlaceLaws.{search_ok, search_err}
+use Rattle.row_tables.proofs.RowIndexLaws.{search_ok, search_err}
 use Rattle.row_tables.proofs.TakenLaws.{not_there, taken}
-use Rattle.row_tables.proofs.WrittenLaws.{place_found}
+use Rattle.row_tables.proofs.WrittenLaws.{index_found}
 use Rattle.row_tables.proofs.removed.take_out.Goals as goal
 use Rattle.row_tables.proofs.removed.take_out.Goals.{in-Ok, in_default}
 
 pub remove-row-requires : goal.remove-row-requires
 remove-row-requires c =
     let row : ℕ = get_or c.args.gone.now c.loop-row.row-index 0 in
-    let there : (has c.loop-row.rows.items row ≡ true) × (c.in-Ok.place ≡ row_place row c.loop-row.rows.items)
-    = search_ok row c.in-Ok.place c.loop-row.rows.items (c.in-Ok.ensures ∙ ap (row_search row) c.deref.ensures.value) in
-    let found : (row_place row c.loop-row.rows.items < length c.loop-row.rows.items) × (get_or c.loop-row.rows.items (row_place row c.loop-row.rows.items) 0 ≡ row)
-    = place_found row c.loop-row.rows.items c.loop-row.invariant.0.ascending there.0 in
+    let there : (has c.loop-row.rows.items row ≡ true) × (c.in-Ok.index ≡ row_index row c.loop-row.rows.items)
+    = search_ok row c.in-Ok.index c.loop-row.rows.items (c.in-Ok.ensures ∙ ap (row_search row) c.deref.ensures.value) in
+    let found : (row_index row c.loop-row.rows.items < length c.loop-row.rows.items) × (get_or c.loop-row.rows.items (row_index row c.loop-row.rows.items) 0 ≡ row)
+    = index_found row c.loop-row.rows.items c.loop-row.invariant.0.ascending there.0 in
     let at = there.1 in
     let within = found.0 in
     let kept = c.loop-row.rows.ok.0 in
@@ -32,16 +32,16 @@ loop-row-preserved c =
     let before = c.loop-row-test.true in
     elim c.match-search_row.branch [
       | in-Ok w ↦
-          let there : (has c.loop-row.rows.items row ≡ true) × (w.in-Ok.place ≡ row_place row c.loop-row.rows.items)
-          = search_ok row w.in-Ok.place c.loop-row.rows.items (w.in-Ok.ensures ∙ ap (row_search row) c.deref.ensures.value) in
-          let found : (row_place row c.loop-row.rows.items < length c.loop-row.rows.items) × (get_or c.loop-row.rows.items (row_place row c.loop-row.rows.items) 0 ≡ row)
-          = place_found row c.loop-row.rows.items c.loop-row.invariant.0.ascending there.0 in
+          let there : (has c.loop-row.rows.items row ≡ true) × (w.in-Ok.index ≡ row_index row c.loop-row.rows.items)
+          = search_ok row w.in-Ok.index c.loop-row.rows.items (w.in-Ok.ensures ∙ ap (row_search row) c.deref.ensures.value) in
+          let found : (row_index row c.loop-row.rows.items < length c.loop-row.rows.items) × (get_or c.loop-row.rows.items (row_index row c.loop-row.rows.items) 0 ≡ row)
+          = index_found row c.loop-row.rows.items c.loop-row.invariant.0.ascending there.0 in
           let at = there.1 in
           let inside = found.0 in
           let rows_kept = c.loop-row.rows.ok.0 in
           let cells_kept = c.loop-row.cells.ok.0 in
-          let within : w.in-Ok.place < length c.loop-row.cells.items = omega arith in
-          let t : TakenRow = record { place = w.in-Ok.place; row = w.remove-row.result; cells = w.remove-cells.result } in
+          let within : w.in-Ok.index < length c.loop-row.cells.items = omega arith in
+          let t : TakenRow = record { index = w.in-Ok.index; row = w.remove-row.result; cells = w.remove-cells.result } in
           let rows_len = w.remove-row.ensures.len in
           let cells_len = w.remove-cells.ensures.len in
           let taken_len = w.push_reserved.ensures.len in

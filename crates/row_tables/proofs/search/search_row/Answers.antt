@@ -1,4 +1,4 @@
-use Rattle.row_tables.proofs.RowPlaceLaws.{searched_row}
+use Rattle.row_tables.proofs.RowIndexLaws.{searched_row}
 use Rattle.row_tables.proofs.search.search_row.Goals as goal
 
 pub returns : goal.returns

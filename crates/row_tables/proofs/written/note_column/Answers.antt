@@ -9,8 +9,8 @@ none_written there column (q ∷ rows) = refl
 
 pub returns-in_default : goal.returns-in_default
 returns-in_default c =
-    sym (append-nil c.loop-place.writes.items)
-    ∙ ap (λ ws. c.loop-place.writes.items ++ ws) (sym (
-    ap (column_writes c.args.there.now c.args.column (drop c.loop-place.place c.args.rows.now)) (drop_all c.loop-place.place c.args.values.now c.in_default.ensures.lookup.3)
-    ∙ none_written c.args.there.now c.args.column (drop c.loop-place.place c.args.rows.now)))
-    ∙ c.loop-place.invariant
+    sym (append-nil c.loop-index.writes.items)
+    ∙ ap (λ ws. c.loop-index.writes.items ++ ws) (sym (
+    ap (column_writes c.args.there.now c.args.column (drop c.loop-index.index c.args.rows.now)) (drop_all c.loop-index.index c.args.values.now c.in_default.ensures.lookup.3)
+    ∙ none_written c.args.there.now c.args.column (drop c.loop-index.index c.args.rows.now)))
+    ∙ c.loop-index.invariant

@@ -6,11 +6,11 @@ use Rattle.view_parts.proofs.columns.put_column.Goals as goal
 
 pub insert-requires : goal.insert-requires
 insert-requires c =
-    (goes_at shown_id c.args.column c.args.columns.now.items c.as_slice.result.now c.column_place.result (vec_len c.args.columns.now) c.unwrap_or-place.result
-    c.as_slice.ensures.value c.as_slice.ensures.len c.column_place.ensures (c.unwrap_or-place.ensures ∙ ap (unwrap_or c.column_place.result) c.len.ensures)).0
+    (goes_at shown_id c.args.column c.args.columns.now.items c.as_slice.result.now c.column_index.result (vec_len c.args.columns.now) c.unwrap_or-index.result
+    c.as_slice.ensures.value c.as_slice.ensures.len c.column_index.ensures (c.unwrap_or-index.ensures ∙ ap (unwrap_or c.column_index.result) c.len.ensures)).0
 
 pub returns-clause-placed : goal.returns-clause-placed
 returns-clause-placed c =
-    put_there shown_id c.args.column c.args.columns.now.items c.as_slice.result.now c.insert.new.self.items c.column_place.result (vec_len c.args.columns.now) c.unwrap_or-place.result
-    c.requires.new c.as_slice.ensures.value c.as_slice.ensures.len c.column_place.ensures (c.unwrap_or-place.ensures ∙ ap (unwrap_or c.column_place.result) c.len.ensures)
+    put_there shown_id c.args.column c.args.columns.now.items c.as_slice.result.now c.insert.new.self.items c.column_index.result (vec_len c.args.columns.now) c.unwrap_or-index.result
+    c.requires.new c.as_slice.ensures.value c.as_slice.ensures.len c.column_index.ensures (c.unwrap_or-index.ensures ∙ ap (unwrap_or c.column_index.result) c.len.ensures)
     c.in_ok-insert.ensures.items

@@ -6,11 +6,11 @@ use Rattle.view_parts.proofs.tables.put_table.Goals as goal
 
 pub insert-requires : goal.insert-requires
 insert-requires c =
-    (goes_at shown_table_id c.args.table c.args.tables.now.items c.as_slice.result.now c.table_place.result (vec_len c.args.tables.now) c.unwrap_or-place.result
-    c.as_slice.ensures.value c.as_slice.ensures.len c.table_place.ensures (c.unwrap_or-place.ensures ∙ ap (unwrap_or c.table_place.result) c.len.ensures)).0
+    (goes_at shown_table_id c.args.table c.args.tables.now.items c.as_slice.result.now c.table_index.result (vec_len c.args.tables.now) c.unwrap_or-index.result
+    c.as_slice.ensures.value c.as_slice.ensures.len c.table_index.ensures (c.unwrap_or-index.ensures ∙ ap (unwrap_or c.table_index.result) c.len.ensures)).0
 
 pub returns : goal.returns
 returns c =
-    put_there shown_table_id c.args.table c.args.tables.now.items c.as_slice.result.now c.insert.new.self.items c.table_place.result (vec_len c.args.tables.now) c.unwrap_or-place.result
-    c.requires c.as_slice.ensures.value c.as_slice.ensures.len c.table_place.ensures (c.unwrap_or-place.ensures ∙ ap (unwrap_or c.table_place.result) c.len.ensures)
+    put_there shown_table_id c.args.table c.args.tables.now.items c.as_slice.result.now c.insert.new.self.items c.table_index.result (vec_len c.args.tables.now) c.unwrap_or-index.result
+    c.requires c.as_slice.ensures.value c.as_slice.ensures.len c.table_index.ensures (c.unwrap_or-index.ensures ∙ ap (unwrap_or c.table_index.result) c.len.ensures)
     c.in_ok-insert.ensures.items

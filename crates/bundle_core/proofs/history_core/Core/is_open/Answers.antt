@@ -10,5 +10,5 @@ returns c =
     let kept = c.self.inside in
     let P : List SessionState → Type 0 = λ xs. IsCore kept.users kept.entries.items kept.tables kept.tally xs kept.bytes_left in
     c.is_ok.ensures.value
-    ∙ open_as kept.users kept.entries.items kept.tables kept.tally c.deref.result.now kept.bytes_left c.args.session.now (subst P (sym c.deref.ensures.value) c.self.invariant) c.place_of.result c.place_of.ensures
+    ∙ open_as kept.users kept.entries.items kept.tables kept.tally c.deref.result.now kept.bytes_left c.args.session.now (subst P (sym c.deref.ensures.value) c.self.invariant) c.index_of.result c.index_of.ensures
     ∙ ap (λ (s : CoreState). is_some (session_of c.args.session.now (state_after s.users s.history))) c.self.view_is

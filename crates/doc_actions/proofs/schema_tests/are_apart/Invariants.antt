@@ -1,8 +1,0 @@
-use Rattle.std.proofs.Common.{◌≡◌, drop}
-use Rattle.doc_model.specs.ByIds.{are_distinct}
-use Rattle.doc_model.specs.Column.{column_id}
-use Rattle.doc_actions.proofs.schema_tests.are_apart.Given as goal
-
--- the rest decides
-abbrev pub invariant-loop-place : goal.invariant-loop-place
-invariant-loop-place l = are_distinct column_id (drop l.place l.columns) ≡ are_distinct column_id l.columns

@@ -1,8 +1,0 @@
--- Where a column goes among others, counted from 0.
-use Rattle.std.specs.Prelude.{ℕ, ◌+◌, cond, nat_lt, List, [], ◌∷◌}
-use Rattle.doc_model.specs.declared.column.ColDef.{ColDef}
-
--- the place of the first column with a greater row, or the end
-abbrev pub column_place : ℕ → List ColDef → ℕ
-column_place row [] = 0
-column_place row (d ∷ columns) = cond (nat_lt row d.row) 0 (column_place row columns + 1)

@@ -1,5 +1,0 @@
-use Rattle.row_tables.proofs.SchemaLaws.{not_there}
-use Rattle.row_tables.proofs.plain_change.found_place.Goals as goal
-
-pub unreachable-requires : goal.unreachable-requires
-unreachable-requires c = not_there c.args.tables.now c.args.id.now c.in_default.ensures c.requires

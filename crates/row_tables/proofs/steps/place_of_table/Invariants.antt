@@ -1,8 +1,0 @@
-use Rattle.std.proofs.Common.{◌≡◌, drop}
-use Rattle.doc_model.specs.ByIds.{find_id}
-use Rattle.doc_model.specs.Document.{table_id}
-use Rattle.row_tables.proofs.steps.place_of_table.Given as goal
-
--- the rest finds what the whole finds
-abbrev pub invariant-loop-place : goal.invariant-loop-place
-invariant-loop-place l = find_id table_id l.id (drop l.place l.tables) ≡ find_id table_id l.id l.tables

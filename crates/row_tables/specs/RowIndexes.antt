@@ -1,0 +1,50 @@
+-- Indexes of rows, and what comes and goes there.
+use Rattle.std.specs.Prelude.{ℕ, ◌+◌, ◌≤◌, ◌≡◌, true, cond, nat_lt, List, [], ◌∷◌, Option, None, Result, Ok, Err, slice_get, ⊤}
+use Rattle.std.specs.List.{insert, remove}
+use Rattle.std.specs.Str.{bytes_eq}
+use Rattle.cell_types.specs.declared.value.CellValue.{CellValue}
+use Rattle.doc_model.specs.declared.column.CellColumn.{CellColumn}
+use Rattle.doc_model.specs.Records.{or_else}
+use Rattle.doc_model.specs.Rows.{has, IsAscending, has_no_duplicates, none_in}
+
+-- how many rows before the first one that is not below
+abbrev pub row_index : ℕ → List ℕ → ℕ
+row_index row [] = 0
+row_index row (q ∷ rows) = cond (nat_lt q row) (row_index row rows + 1) 0
+
+-- the index of a row, or where it would go
+abbrev pub row_search : ℕ → List ℕ → Result ℕ ℕ
+row_search row rows = cond (has rows row) (Ok (row_index row rows)) (Err (row_index row rows))
+
+-- new rows, none of them twice, and none of them among ascending ones
+abbrev pub AreNew : List ℕ → List ℕ → Type 0
+AreNew new rows = IsAscending rows × (has_no_duplicates new ≡ true) × (none_in new rows ≡ true)
+
+-- where new rows go, one after the other
+abbrev pub new_indexes : List ℕ → List ℕ → List ℕ
+new_indexes [] rows = []
+new_indexes (q ∷ new) rows =
+    row_index q rows ∷ new_indexes new (insert rows (row_index q rows) q)
+
+-- whether each index is within a list to which one thing comes at each
+abbrev pub AreWithin : List ℕ → ℕ → Type 0
+AreWithin [] n = ⊤
+AreWithin (p ∷ indexes) n = (p ≤ n) × AreWithin indexes (n + 1)
+
+module _ {X : Type 0} where
+  -- the things put in at their places, one after the other
+  abbrev pub put_at : List ℕ → List X → List X → List X
+  put_at [] new xs = xs
+  put_at (p ∷ indexes) [] xs = xs
+  put_at (p ∷ indexes) (x ∷ new) xs = put_at indexes new (insert xs p x)
+
+  -- what stands at these indexes taken out again, at the last one first
+  abbrev pub taken_out : List ℕ → List X → List X
+  taken_out [] xs = xs
+  taken_out (p ∷ indexes) xs = remove (taken_out indexes xs) p
+
+-- the last value that is given to a column at an index
+abbrev pub given_at : List CellColumn → List ℕ → ℕ → Option CellValue
+given_at [] c index = None
+given_at (k ∷ ks) c index =
+    or_else (given_at ks c index) (cond (bytes_eq k.id c) (slice_get k.values index) None)

@@ -4,12 +4,12 @@ use Rattle.std.proofs.lemmas.List.{map-append, append-nil}
 use Rattle.std.specs.List.{AllByRecursion}
 use Rattle.doc_model.specs.declared.entry.Entry.{Entry}
 use Rattle.doc_model.specs.declared.user.User.{User}
+use Rattle.doc_model.specs.declared.verdict.Verdict.{Verdict}
 use Rattle.doc_model.specs.ByIds.{find_id, put_by_id, without_id, precedes}
 use Rattle.doc_model.specs.Changes.{changes}
 use Rattle.doc_model.specs.Document.{Document}
 use Rattle.doc_model.specs.DocumentLaws.{IsWhole}
 use Rattle.doc_model.proofs.Choices.{each_mapped}
-use Rattle.grist_json.specs.declared.verdict.Verdict.{Verdict}
 use Rattle.grist_json.specs.Lines.{reply_text}
 use Rattle.bundle_core.specs.Desk.{state_of, IsSpot, Answers}
 use Rattle.bundle_core.specs.Mailbox.{Mailbox, quiet, shows_view, own, replies, emptied, posted_if_any}

@@ -7,6 +7,9 @@ use Rattle.doc_model.specs.declared.request.Request.{Request}
 use Rattle.doc_model.specs.declared.request.Request.TheVariants as request
 use Rattle.doc_model.specs.declared.user.User.{User}
 use Rattle.doc_model.specs.declared.user_action.UserAction.{UserAction}
+use Rattle.doc_model.specs.declared.verdict.RetValue.{RetValue}
+use Rattle.doc_model.specs.declared.verdict.Verdict.{Verdict}
+use Rattle.doc_model.specs.declared.verdict.Verdict.TheVariants as verdict
 use Rattle.doc_model.specs.declared.view.ViewAction.{ViewAction}
 use Rattle.doc_model.specs.ByIds.{precedes}
 use Rattle.doc_model.specs.Changes.{changes}
@@ -14,9 +17,6 @@ use Rattle.doc_model.specs.Document.{Document}
 use Rattle.doc_model.specs.DocumentLaws.{IsWhole}
 use Rattle.doc_model.specs.NewDocument.{new_document}
 use Rattle.doc_model.proofs.Choices.{length_map}
-use Rattle.grist_json.specs.declared.verdict.RetValue.{RetValue}
-use Rattle.grist_json.specs.declared.verdict.Verdict.{Verdict}
-use Rattle.grist_json.specs.declared.verdict.Verdict.TheVariants as verdict
 use Rattle.grist_json.specs.Lines.{reply_text}
 use Rattle.bundle_core.specs.declared.made.Made.{Made}
 use Rattle.bundle_core.specs.Desk.{AreSame, state_of, IsSpot, Finds, Answers, Leaves, Stays, Bundles, bundle_number, bundle_reply, user_at, values_told}

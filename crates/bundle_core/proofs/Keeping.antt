@@ -6,6 +6,7 @@ use Rattle.doc_model.specs.declared.entry.Entry.{Entry}
 use Rattle.doc_model.specs.declared.request.Request.{Request}
 use Rattle.doc_model.specs.declared.request.Request.TheVariants as request
 use Rattle.doc_model.specs.declared.user.User.{User}
+use Rattle.doc_model.specs.declared.verdict.Verdict.TheVariants as verdict
 use Rattle.doc_model.specs.declared.view.ViewAction.{ViewAction}
 use Rattle.doc_model.specs.declared.view.ViewTable.{ViewTable}
 use Rattle.doc_model.specs.ByIds.{precedes, find_id, IsByIds, put_by_id, without_id}
@@ -14,7 +15,6 @@ use Rattle.doc_model.specs.Document.{Document}
 use Rattle.doc_model.proofs.ByIdsLaws.{IsByIds-put_by_id, IsByIds-filter, found_all}
 use Rattle.doc_model.proofs.Choices.{each_weaker, each_filter, each_mapped}
 use Rattle.doc_model.specs.declared.limit.LimitKind.TheVariants as limit
-use Rattle.grist_json.specs.declared.verdict.Verdict.TheVariants as verdict
 use Rattle.grist_json.specs.Lines.{stream_text}
 use Rattle.bundle_core.specs.Judgement.{Judgement, accepted, refused, judge}
 use Rattle.bundle_core.specs.Mailbox.{Mailbox, Outcome, quiet, shows_view, says, own, due, posted, posted_if_any, emptied, is_full}

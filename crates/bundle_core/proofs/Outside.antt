@@ -6,10 +6,10 @@ use Rattle.doc_model.specs.declared.limit.LimitKind.TheVariants as limit
 use Rattle.doc_model.specs.declared.request.Request.{Request}
 use Rattle.doc_model.specs.declared.request.Request.TheVariants as request
 use Rattle.doc_model.specs.declared.user.User.{User}
+use Rattle.doc_model.specs.declared.verdict.Verdict.TheVariants as verdict
 use Rattle.doc_model.specs.Changes.{changes}
 use Rattle.doc_model.specs.Document.{Document}
 use Rattle.doc_model.proofs.Choices.{length_map}
-use Rattle.grist_json.specs.declared.verdict.Verdict.TheVariants as verdict
 use Rattle.grist_json.specs.Lines.{reply_text}
 use Rattle.bundle_core.specs.Desk.{state_of, Misses, Answers}
 use Rattle.bundle_core.specs.Mailbox.{quiet, shows_view, replies}

@@ -2,11 +2,11 @@
 use Rattle.std.proofs.Common.{◌≡◌, Bool, ℕ, suc, zero, ◌+◌, ◌<◌, ◌^◌, true, false, not, ◌||◌, List, [], ◌∷◌, map, length, get_or, Some, refl, sym, ap, subst, ◌∙◌, arith}
 use Rattle.std.proofs.lemmas.Bool.{false≢true}
 use Rattle.std.specs.List.{AllByRecursion}
+use Rattle.doc_model.specs.declared.verdict.Verdict.TheVariants.{Bundle}
 use Rattle.doc_model.specs.declared.view.ViewAction.{ViewAction}
 use Rattle.doc_model.specs.NewDocument.{new_document}
 use Rattle.doc_model.proofs.Choices.{each_mapped, each_unmapped}
 use Rattle.doc_model.specs.Document.{Document}
-use Rattle.grist_json.specs.declared.verdict.Verdict.TheVariants.{Bundle}
 use Rattle.grist_json.specs.Lines.{reply_text}
 use Rattle.bundle_core.specs.declared.made.Made.{Made}
 use Rattle.bundle_core.specs.Desk.{AreSame, bundle_number, bundle_reply, user_at, values_told}

@@ -9,14 +9,14 @@ use Rattle.doc_model.specs.declared.limit.LimitKind.TheVariants.{Actions}
 use Rattle.doc_model.specs.declared.limit.Refusal.{Refusal}
 use Rattle.doc_model.specs.declared.limit.Refusal.TheVariants.{Kind}
 use Rattle.doc_model.specs.declared.user_action.UserAction.{UserAction}
+use Rattle.doc_model.specs.declared.verdict.Verdict.{Verdict}
+use Rattle.doc_model.specs.declared.verdict.Verdict.TheVariants.{Limited, Refused}
 use Rattle.doc_model.specs.Apply.{apply, apply_all, all_valid}
 use Rattle.doc_model.specs.Counts.{bound_of, over}
 use Rattle.doc_model.specs.Document.{Document}
 use Rattle.doc_model.specs.DocumentLaws.{IsWhole}
 use Rattle.doc_model.specs.Valid.{valid}
 use Rattle.doc_model.proofs.InverseLaws.{IsWhole-apply_all}
-use Rattle.grist_json.specs.declared.verdict.Verdict.{Verdict}
-use Rattle.grist_json.specs.declared.verdict.Verdict.TheVariants.{Limited, Refused}
 use Rattle.action_limits.specs.declared.tally.Tally.{Tally}
 use Rattle.user_actions.specs.declared.objection.Objection.{Objection}
 use Rattle.user_actions.specs.Codes.{code_of, refusal_of}

@@ -3,12 +3,12 @@ use Rattle.std.specs.Prelude.{◌≡◌, ℕ, Bool, ◌+◌, suc, zero, ◌<◌,
 use Rattle.std.specs.List.{AllByRecursion}
 use Rattle.doc_model.specs.declared.entry.Entry.{Entry}
 use Rattle.doc_model.specs.declared.user.User.{User}
+use Rattle.doc_model.specs.declared.verdict.RetValue.{RetValue}
+use Rattle.doc_model.specs.declared.verdict.Verdict.TheVariants.{Bundle}
 use Rattle.doc_model.specs.declared.view.ViewAction.{ViewAction}
 use Rattle.doc_model.specs.Document.{Document}
 use Rattle.doc_model.specs.ByIds.{precedes}
 use Rattle.bundle_core.specs.SessionState.{SessionState, open_of, IsEmptied, IsReady, posted_state}
-use Rattle.grist_json.specs.declared.verdict.RetValue.{RetValue}
-use Rattle.grist_json.specs.declared.verdict.Verdict.TheVariants.{Bundle}
 use Rattle.grist_json.specs.Lines.{reply_text}
 use Rattle.bundle_core.specs.declared.made.Made.{Made}
 use Rattle.bundle_core.specs.Made.{told_of}

@@ -4,10 +4,10 @@ use Rattle.std.specs.List.{list_all}
 use Rattle.doc_model.specs.declared.limit.LimitKind.{LimitKind}
 use Rattle.doc_model.specs.declared.limit.LimitKind.TheVariants.{Actions}
 use Rattle.doc_model.specs.declared.user_action.UserAction.{UserAction}
+use Rattle.doc_model.specs.declared.verdict.Verdict.{Verdict}
+use Rattle.doc_model.specs.declared.verdict.Verdict.TheVariants.{Limited, Refused}
 use Rattle.doc_model.specs.Counts.{bound_of, over}
 use Rattle.doc_model.specs.Document.{Document}
-use Rattle.grist_json.specs.declared.verdict.Verdict.{Verdict}
-use Rattle.grist_json.specs.declared.verdict.Verdict.TheVariants.{Limited, Refused}
 use Rattle.user_actions.specs.declared.objection.Objection.{Objection}
 use Rattle.user_actions.specs.Codes.{code_of}
 use Rattle.user_actions.specs.Objections.{objection_to}

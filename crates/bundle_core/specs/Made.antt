@@ -4,10 +4,10 @@ use Rattle.doc_model.specs.declared.action.DocAction.{DocAction}
 use Rattle.doc_model.specs.declared.action.DocAction.TheVariants as action
 use Rattle.doc_model.specs.declared.user_action.UserAction.{UserAction}
 use Rattle.doc_model.specs.declared.user_action.UserAction.TheVariants.{Add, RenameTable, RenameColumn}
+use Rattle.doc_model.specs.declared.verdict.RetValue.{RetValue}
+use Rattle.doc_model.specs.declared.verdict.RetValue.TheVariants as ret
 use Rattle.doc_model.specs.declared.view.ViewTable.{ViewTable}
 use Rattle.doc_model.specs.Rows.{has}
-use Rattle.grist_json.specs.declared.verdict.RetValue.{RetValue}
-use Rattle.grist_json.specs.declared.verdict.RetValue.TheVariants as ret
 use Rattle.view_parts.specs.Shown.{rows_shown, is_column_shown}
 use Rattle.bundle_core.specs.declared.made.Made.{Made}
 use Rattle.bundle_core.specs.declared.made.Made.TheVariants as made

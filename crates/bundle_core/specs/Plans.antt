@@ -4,12 +4,12 @@ use Rattle.doc_model.specs.declared.action.DocAction.{DocAction}
 use Rattle.doc_model.specs.declared.limit.Refusal.{Refusal}
 use Rattle.doc_model.specs.declared.limit.Refusal.TheVariants as refusal
 use Rattle.doc_model.specs.declared.user_action.UserAction.{UserAction}
+use Rattle.doc_model.specs.declared.verdict.Verdict.{Verdict}
+use Rattle.doc_model.specs.declared.verdict.Verdict.TheVariants.{Limited, Refused}
 use Rattle.doc_model.specs.declared.view.ViewAction.{ViewAction}
 use Rattle.doc_model.specs.Apply.{apply_all, all_valid}
 use Rattle.doc_model.specs.Changes.{changes}
 use Rattle.doc_model.specs.Document.{Document}
-use Rattle.grist_json.specs.declared.verdict.Verdict.{Verdict}
-use Rattle.grist_json.specs.declared.verdict.Verdict.TheVariants.{Limited, Refused}
 use Rattle.action_limits.specs.declared.tally.Tally.{Tally}
 use Rattle.action_limits.specs.Tallies.{IsTally}
 use Rattle.view_parts.specs.Shown.{view}

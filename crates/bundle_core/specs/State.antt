@@ -7,10 +7,10 @@ use Rattle.doc_model.specs.declared.user.User.{User}
 use Rattle.doc_model.specs.declared.limit.LimitKind.TheVariants as limit
 use Rattle.doc_model.specs.declared.request.Request.{Request}
 use Rattle.doc_model.specs.declared.request.Request.TheVariants as request
+use Rattle.doc_model.specs.declared.verdict.Verdict.{Verdict}
+use Rattle.doc_model.specs.declared.verdict.Verdict.TheVariants as verdict
 use Rattle.doc_model.specs.ByIds.{find_id, put_by_id, without_id}
 use Rattle.doc_model.specs.Document.{Document}
-use Rattle.grist_json.specs.declared.verdict.Verdict.{Verdict}
-use Rattle.grist_json.specs.declared.verdict.Verdict.TheVariants as verdict
 use Rattle.bundle_core.specs.Judgement.{Judgement, accepted, refused, judge}
 use Rattle.bundle_core.specs.Made.{told_of}
 use Rattle.bundle_core.specs.Mailbox.{Mailbox, Outcome, quiet, shows_view, says, Turn, due, own}

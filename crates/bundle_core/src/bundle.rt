@@ -2,10 +2,10 @@
 
 ghost use Rattle.std.specs.Prelude.{Bool, false, true, ◌||◌, ◌≡◌, ◌+◌, ◌<◌, ◌^◌, [], ◌∷◌, ◌++◌, ◌≤◌, length, map, get_or, IfOk, OnOk, OnErr, vec_len, vec_capacity};
 ghost use Rattle.std.specs.List.{AllByRecursion, insert};
+ghost use Rattle.doc_model.specs.declared.verdict.Verdict.TheVariants.{Bundle};
 ghost use Rattle.doc_model.specs.Apply.{all_valid, apply_all};
 ghost use Rattle.doc_model.specs.DocumentLaws.{IsWhole};
 ghost use Rattle.grist_json.specs.Lines.{reply_text};
-ghost use Rattle.grist_json.specs.declared.verdict.Verdict.TheVariants.{Bundle};
 ghost use Rattle.view_parts.specs.Shown.{view};
 ghost use Rattle.bundle_core.specs.Desk.{AreSame, Bundles, Posts, bundle_number, bundle_reply};
 ghost use Rattle.bundle_core.specs.Made.{told_of};
@@ -21,8 +21,8 @@ use crate::session::OpenSession;
 use crate::telling::{Told, see_parts, tell_changes};
 use crate::turns::{post_all, prepare_all, reply_with};
 use crate::ways::{put_all, take_back_all};
-use doc_model::{DocAction, DocTables};
-use grist_json::{Line, Verdict};
+use doc_model::{DocAction, DocTables, Verdict};
+use grist_json::Line;
 use std::alloc::{AllocError, Global};
 use view_parts::part_law;
 

@@ -23,8 +23,10 @@ use crate::seek::index_of;
 use crate::session::{OpenSession, is_owner};
 use crate::turns::{leave, reply_alone, stay};
 use action_limits::Tally;
-use doc_model::{DocTables, Entry, LimitKind, Request, User, UserActionList, View, ViewTableList};
-use grist_json::{Line, Verdict};
+use doc_model::{
+    DocTables, Entry, LimitKind, Request, User, UserActionList, Verdict, View, ViewTableList,
+};
+use grist_json::Line;
 use plain_view::changes;
 use std::alloc::{AllocError, Global};
 use view_parts::whole_view;

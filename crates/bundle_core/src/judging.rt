@@ -2,8 +2,8 @@
 
 ghost use Rattle.std.specs.Prelude.{ℕ, ◌≡◌, ◌∷◌, [], ◌++◌, ◌<◌, ◌≤◌, ◌^◌, true, map, length, IfOk, None, Some};
 ghost use Rattle.std.specs.List.{list_all};
+ghost use Rattle.doc_model.specs.declared.verdict.Verdict.TheVariants.{Limited, Refused};
 ghost use Rattle.doc_model.specs.DocumentLaws.{IsWhole};
-ghost use Rattle.grist_json.specs.declared.verdict.Verdict.TheVariants.{Limited, Refused};
 ghost use Rattle.user_actions.specs.Allowed.{is_allowed};
 ghost use Rattle.user_actions.specs.Objections.{objection_to};
 ghost use Rattle.user_actions.specs.StepLaws.{action_of};
@@ -20,8 +20,9 @@ use crate::forms::are_in_form;
 use crate::made::{Made, made_of};
 use crate::ways::{put_all, take_back_all};
 use action_limits::{Expansion, Tally, expand};
-use doc_model::{DocAction, DocTables, LimitKind, MAX_ACTIONS, Refusal, StepList, UserAction};
-use grist_json::Verdict;
+use doc_model::{
+    DocAction, DocTables, LimitKind, MAX_ACTIONS, Refusal, StepList, UserAction, Verdict,
+};
 use std::alloc::{AllocError, Global};
 use user_actions::refuse;
 use view_parts::{allowed_law, requested_law, requested_view};

@@ -9,9 +9,8 @@ ghost use Rattle.view_parts.specs.Shown.{view};
 ghost use Rattle.bundle_core.specs.Made.{is_single, known_rows, made_alone, made_by, made_of, records_made, row_told, told_of};
 
 use cell_types::{Name, RowList};
-use doc_model::{DocAction, DocTables, Step, UserAction};
+use doc_model::{DocAction, DocTables, RetIdList, RetValue, RetValueList, Step, UserAction};
 use doc_readers::holds_row;
-use grist_json::{RetIdList, RetValue, RetValueList};
 use name_rules::name_of;
 use std::alloc::{AllocError, Global};
 use view_parts::{is_column_shown, rows_shown};

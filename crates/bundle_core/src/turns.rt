@@ -9,7 +9,8 @@ ghost use Rattle.bundle_core.specs.Telling.{told_by};
 
 use crate::session::OpenSession;
 use crate::telling::Told;
-use grist_json::{Line, Verdict, write_reply};
+use doc_model::Verdict;
+use grist_json::{Line, write_reply};
 use std::alloc::{AllocError, Global};
 
 /// The reply with this verdict.

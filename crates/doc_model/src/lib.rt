@@ -1,4 +1,4 @@
-//! Documents: what they hold, what is asked of them, and what a user sees of them.
+//! Documents: what they hold, what is asked of them and answered, and what a user sees of them.
 //!
 //! Stands on `cell_types` (values, names, texts and lists). Used by every crate above it.
 //!
@@ -19,6 +19,7 @@ mod rows;
 mod tables;
 mod user;
 mod user_action;
+mod verdict;
 mod view;
 
 pub use action::{DocAction, DocActionList, Step, StepList};
@@ -35,4 +36,5 @@ pub use user::{User, UserList};
 pub use user_action::{
     IdList, UserAction, UserActionList, UserCol, UserColList, UserColumn, UserColumnList,
 };
+pub use verdict::{RetIdList, RetValue, RetValueList, Verdict};
 pub use view::{View, ViewAction, ViewActionList, ViewCol, ViewColList, ViewTable, ViewTableList};

@@ -10,13 +10,13 @@ use Rattle.cell_types.specs.declared.value.CellItem.TheVariants as one
 use Rattle.cell_types.specs.declared.value.CellValue.{CellValue}
 use Rattle.cell_types.specs.declared.value.CellValue.TheVariants as value
 use Rattle.doc_model.specs.declared.column.CellColumn.{CellColumn}
+use Rattle.doc_model.specs.declared.verdict.RetValue.{RetValue}
+use Rattle.doc_model.specs.declared.verdict.RetValue.TheVariants as ret
+use Rattle.doc_model.specs.declared.verdict.Verdict.{Verdict}
+use Rattle.doc_model.specs.declared.verdict.Verdict.TheVariants.{Done, Changes, Bundle, Undone, Refused, Limited, Denied}
 use Rattle.doc_model.specs.declared.view.ViewCol.{ViewCol}
 use Rattle.doc_model.specs.declared.view.ViewAction.{ViewAction}
 use Rattle.doc_model.specs.declared.view.ViewAction.TheVariants as action
-use Rattle.grist_json.specs.declared.verdict.RetValue.{RetValue}
-use Rattle.grist_json.specs.declared.verdict.RetValue.TheVariants as ret
-use Rattle.grist_json.specs.declared.verdict.Verdict.{Verdict}
-use Rattle.grist_json.specs.declared.verdict.Verdict.TheVariants.{Done, Changes, Bundle, Undone, Refused, Limited, Denied}
 use Rattle.action_lines.specs.Numbers.{int_data, row_data}
 use Rattle.grist_json.specs.Values.{item_data, value_data, values_data}
 use Rattle.grist_json.specs.Actions.{formula_data, column_data, info_data, put_column, columns_data, action_data}

@@ -20,13 +20,12 @@ mod printed_replies;
 mod printed_values;
 mod requests;
 mod users;
-mod verdict;
 mod writers;
 
+pub use doc_model::{RetIdList, RetValue, RetValueList, Verdict};
 pub use frames::{Frame, read_frame};
 pub use laws::{frame_law, one_reading_law};
 pub use line::Line;
 pub use requests::{ReadFault, read_request};
 pub use users::{UserLine, read_user};
-pub use verdict::{RetIdList, RetValue, RetValueList, Verdict};
 pub use writers::{write_frame, write_reply, write_stream};

@@ -7,8 +7,7 @@ ghost use Rattle.grist_json.specs.Replies.{refusal_name, limit_name, number_data
 
 use crate::json_parts::{object_of_one, with_member};
 use crate::printed_actions::actions_value;
-use crate::verdict::{RetValue, Verdict};
-use doc_model::{LimitKind, RuleRef, ViewAction};
+use doc_model::{LimitKind, RetValue, RuleRef, Verdict, ViewAction};
 use serde_json::{Map, Value};
 use std::alloc::{AllocError, Global};
 

@@ -9,9 +9,8 @@ use crate::Line;
 use crate::json_parts::with_member;
 use crate::printed_actions::actions_value;
 use crate::printed_replies::verdict_value;
-use crate::verdict::Verdict;
 use cell_types::Name;
-use doc_model::ViewActionList;
+use doc_model::{Verdict, ViewActionList};
 use serde_json::{Map, Value};
 use std::alloc::{AllocError, Global};
 

@@ -1,9 +1,9 @@
 use Rattle.std.proofs.Common.{◌≡◌, ◌+◌, map, get_or, sym, ap, subst, ◌∙◌}
+use Rattle.doc_model.specs.declared.verdict.Verdict.TheVariants.{Bundle}
 use Rattle.doc_model.specs.Apply.{apply_all}
 use Rattle.doc_model.specs.Document.{Document}
 use Rattle.doc_model.specs.DocumentLaws.{IsWhole}
 use Rattle.doc_model.proofs.InverseLaws.{IsWhole-apply_all}
-use Rattle.grist_json.specs.declared.verdict.Verdict.TheVariants.{Bundle}
 use Rattle.grist_json.specs.Lines.{reply_text}
 use Rattle.view_parts.specs.Shown.{view}
 use Rattle.bundle_core.specs.Made.{told_of}

@@ -1,6 +1,6 @@
 use Rattle.std.proofs.Common.{◌≡◌, true, false, get_or, List, Some, None, refl, sym, ap, subst, ◌∙◌}
 use Rattle.std.proofs.lemmas.Result.{IfOk-weaker}
-use Rattle.grist_json.specs.declared.verdict.Verdict.TheVariants.{Done}
+use Rattle.doc_model.specs.declared.verdict.Verdict.TheVariants.{Done}
 use Rattle.bundle_core.specs.Desk.{state_of, Answers}
 use Rattle.bundle_core.specs.SessionState.{SessionState}
 use Rattle.bundle_core.specs.State.{answered, from_inside}

@@ -2,7 +2,7 @@ use Rattle.std.proofs.Common.{◌≡◌, true, false, nat_le, length, List, ◌�
 use Rattle.std.proofs.lemmas.Bool.{le-leb, lt-leb}
 use Rattle.std.proofs.lemmas.Result.{IfOk-weaker}
 use Rattle.std.specs.List.{insert}
-use Rattle.grist_json.specs.declared.verdict.Verdict.TheVariants.{Changes}
+use Rattle.doc_model.specs.declared.verdict.Verdict.TheVariants.{Changes}
 use Rattle.grist_json.specs.Lines.{reply_text}
 use Rattle.bundle_core.specs.Desk.{Answers}
 use Rattle.bundle_core.specs.View.{view}

@@ -3,6 +3,8 @@ use Rattle.std.proofs.Common.{◌≡◌, ℕ, suc, zero, ◌+◌, ◌<◌, Bool,
 use Rattle.std.proofs.lemmas.List.{take-append-drop}
 use Rattle.std.specs.List.{AllByRecursion}
 use Rattle.doc_model.specs.declared.entry.Entry.{Entry}
+use Rattle.doc_model.specs.declared.refusal.Refusal.{Refusal}
+use Rattle.doc_model.specs.declared.refusal.Refusal.TheVariants.{BadLine, LineTooLong, AlreadyOpen, Lagged}
 use Rattle.doc_model.specs.declared.request.Request.{Request}
 use Rattle.doc_model.specs.declared.request.Request.TheVariants as request
 use Rattle.doc_model.specs.declared.user.User.{User}
@@ -32,21 +34,21 @@ use Rattle.bundle_core.proofs.Bundling.{answers_bundle}
 use Rattle.bundle_core.proofs.Outside.{answers_by}
 use Rattle.bundle_core.proofs.Readied.{each_same, same_at, bundle_number-is, ready_at, user_at-is}
 
-numbered_refusal : (m n : ℕ) (st : State) (h : Holder) → ◌≡◌ {A = Option ℕ} (Some m) (Some n) → answered st.document (Some h) (refusal m) ≡ answered st.document (Some h) (refusal n)
-numbered_refusal m n st h e = let same : m ≡ n = cc in ap (λ k. answered st.document (Some h) (refusal k)) same
+same_refusal : (m n : Refusal) (st : State) (h : Holder) → ◌≡◌ {A = Option Refusal} (Some m) (Some n) → answered st.document (Some h) (refusal m) ≡ answered st.document (Some h) (refusal n)
+same_refusal m n st h e = let same : m ≡ n = cc in ap (λ k. answered st.document (Some h) (refusal k)) same
 
-pub code_inside : (st : State) (h : Holder) (kept : Bool) (r : Request) (n : ℕ) → refusal_inside r ≡ Some n → from_inside st h kept r ≡ answered st.document (Some h) (refusal n)
-code_inside st h kept request.Bad n e = numbered_refusal 1 n st h e
-code_inside st h kept request.TooLong n e = numbered_refusal 2 n st h e
-code_inside st h kept (request.Open token) n e = numbered_refusal 4 n st h e
+pub code_inside : (st : State) (h : Holder) (kept : Bool) (r : Request) (n : Refusal) → refusal_inside r ≡ Some n → from_inside st h kept r ≡ answered st.document (Some h) (refusal n)
+code_inside st h kept request.Bad n e = same_refusal BadLine n st h e
+code_inside st h kept request.TooLong n e = same_refusal LineTooLong n st h e
+code_inside st h kept (request.Open token) n e = same_refusal AlreadyOpen n st h e
 code_inside st h kept (request.Apply actions) n e = absurd (cc)
-code_inside st h kept (request.Undo bundle) n e = numbered_refusal 1 n st h e
+code_inside st h kept (request.Undo bundle) n e = same_refusal BadLine n st h e
 code_inside st h kept request.Sync n e = absurd (cc)
-code_inside st h kept (request.Fetch table) n e = numbered_refusal 1 n st h e
+code_inside st h kept (request.Fetch table) n e = same_refusal BadLine n st h e
 code_inside st h kept request.Close n e = absurd (cc)
 code_inside st h kept request.Gone n e = absurd (cc)
 
-pub code_behind : (st : State) (r : Request) → (r ≡ request.Gone → ⊥) → from_behind st r ≡ answered st.document None (refusal 21)
+pub code_behind : (st : State) (r : Request) → (r ≡ request.Gone → ⊥) → from_behind st r ≡ answered st.document None (refusal Lagged)
 code_behind st request.Gone other = absurd (other refl)
 code_behind st request.Bad other = refl
 code_behind st request.TooLong other = refl

@@ -3,6 +3,7 @@ use Rattle.std.proofs.Common.{◌≡◌, ℕ, ◌+◌, ◌≤◌, Bool, true, fa
 use Rattle.std.specs.List.{AllByRecursion}
 use Rattle.std.specs.Str.{bytes_eq}
 use Rattle.doc_model.specs.declared.entry.Entry.{Entry}
+use Rattle.doc_model.specs.declared.refusal.Refusal.TheVariants.{UnknownToken}
 use Rattle.doc_model.specs.declared.request.Request.{Request}
 use Rattle.doc_model.specs.declared.request.Request.TheVariants as request
 use Rattle.doc_model.specs.declared.user.User.{User}
@@ -95,7 +96,7 @@ behind_few n st request.Close = tt
 opened_few : (n : ℕ) (users : List User) (st : State) (token : List ℕ) → HoldsFew (n + 1) (opened users st token).holder
 opened_few n users st token =
     elim (user_of users token) as (λ o. HoldsFew (n + 1) (elim o as (λ _. Verdicts) [
-      | None ↦ answered st.document None (refusal 5)
+      | None ↦ answered st.document None (refusal UnknownToken)
       | Some user ↦ if nat_le session_bound (length st.open_sessions)
           then answered st.document None (verdict.Limited limit.Sessions session_bound None)
           else record { outcome = shows_view; document = st.document; is_bundle = false; holder = Some (record { user = user; bundles = 0 }) }

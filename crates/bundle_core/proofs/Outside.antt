@@ -3,6 +3,8 @@ use Rattle.std.proofs.Common.{◌≡◌, ℕ, Bool, true, false, List, [], ◌�
 use Rattle.std.proofs.lemmas.List.{take-append-drop}
 use Rattle.doc_model.specs.declared.entry.Entry.{Entry}
 use Rattle.doc_model.specs.declared.limit.LimitKind.TheVariants as limit
+use Rattle.doc_model.specs.declared.refusal.Refusal.{Refusal}
+use Rattle.doc_model.specs.declared.refusal.Refusal.TheVariants.{BadLine, LineTooLong, NotOpen, UnknownToken}
 use Rattle.doc_model.specs.declared.request.Request.{Request}
 use Rattle.doc_model.specs.declared.request.Request.TheVariants as request
 use Rattle.doc_model.specs.declared.user.User.{User}
@@ -19,19 +21,19 @@ use Rattle.bundle_core.specs.State.{State, Verdicts, answered, refusal, from_out
 use Rattle.bundle_core.specs.View.{view}
 use Rattle.bundle_core.proofs.Answering.{answers_outside, answers_gone, answers_opened, open_with}
 
-numbered_refusal : (m n : ℕ) (st : State) → ◌≡◌ {A = Option ℕ} (Some m) (Some n) → answered st.document None (refusal m) ≡ answered st.document None (refusal n)
-numbered_refusal m n st e = let same : m ≡ n = cc in ap (λ k. answered st.document None (refusal k)) same
+same_refusal : (m n : Refusal) (st : State) → ◌≡◌ {A = Option Refusal} (Some m) (Some n) → answered st.document None (refusal m) ≡ answered st.document None (refusal n)
+same_refusal m n st e = let same : m ≡ n = cc in ap (λ k. answered st.document None (refusal k)) same
 
-code_outside : (users : List User) (st : State) (r : Request) (n : ℕ) → refusal_outside r ≡ Some n → from_outside users st r ≡ answered st.document None (refusal n)
-code_outside users st request.Bad n e = numbered_refusal 1 n st e
-code_outside users st request.TooLong n e = numbered_refusal 2 n st e
+code_outside : (users : List User) (st : State) (r : Request) (n : Refusal) → refusal_outside r ≡ Some n → from_outside users st r ≡ answered st.document None (refusal n)
+code_outside users st request.Bad n e = same_refusal BadLine n st e
+code_outside users st request.TooLong n e = same_refusal LineTooLong n st e
 code_outside users st (request.Open token) n e = absurd (cc)
 code_outside users st request.Gone n e = absurd (cc)
-code_outside users st (request.Apply actions) n e = numbered_refusal 3 n st e
-code_outside users st (request.Undo bundle) n e = numbered_refusal 1 n st e
-code_outside users st request.Sync n e = numbered_refusal 3 n st e
-code_outside users st (request.Fetch table) n e = numbered_refusal 1 n st e
-code_outside users st request.Close n e = numbered_refusal 3 n st e
+code_outside users st (request.Apply actions) n e = same_refusal NotOpen n st e
+code_outside users st (request.Undo bundle) n e = same_refusal BadLine n st e
+code_outside users st request.Sync n e = same_refusal NotOpen n st e
+code_outside users st (request.Fetch table) n e = same_refusal BadLine n st e
+code_outside users st request.Close n e = same_refusal NotOpen n st e
 
 gone_outside : (users : List User) (st : State) (r : Request) → refusal_outside r ≡ None → ((token : List ℕ) → r ≡ request.Open token → ⊥)
     → from_outside users st r ≡ record { outcome = quiet; document = st.document; is_bundle = false; holder = None }
@@ -53,7 +55,7 @@ module _ (users : List User) (s : Document) (xs : List SessionState) (index : �
   abbrev split : ℕ → State
   split k = state_of s k (take index xs ++ drop index xs)
 
-  pub miss_refused : (n : ℕ) → refusal_outside e.request ≡ Some n → Answers users s s xs xs e (reply_text (refusal n) ∷ [])
+  pub miss_refused : (n : Refusal) → refusal_outside e.request ≡ Some n → Answers users s s xs xs e (reply_text (refusal n) ∷ [])
   miss_refused n q =
       let P : List SessionState → Type 0 = λ l. Answers users s s l l e (reply_text (refusal n) ∷ []) in
       subst P (take-append-drop index xs) (answers_outside users s (take index xs) (drop index xs) e m.spot (refusal n) (λ k. code_outside users (split k) e.request n q))
@@ -63,13 +65,13 @@ module _ (users : List User) (s : Document) (xs : List SessionState) (index : �
       let P : List SessionState → Type 0 = λ l. Answers users s s l l e [] in
       subst P (take-append-drop index xs) (answers_gone users s (take index xs) (drop index xs) e m.spot (λ k. gone_outside users (split k) e.request q other))
 
-  pub miss_unknown : (token : List ℕ) → e.request ≡ request.Open token → user_of users token ≡ None → Answers users s s xs xs e (reply_text (refusal 5) ∷ [])
+  pub miss_unknown : (token : List ℕ) → e.request ≡ request.Open token → user_of users token ≡ None → Answers users s s xs xs e (reply_text (refusal UnknownToken) ∷ [])
   miss_unknown token asks none =
-      let P : List SessionState → Type 0 = λ l. Answers users s s l l e (reply_text (refusal 5) ∷ []) in
-      subst P (take-append-drop index xs) (answers_outside users s (take index xs) (drop index xs) e m.spot (refusal 5)
+      let P : List SessionState → Type 0 = λ l. Answers users s s l l e (reply_text (refusal UnknownToken) ∷ []) in
+      subst P (take-append-drop index xs) (answers_outside users s (take index xs) (drop index xs) e m.spot (refusal UnknownToken)
       (λ k. ap (from_outside users (split k)) asks
       ∙ ap (λ o. elim o as (λ _. Verdicts) [
-        | None ↦ answered s None (refusal 5)
+        | None ↦ answered s None (refusal UnknownToken)
         | Some user ↦ if nat_le session_bound (length (split k).open_sessions)
             then answered s None (verdict.Limited limit.Sessions session_bound None)
             else record { outcome = shows_view; document = s; is_bundle = false; holder = Some (record { user = user; bundles = 0 }) }
@@ -82,7 +84,7 @@ module _ (users : List User) (s : Document) (xs : List SessionState) (index : �
   by_room token user full asks some count k =
       ap (from_outside users (split k)) asks
       ∙ ap (λ o. elim o as (λ _. Verdicts) [
-        | None ↦ answered s None (refusal 5)
+        | None ↦ answered s None (refusal UnknownToken)
         | Some u ↦ if nat_le session_bound (length (split k).open_sessions)
             then answered s None (verdict.Limited limit.Sessions session_bound None)
             else record { outcome = shows_view; document = s; is_bundle = false; holder = Some (record { user = u; bundles = 0 }) }

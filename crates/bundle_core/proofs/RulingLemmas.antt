@@ -6,8 +6,8 @@ use Rattle.doc_model.specs.declared.action.DocAction.{DocAction}
 use Rattle.doc_model.specs.declared.action.Step.{Step}
 use Rattle.doc_model.specs.declared.limit.LimitKind.{LimitKind}
 use Rattle.doc_model.specs.declared.limit.LimitKind.TheVariants.{Actions}
-use Rattle.doc_model.specs.declared.limit.Refusal.{Refusal}
-use Rattle.doc_model.specs.declared.limit.Refusal.TheVariants.{Kind}
+use Rattle.doc_model.specs.declared.refusal.Refusal.{Refusal}
+use Rattle.doc_model.specs.declared.refusal.Refusal.TheVariants.{BadLine}
 use Rattle.doc_model.specs.declared.user_action.UserAction.{UserAction}
 use Rattle.doc_model.specs.declared.verdict.Verdict.{Verdict}
 use Rattle.doc_model.specs.declared.verdict.Verdict.TheVariants.{Limited, Refused}
@@ -18,8 +18,6 @@ use Rattle.doc_model.specs.DocumentLaws.{IsWhole}
 use Rattle.doc_model.specs.Valid.{valid}
 use Rattle.doc_model.proofs.InverseLaws.{IsWhole-apply_all}
 use Rattle.action_limits.specs.declared.tally.Tally.{Tally}
-use Rattle.user_actions.specs.declared.objection.Objection.{Objection}
-use Rattle.user_actions.specs.Codes.{code_of, refusal_of}
 use Rattle.user_actions.specs.Objections.{objection_to}
 use Rattle.user_actions.specs.StepLaws.{action_of}
 use Rattle.action_limits.specs.Tallies.{AreSteps, IsTally, after}
@@ -30,7 +28,7 @@ use Rattle.bundle_core.specs.Forms.{is_in_form}
 use Rattle.bundle_core.specs.Judgement.{Judgement, accepted, refused, judge, judge_from, limited, made_at, opposed, refusal_at, with_made}
 use Rattle.bundle_core.specs.Made.{made_of}
 use Rattle.bundle_core.specs.declared.judging.Plan.{Plan}
-use Rattle.bundle_core.specs.Plans.{IsPlan, verdict_of}
+use Rattle.bundle_core.specs.Plans.{IsPlan}
 use Rattle.bundle_core.specs.Rulings.{IsAt, IsNext, with_all}
 use Rattle.bundle_core.proofs.WayLemmas.{nothing_left}
 
@@ -46,15 +44,8 @@ map-last f [] x ys = refl
 map-last f (z ∷ xs) x ys = ap (λ l. f z ∷ l) (map-last f xs x ys)
 
 -- what stands against an action is its refusal
-pub ruled_refused : (owner : Bool) (s : Document) (i : ℕ) (a : UserAction) (r : Refusal) (o : Option Objection) → o ≡ objection_to (view owner s) a → Some r ≡ refusal_of i o → refusal_at owner s i a ≡ Some (verdict_of r)
-ruled_refused owner s i a r None is e = absurd (cc)
-ruled_refused owner s i a r (Some this) is e =
-    let same : r ≡ Kind (code_of this) i = cc in
-    ap (λ p. opposed i p (over (after s a))) (sym is) ∙ ap (λ k. Some (verdict_of k)) (sym same)
-
-pub ruled_none : (i : ℕ) (o : Option Objection) → None ≡ refusal_of i o → o ≡ None
-ruled_none i None e = refl
-ruled_none i (Some this) e = absurd (cc)
+pub ruled_refused : (owner : Bool) (s : Document) (i : ℕ) (a : UserAction) (r : Refusal) → Some r ≡ objection_to (view owner s) a → refusal_at owner s i a ≡ Some (Refused r (Some i))
+ruled_refused owner s i a r is = ap (λ o. opposed i o (over (after s a))) (sym is)
 
 -- a limit is its refusal
 pub ruled_limit : (owner : Bool) (s : Document) (i : ℕ) (a : UserAction) (kind : LimitKind) (v : Verdict) → objection_to (view owner s) a ≡ None → over (after s a) ≡ Some kind → Some v ≡ limited i (Some kind) → refusal_at owner s i a ≡ Some v
@@ -98,19 +89,19 @@ with_all-accepted (m ∷ ms) s = ap (with_made m) (with_all-accepted ms s)
 pub judge-from : (owner : Bool) (s : Document) (asked : List UserAction) → list_all is_in_form asked ≡ true → length asked ≤ 2000 → judge owner s asked ≡ judge_from owner s 0 asked
 judge-from owner s asked form few =
     let short : nat_lt (bound_of Actions) (length asked) ≡ false = le-ltb (bound_of Actions) (length asked) few in
-    ap (λ b. cond (not b) (refused (Refused 1 None)) (cond (nat_lt (bound_of Actions) (length asked)) (refused (Limited Actions (bound_of Actions) (Some (bound_of Actions)))) (judge_from owner s 0 asked))) form
+    ap (λ b. cond (not b) (refused (Refused BadLine None)) (cond (nat_lt (bound_of Actions) (length asked)) (refused (Limited Actions (bound_of Actions) (Some (bound_of Actions)))) (judge_from owner s 0 asked))) form
     ∙ ap (λ b. cond b (refused (Limited Actions (bound_of Actions) (Some (bound_of Actions)))) (judge_from owner s 0 asked)) short
 
 -- one that is not in its form is no request
-pub judge-unformed : (owner : Bool) (s : Document) (asked : List UserAction) → list_all is_in_form asked ≡ false → judge owner s asked ≡ refused (Refused 1 None)
+pub judge-unformed : (owner : Bool) (s : Document) (asked : List UserAction) → list_all is_in_form asked ≡ false → judge owner s asked ≡ refused (Refused BadLine None)
 judge-unformed owner s asked form =
-    ap (λ b. cond (not b) (refused (Refused 1 None)) (cond (nat_lt (bound_of Actions) (length asked)) (refused (Limited Actions (bound_of Actions) (Some (bound_of Actions)))) (judge_from owner s 0 asked))) form
+    ap (λ b. cond (not b) (refused (Refused BadLine None)) (cond (nat_lt (bound_of Actions) (length asked)) (refused (Limited Actions (bound_of Actions) (Some (bound_of Actions)))) (judge_from owner s 0 asked))) form
 
 -- one of too many actions passes their limit
 pub judge-many : (owner : Bool) (s : Document) (asked : List UserAction) → list_all is_in_form asked ≡ true → 2000 < length asked → judge owner s asked ≡ refused (Limited Actions 2000 (Some 2000))
 judge-many owner s asked form many =
     let long : nat_lt (bound_of Actions) (length asked) ≡ true = lt-ltb (bound_of Actions) (length asked) many in
-    ap (λ b. cond (not b) (refused (Refused 1 None)) (cond (nat_lt (bound_of Actions) (length asked)) (refused (Limited Actions (bound_of Actions) (Some (bound_of Actions)))) (judge_from owner s 0 asked))) form
+    ap (λ b. cond (not b) (refused (Refused BadLine None)) (cond (nat_lt (bound_of Actions) (length asked)) (refused (Limited Actions (bound_of Actions) (Some (bound_of Actions)))) (judge_from owner s 0 asked))) form
     ∙ ap (λ b. cond b (refused (Limited Actions (bound_of Actions) (Some (bound_of Actions)))) (judge_from owner s 0 asked)) long
 
 module _ (owner : Bool) (start : Document) (asked : List UserAction) where

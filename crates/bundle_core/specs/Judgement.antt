@@ -3,13 +3,13 @@ use Rattle.std.specs.Prelude.{ℕ, ◌+◌, Bool, cond, not, nat_lt, List, [], �
 use Rattle.std.specs.List.{list_all}
 use Rattle.doc_model.specs.declared.limit.LimitKind.{LimitKind}
 use Rattle.doc_model.specs.declared.limit.LimitKind.TheVariants.{Actions}
+use Rattle.doc_model.specs.declared.refusal.Refusal.{Refusal}
+use Rattle.doc_model.specs.declared.refusal.Refusal.TheVariants.{BadLine}
 use Rattle.doc_model.specs.declared.user_action.UserAction.{UserAction}
 use Rattle.doc_model.specs.declared.verdict.Verdict.{Verdict}
 use Rattle.doc_model.specs.declared.verdict.Verdict.TheVariants.{Limited, Refused}
 use Rattle.doc_model.specs.Counts.{bound_of, over}
 use Rattle.doc_model.specs.Document.{Document}
-use Rattle.user_actions.specs.declared.objection.Objection.{Objection}
-use Rattle.user_actions.specs.Codes.{code_of}
 use Rattle.user_actions.specs.Objections.{objection_to}
 use Rattle.user_actions.specs.StepLaws.{action_of}
 use Rattle.user_actions.specs.Steps.{steps_of}
@@ -30,8 +30,8 @@ limited i None = None
 limited i (Some kind) = Some (Limited kind (bound_of kind) (Some i))
 
 -- what stands against it, or else the limit
-abbrev pub opposed : ℕ → Option Objection → Option LimitKind → Option Verdict
-opposed i (Some this) kind = Some (Refused (code_of this) (Some i))
+abbrev pub opposed : ℕ → Option Refusal → Option LimitKind → Option Verdict
+opposed i (Some this) kind = Some (Refused this (Some i))
 opposed i None kind = limited i kind
 
 -- why the action at that index of its bundle is refused: by the user's view of the document there, or
@@ -61,6 +61,6 @@ judge_from owner s i (a ∷ as') =
 -- one past the bound is named
 abbrev pub judge : Bool → Document → List UserAction → Judgement
 judge owner s as' =
-    cond (not (list_all is_in_form as')) (refused (Refused 1 None))
+    cond (not (list_all is_in_form as')) (refused (Refused BadLine None))
     (cond (nat_lt (bound_of Actions) (length as')) (refused (Limited Actions (bound_of Actions) (Some (bound_of Actions))))
     (judge_from owner s 0 as'))

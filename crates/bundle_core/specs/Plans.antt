@@ -1,11 +1,7 @@
 -- Bundles that were judged.
-use Rattle.std.specs.Prelude.{Bool, true, List, ◌≡◌, Some}
+use Rattle.std.specs.Prelude.{Bool, true, List, ◌≡◌}
 use Rattle.doc_model.specs.declared.action.DocAction.{DocAction}
-use Rattle.doc_model.specs.declared.limit.Refusal.{Refusal}
-use Rattle.doc_model.specs.declared.limit.Refusal.TheVariants as refusal
 use Rattle.doc_model.specs.declared.user_action.UserAction.{UserAction}
-use Rattle.doc_model.specs.declared.verdict.Verdict.{Verdict}
-use Rattle.doc_model.specs.declared.verdict.Verdict.TheVariants.{Limited, Refused}
 use Rattle.doc_model.specs.declared.view.ViewAction.{ViewAction}
 use Rattle.doc_model.specs.Apply.{apply_all, all_valid}
 use Rattle.doc_model.specs.Changes.{changes}
@@ -17,11 +13,6 @@ use Rattle.bundle_core.specs.declared.judging.Judged.{Judged}
 use Rattle.bundle_core.specs.declared.judging.Judged.TheVariants as judged
 use Rattle.bundle_core.specs.declared.judging.Plan.{Plan}
 use Rattle.bundle_core.specs.Judgement.{judge, accepted, refused}
-
--- a refusal as it is answered
-abbrev pub verdict_of : Refusal → Verdict
-verdict_of (refusal.Kind code i) = Refused code (Some i)
-verdict_of (refusal.Limit what bound i) = Limited what bound (Some i)
 
 -- actions that may be done, and the tally of the document after them
 pub record MayBeDone (s : Document) (actions : List DocAction) (tally : Tally) : Type 0 where

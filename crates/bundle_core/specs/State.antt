@@ -5,6 +5,8 @@ use Rattle.std.specs.Str.{bytes_eq}
 use Rattle.doc_model.specs.declared.entry.Entry.{Entry}
 use Rattle.doc_model.specs.declared.user.User.{User}
 use Rattle.doc_model.specs.declared.limit.LimitKind.TheVariants as limit
+use Rattle.doc_model.specs.declared.refusal.Refusal.{Refusal}
+use Rattle.doc_model.specs.declared.refusal.Refusal.TheVariants.{BadLine, LineTooLong, NotOpen, AlreadyOpen, UnknownToken, StoreFault, Lagged}
 use Rattle.doc_model.specs.declared.request.Request.{Request}
 use Rattle.doc_model.specs.declared.request.Request.TheVariants as request
 use Rattle.doc_model.specs.declared.verdict.Verdict.{Verdict}
@@ -52,8 +54,8 @@ pub record Verdicts : Type 0 where
 abbrev pub answered : Document → Option Holder → Verdict → Verdicts
 answered s h v = record { outcome = says v; document = s; is_bundle = false; holder = h }
 
-abbrev pub refusal : ℕ → Verdict
-refusal code = verdict.Refused code None
+abbrev pub refusal : Refusal → Verdict
+refusal why = verdict.Refused why None
 
 -- the first user with the token
 abbrev pub user_of : List User → List ℕ → Option User
@@ -67,7 +69,7 @@ session_bound = 1024
 abbrev pub opened : List User → State → List ℕ → Verdicts
 opened users st token =
     elim (user_of users token) [
-      | None ↦ answered st.document None (refusal 5)
+      | None ↦ answered st.document None (refusal UnknownToken)
       | Some user ↦
           if nat_le session_bound (length st.open_sessions)
           then answered st.document None (verdict.Limited limit.Sessions session_bound None)
@@ -81,21 +83,21 @@ opened users st token =
 
 -- a request of a session that is not open; what is not built yet is no request
 abbrev pub from_outside : List User → State → Request → Verdicts
-from_outside users st request.Bad = answered st.document None (refusal 1)
-from_outside users st request.TooLong = answered st.document None (refusal 2)
+from_outside users st request.Bad = answered st.document None (refusal BadLine)
+from_outside users st request.TooLong = answered st.document None (refusal LineTooLong)
 from_outside users st (request.Open token) = opened users st token
 from_outside users st request.Gone =
     record { outcome = quiet; document = st.document; is_bundle = false; holder = None }
-from_outside users st (request.Apply actions) = answered st.document None (refusal 3)
-from_outside users st request.Sync = answered st.document None (refusal 3)
-from_outside users st (request.Undo bundle) = answered st.document None (refusal 1)
-from_outside users st (request.Fetch table) = answered st.document None (refusal 1)
-from_outside users st request.Close = answered st.document None (refusal 3)
+from_outside users st (request.Apply actions) = answered st.document None (refusal NotOpen)
+from_outside users st request.Sync = answered st.document None (refusal NotOpen)
+from_outside users st (request.Undo bundle) = answered st.document None (refusal BadLine)
+from_outside users st (request.Fetch table) = answered st.document None (refusal BadLine)
+from_outside users st request.Close = answered st.document None (refusal NotOpen)
 
 -- a bundle of an open session: accepted, it counts; the keeper's failure leaves everything
 abbrev pub bundle_of : Holder → Document → Bool → Judgement → Verdicts
 bundle_of h s kept (refused v) = answered s (Some h) v
-bundle_of h s false (accepted after ms) = answered s (Some h) (refusal 19)
+bundle_of h s false (accepted after ms) = answered s (Some h) (refusal StoreFault)
 bundle_of h s true (accepted after ms) = record {
   outcome = says (verdict.Bundle (h.bundles + 1) (map (told_of (view h.user after)) ms));
   document = after;
@@ -105,13 +107,13 @@ bundle_of h s true (accepted after ms) = record {
 
 -- a request of a session that is open and does not lag; what is not built yet is no request
 abbrev pub from_inside : State → Holder → Bool → Request → Verdicts
-from_inside st h kept request.Bad = answered st.document (Some h) (refusal 1)
-from_inside st h kept request.TooLong = answered st.document (Some h) (refusal 2)
-from_inside st h kept (request.Open token) = answered st.document (Some h) (refusal 4)
+from_inside st h kept request.Bad = answered st.document (Some h) (refusal BadLine)
+from_inside st h kept request.TooLong = answered st.document (Some h) (refusal LineTooLong)
+from_inside st h kept (request.Open token) = answered st.document (Some h) (refusal AlreadyOpen)
 from_inside st h kept (request.Apply actions) = bundle_of h st.document kept (judge (is_owner h.user) st.document actions)
-from_inside st h kept (request.Undo bundle) = answered st.document (Some h) (refusal 1)
+from_inside st h kept (request.Undo bundle) = answered st.document (Some h) (refusal BadLine)
 from_inside st h kept request.Sync = answered st.document (Some h) verdict.Done
-from_inside st h kept (request.Fetch table) = answered st.document (Some h) (refusal 1)
+from_inside st h kept (request.Fetch table) = answered st.document (Some h) (refusal BadLine)
 from_inside st h kept request.Close = answered st.document None verdict.Done
 from_inside st h kept request.Gone =
     record { outcome = quiet; document = st.document; is_bundle = false; holder = None }
@@ -120,7 +122,7 @@ from_inside st h kept request.Gone =
 abbrev pub from_behind : State → Request → Verdicts
 from_behind st request.Gone =
     record { outcome = quiet; document = st.document; is_bundle = false; holder = None }
-from_behind st r = answered st.document None (refusal 21)
+from_behind st r = answered st.document None (refusal Lagged)
 
 abbrev pub session_of : List ℕ → State → Option Open
 session_of name st = find_id session_name name st.open_sessions

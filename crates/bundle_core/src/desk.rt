@@ -24,7 +24,8 @@ use crate::session::{OpenSession, is_owner};
 use crate::turns::{leave, reply_alone, stay};
 use action_limits::Tally;
 use doc_model::{
-    DocTables, Entry, LimitKind, Request, User, UserActionList, Verdict, View, ViewTableList,
+    DocTables, Entry, LimitKind, Refusal, Request, User, UserActionList, Verdict, View,
+    ViewTableList,
 };
 use grist_json::Line;
 use plain_view::changes;
@@ -36,33 +37,36 @@ pub const MAX_SESSIONS: usize = 1_024;
 
 // Why a request of a session that is not open is refused, but for one that opens it; what is not built
 // yet is no request.
-fn refusal_outside(request: &Request) -> Option<u8>
+fn refusal_outside(request: &Request) -> Option<Refusal>
     ensures { result ≡ refusal_outside request.now }
 {
     match request {
-        Request::TooLong => Some(2),
+        Request::TooLong => Some(Refusal::LineTooLong),
         Request::Open { .. } | Request::Gone => None,
-        Request::Apply { .. } | Request::Sync | Request::Close => Some(3),
-        _ => Some(1),
+        Request::Apply { .. } | Request::Sync | Request::Close => Some(Refusal::NotOpen),
+        _ => Some(Refusal::BadLine),
     }
 }
 
 // Why a request of an open session is refused; what is not built yet is no request.
-fn refusal_inside(request: &Request) -> Option<u8>
+fn refusal_inside(request: &Request) -> Option<Refusal>
     ensures { result ≡ refusal_inside request.now }
 {
     match request {
-        Request::Bad | Request::Undo { .. } | Request::Fetch { .. } => Some(1),
-        Request::TooLong => Some(2),
-        Request::Open { .. } => Some(4),
+        Request::Bad | Request::Undo { .. } | Request::Fetch { .. } => Some(Refusal::BadLine),
+        Request::TooLong => Some(Refusal::LineTooLong),
+        Request::Open { .. } => Some(Refusal::AlreadyOpen),
         Request::Apply { .. } | Request::Sync | Request::Close | Request::Gone => None,
     }
 }
 
-fn refused(code: u8) -> Verdict
-    ensures { result ≡ Verdict.Refused code None }
+fn refused(refusal: Refusal) -> Verdict
+    ensures { result ≡ Verdict.Refused refusal None }
 {
-    Verdict::Refused { code, action: None }
+    Verdict::Refused {
+        refusal,
+        action: None,
+    }
 }
 
 fn user_of<'a>(users: &'a [User], token: &str) -> Option<&'a User>
@@ -113,8 +117,8 @@ fn answer_outside<D: DocTables>(
     ensures ok { IfOk result (λ v. Answers users.now (D.document tables.now) (D.document tables.now) sessions.old.items sessions.new.items entry.now v.items) }
     ensures err { OnErr result (AreSame sessions.old.items sessions.new.items) }
 {
-    if let Some(code) = refusal_outside(&entry.request) {
-        return reply_alone(alloc, refused(code));
+    if let Some(refusal) = refusal_outside(&entry.request) {
+        return reply_alone(alloc, refused(refusal));
     }
     if let Request::Open { token } = &entry.request {
         return open(alloc, users, tables, sessions, index, entry, token.as_str());
@@ -139,7 +143,7 @@ fn open<D: DocTables>(
     ensures err { OnErr result (AreSame sessions.old.items sessions.new.items) }
 {
     match user_of(users, token) {
-        None => reply_alone(alloc, refused(5)),
+        None => reply_alone(alloc, refused(Refusal::UnknownToken)),
         Some(user) => open_for(alloc, users, tables, sessions, index, entry, token, user),
     }
 }
@@ -222,10 +226,10 @@ fn answer_inside<D: DocTables>(
         return Ok(Vec::new(alloc));
     }
     if sessions[index].is_lagging() {
-        return leave(alloc, sessions, index, refused(21));
+        return leave(alloc, sessions, index, refused(Refusal::Lagged));
     }
-    if let Some(code) = refusal_inside(&entry.request) {
-        return stay(alloc, sessions, index, refused(code));
+    if let Some(refusal) = refusal_inside(&entry.request) {
+        return stay(alloc, sessions, index, refused(refusal));
     }
     match &entry.request {
         Request::Apply { actions } => {

@@ -12,7 +12,7 @@ ghost use Rattle.view_parts.specs.Shown.{view};
 ghost use Rattle.bundle_core.specs.Forms.{is_in_form};
 ghost use Rattle.bundle_core.specs.Judgement.{judge_from, limited};
 ghost use Rattle.bundle_core.specs.Made.{made_of};
-ghost use Rattle.bundle_core.specs.Plans.{IsJudged, verdict_of};
+ghost use Rattle.bundle_core.specs.Plans.{IsJudged};
 ghost use Rattle.bundle_core.specs.Rulings.{IsRuling};
 ghost use Rattle.bundle_core.specs.Ways.{AllFit, went_back};
 
@@ -58,23 +58,12 @@ pub(crate) enum Ruling {
     Refused(Verdict),
 }
 
-fn verdict_of(refusal: Refusal) -> Verdict
-    ensures { result ≡ verdict_of refusal }
+fn refused(refusal: Refusal, index: u32) -> Verdict
+    ensures { result ≡ Refused refusal (Some index) }
 {
-    match refusal {
-        Refusal::Kind { code, action } => Verdict::Refused {
-            code,
-            action: Some(action),
-        },
-        Refusal::Limit {
-            what,
-            bound,
-            action,
-        } => Verdict::Limited {
-            what,
-            bound,
-            action: Some(action),
-        },
+    Verdict::Refused {
+        refusal,
+        action: Some(index),
     }
 }
 
@@ -169,8 +158,8 @@ fn rule_on<D: DocTables>(
 {
     let view = requested_view(alloc, tables, owner, action)?;
     requested_law();
-    match refuse(alloc, &view, action, index)? {
-        Some(refusal) => Ok(Ruling::Refused(verdict_of(refusal))),
+    match refuse(alloc, &view, action)? {
+        Some(refusal) => Ok(Ruling::Refused(refused(refusal, index))),
         None => rule_on_steps(alloc, tables, tally, owner, action, index),
     }
 }
@@ -236,7 +225,7 @@ pub(crate) fn judge<D: DocTables>(
 {
     if !are_in_form(asked) {
         return Ok(Judged::Refused(Verdict::Refused {
-            code: 1,
+            refusal: Refusal::BadLine,
             action: None,
         }));
     }

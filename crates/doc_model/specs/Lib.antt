@@ -14,6 +14,7 @@ pub mod Apply
 pub mod Inverse
 pub mod Readers
 pub mod Counts
+pub mod Refusals
 pub mod DocumentLaws
 pub mod CountLaws
 pub mod MaximaLaws

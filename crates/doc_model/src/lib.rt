@@ -14,6 +14,7 @@ mod column;
 mod entry;
 pub mod laws;
 mod limit;
+mod refusal;
 mod request;
 mod rows;
 mod tables;
@@ -27,8 +28,9 @@ pub use column::{CellColumn, CellRowList, ColDef, ColDefList, ColInfo, ColumnLis
 pub use entry::{Entry, EntryList};
 pub use limit::{
     LAST_ROW_ID, LimitKind, MAX_ACTIONS, MAX_CELLS, MAX_COLUMNS, MAX_ROWS, MAX_SESSIONS,
-    MAX_TABLES, MAX_WEIGHT_BYTES, Refusal, RuleRef,
+    MAX_TABLES, MAX_WEIGHT_BYTES, RuleRef,
 };
+pub use refusal::Refusal;
 pub use request::Request;
 pub use rows::{have_no_duplicates, index_of_column};
 pub use tables::{DocCells, DocTables};

@@ -1,4 +1,4 @@
-//! Why an action is refused.
+//! Limits, and the rules that deny actions.
 
 ghost use Rattle.std.specs.Prelude.{◌≡◌};
 ghost use Rattle.doc_model.specs.Counts.{bound_of};
@@ -48,20 +48,6 @@ pub enum LimitKind {
 pub struct RuleRef {
     pub row: u32,
     pub memo: CellText,
-}
-
-/// Why the action with that index in its bundle is refused: a kind by its code, or a limit.
-#[derive(Clone, Copy)]
-pub enum Refusal {
-    Kind {
-        code: u8,
-        action: u32,
-    },
-    Limit {
-        what: LimitKind,
-        bound: u64,
-        action: u32,
-    },
 }
 
 impl LimitKind {

@@ -146,7 +146,7 @@ fn is_unrefused(alloc: Global, document: &RowTables, action: &UserAction) -> boo
         return false;
     };
     allowed_law();
-    matches!(refuse(alloc, &view, action, 0), Ok(None))
+    matches!(refuse(alloc, &view, action), Ok(None))
 }
 
 fn is_end(expansion: &Result<Expansion, AllocError>, end: u64) -> bool {

@@ -1,25 +1,17 @@
 -- The JSON of replies.
-use Rattle.std.specs.Prelude.{ℕ, List, [], codes, Option, Some, None, if◌then◌else◌, ◌==◌}
+use Rattle.std.specs.Prelude.{ℕ, List, [], codes, Option, Some, None}
 use Rattle.serde_json.specs.Data.{Data, null, number, unsigned, string, object, Members, no_members, member, put}
 use Rattle.doc_model.specs.declared.limit.LimitKind.{LimitKind}
 use Rattle.doc_model.specs.declared.limit.LimitKind.TheVariants as limit
+use Rattle.doc_model.specs.declared.refusal.Refusal.{Refusal}
+use Rattle.doc_model.specs.declared.refusal.Refusal.TheVariants as refusal
 use Rattle.doc_model.specs.declared.verdict.RetValue.{RetValue}
 use Rattle.doc_model.specs.declared.verdict.RetValue.TheVariants as ret
 use Rattle.doc_model.specs.declared.verdict.Verdict.{Verdict}
 use Rattle.doc_model.specs.declared.verdict.Verdict.TheVariants.{Done, Changes, Bundle, Undone, Refused, Limited, Denied}
+use Rattle.doc_model.specs.Refusals.{refusal_name, refusal_number}
 use Rattle.grist_json.specs.Values.{array_of}
 use Rattle.grist_json.specs.Actions.{actions_data}
-
--- a refusal without more fields, by its code
-abbrev pub refusal_name : ℕ → List ℕ
-refusal_name n =
-    if n == 1 then codes "BadLine" else if n == 2 then codes "LineTooLong" else if n == 3 then codes "NotOpen"
-    else if n == 4 then codes "AlreadyOpen" else if n == 5 then codes "UnknownToken" else if n == 6 then codes "NoSuchTable"
-    else if n == 7 then codes "NoSuchColumn" else if n == 8 then codes "NoSuchRow" else if n == 9 then codes "DuplicateRow"
-    else if n == 10 then codes "MetaTable" else if n == 11 then codes "FormulaColumn" else if n == 12 then codes "BadValue"
-    else if n == 13 then codes "BadRule" else if n == 14 then codes "BadName" else if n == 16 then codes "NoSuchBundle"
-    else if n == 17 then codes "AlreadyUndone" else if n == 18 then codes "UndoStale" else if n == 19 then codes "StoreFault"
-    else if n == 21 then codes "Lagged" else []
 
 -- what is counted, by its name
 abbrev pub limit_name : LimitKind → List ℕ
@@ -59,7 +51,9 @@ ok_data d = object (member (codes "ok") d no_members)
 -- {"error":{..}}, with the action where there is one
 abbrev pub error_data : Option ℕ → Members → Data
 error_data None fields = object (member (codes "error") (object fields) no_members)
-error_data (Some action) fields = object (member (codes "error") (object (member (codes "action") (number_data action) fields)) no_members)
+error_data (Some action) fields =
+    object (member (codes "error") (object (member (codes "action") (number_data action) fields))
+    no_members)
 
 -- the fields, with the action where there is one
 abbrev pub put_action : Option ℕ → Members → Members
@@ -67,28 +61,37 @@ put_action None fields = fields
 put_action (Some action) fields = put (codes "action") (number_data action) fields
 
 -- the fields that each refusal has
-abbrev pub refusal_fields : ℕ → List ℕ → Members
-refusal_fields code name = member (codes "code") (number_data code) (member (codes "name") (string name) no_members)
+abbrev pub refusal_fields : Refusal → Members
+refusal_fields r =
+    member (codes "code") (number_data (refusal_number r))
+    (member (codes "name") (string (refusal_name r)) no_members)
 
-abbrev pub refused_data : ℕ → Option ℕ → Data
-refused_data code action = error_data action (refusal_fields code (refusal_name code))
+abbrev pub refused_data : Refusal → Option ℕ → Data
+refused_data r action = error_data action (refusal_fields r)
 
 -- the fields of a refusal for a bound, without the action
 abbrev pub limited_fields : LimitKind → ℕ → Members
-limited_fields what bound = member (codes "bound") (number_data bound) (member (codes "code") (number_data 15) (member (codes "name") (string (codes "Limit")) (member (codes "what") (string (limit_name what)) no_members)))
+limited_fields what bound =
+    member (codes "bound") (number_data bound)
+    (put (codes "what") (string (limit_name what)) (refusal_fields refusal.Limit))
 
 abbrev pub limited_data : LimitKind → ℕ → Option ℕ → Data
 limited_data what bound action = error_data action (limited_fields what bound)
 
 abbrev pub denied_data : ℕ → ℕ → List ℕ → Data
-denied_data action rule memo = error_data (Some action) (member (codes "code") (number_data 20) (member (codes "memo") (string memo) (member (codes "name") (string (codes "Denied")) (member (codes "rule") (number_data rule) no_members))))
+denied_data action rule memo =
+    error_data (Some action) (put (codes "rule") (number_data rule)
+    (put (codes "memo") (string memo) (refusal_fields refusal.Denied)))
 
 -- the reply that tells a verdict
 abbrev pub verdict_data : Verdict → Data
 verdict_data Done = ok_data null
-verdict_data (Changes actions) = ok_data (object (member (codes "actions") (actions_data actions) no_members))
-verdict_data (Bundle n values) = ok_data (object (member (codes "bundle") (number_data n) (member (codes "retValues") (rets_data values) no_members)))
+verdict_data (Changes actions) =
+    ok_data (object (member (codes "actions") (actions_data actions) no_members))
+verdict_data (Bundle n values) =
+    ok_data (object (member (codes "bundle") (number_data n)
+    (member (codes "retValues") (rets_data values) no_members)))
 verdict_data (Undone n) = ok_data (object (member (codes "bundle") (number_data n) no_members))
-verdict_data (Refused code action) = refused_data code action
+verdict_data (Refused r action) = refused_data r action
 verdict_data (Limited what bound action) = limited_data what bound action
 verdict_data (Denied action rule) = denied_data action rule.row rule.memo

@@ -3,40 +3,13 @@ ghost use Rattle.std.specs.Prelude.{◌≡◌, IfOk, codes};
 ghost use Rattle.serde_json.specs.Data.{object, no_members, member};
 ghost use Rattle.serde_json.specs.View.{view, members_view};
 ghost use Rattle.grist_json.specs.Actions.{actions_data};
-ghost use Rattle.grist_json.specs.Replies.{refusal_name, limit_name, number_data, id_data, ids_data, ret_data, rets_data, refusal_fields, put_action, refused_data, limited_fields, limited_data, denied_data, verdict_data};
+ghost use Rattle.grist_json.specs.Replies.{limit_name, number_data, id_data, ids_data, ret_data, rets_data, refusal_fields, put_action, refused_data, limited_fields, limited_data, denied_data, verdict_data};
 
 use crate::json_parts::{object_of_one, with_member};
 use crate::printed_actions::actions_value;
-use doc_model::{LimitKind, RetValue, RuleRef, Verdict, ViewAction};
+use doc_model::{LimitKind, Refusal, RetValue, RuleRef, Verdict, ViewAction};
 use serde_json::{Map, Value};
 use std::alloc::{AllocError, Global};
-
-fn refusal_name(code: u8) -> &'static str
-    ensures { result.now ≡ refusal_name code }
-{
-    match code {
-        1 => "BadLine",
-        2 => "LineTooLong",
-        3 => "NotOpen",
-        4 => "AlreadyOpen",
-        5 => "UnknownToken",
-        6 => "NoSuchTable",
-        7 => "NoSuchColumn",
-        8 => "NoSuchRow",
-        9 => "DuplicateRow",
-        10 => "MetaTable",
-        11 => "FormulaColumn",
-        12 => "BadValue",
-        13 => "BadRule",
-        14 => "BadName",
-        16 => "NoSuchBundle",
-        17 => "AlreadyUndone",
-        18 => "UndoStale",
-        19 => "StoreFault",
-        21 => "Lagged",
-        _ => "",
-    }
-}
 
 fn limit_name(what: LimitKind) -> &'static str
     ensures { result.now ≡ limit_name what }
@@ -93,13 +66,13 @@ fn rets_value(alloc: Global, values: &[RetValue]) -> Result<Value, AllocError>
     Ok(Value::Array(shown))
 }
 
-// The fields that each refusal has: {"code":code,"name":name}.
-fn refusal_fields(alloc: Global, code: u8, name: &str) -> Result<Map<String, Value>, AllocError>
-    ensures { IfOk result (λ m. members_view m.entries ≡ refusal_fields code name.now) }
+// The fields that each refusal has: {"code":number,"name":name}.
+fn refusal_fields(alloc: Global, refusal: Refusal) -> Result<Map<String, Value>, AllocError>
+    ensures { IfOk result (λ m. members_view m.entries ≡ refusal_fields refusal) }
 {
-    let name = Value::try_from_str(alloc, name)?;
+    let name = Value::try_from_str(alloc, refusal.name())?;
     let fields = with_member(alloc, Map::new(alloc), "name", name)?;
-    with_member(alloc, fields, "code", Value::from(code))
+    with_member(alloc, fields, "code", Value::from(refusal.number()))
 }
 
 // The fields, with the action where there is one.
@@ -117,10 +90,10 @@ fn with_action(
 }
 
 // A refusal without more fields.
-fn refused_value(alloc: Global, code: u8, action: Option<u32>) -> Result<Value, AllocError>
-    ensures { IfOk result (λ v. view v ≡ refused_data code action) }
+fn refused_value(alloc: Global, refusal: Refusal, action: Option<u32>) -> Result<Value, AllocError>
+    ensures { IfOk result (λ v. view v ≡ refused_data refusal action) }
 {
-    let fields = refusal_fields(alloc, code, refusal_name(code))?;
+    let fields = refusal_fields(alloc, refusal)?;
     let fields = with_action(alloc, fields, action)?;
     object_of_one(alloc, "error", Value::Object(fields))
 }
@@ -134,7 +107,7 @@ fn limited_fields(
     ensures { IfOk result (λ m. members_view m.entries ≡ limited_fields what bound) }
 {
     let what = Value::try_from_str(alloc, limit_name(what))?;
-    let fields = refusal_fields(alloc, 15, "Limit")?;
+    let fields = refusal_fields(alloc, Refusal::Limit)?;
     let fields = with_member(alloc, fields, "what", what)?;
     with_member(alloc, fields, "bound", Value::from(bound))
 }
@@ -158,7 +131,7 @@ fn denied_value(alloc: Global, action: u32, rule: &RuleRef) -> Result<Value, All
     ensures { IfOk result (λ v. view v ≡ denied_data action rule.now.row rule.now.memo) }
 {
     let memo = Value::try_from_str(alloc, rule.memo.as_str())?;
-    let fields = refusal_fields(alloc, 20, "Denied")?;
+    let fields = refusal_fields(alloc, Refusal::Denied)?;
     let fields = with_member(alloc, fields, "memo", memo)?;
     let fields = with_member(alloc, fields, "rule", Value::from(rule.row))?;
     let fields = with_member(alloc, fields, "action", Value::from(action))?;
@@ -202,7 +175,7 @@ pub(crate) fn verdict_value(alloc: Global, verdict: &Verdict) -> Result<Value, A
             )
         }
         Verdict::Undone { number } => object_of_one(alloc, "ok", undone_value(alloc, *number)?),
-        Verdict::Refused { code, action } => refused_value(alloc, *code, *action),
+        Verdict::Refused { refusal, action } => refused_value(alloc, *refusal, *action),
         Verdict::Limited {
             what,
             bound,

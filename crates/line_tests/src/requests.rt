@@ -331,7 +331,7 @@ enum Reply {
     Done,
     NoChanges,
     Bundle,
-    Refused(u8, Option<u32>),
+    Refused(Refusal, Option<u32>),
     Limited,
     Denied,
 }
@@ -371,7 +371,7 @@ fn verdict_of(alloc: Global, reply: Reply) -> Result<Verdict, AllocError> {
             number: 3,
             values: bundle_values(alloc)?,
         }),
-        Reply::Refused(code, action) => Ok(Verdict::Refused { code, action }),
+        Reply::Refused(refusal, action) => Ok(Verdict::Refused { refusal, action }),
         Reply::Limited => Ok(Verdict::Limited {
             what: LimitKind::RowId,
             bound: 4_294_967_295,
@@ -413,11 +413,11 @@ fn printed_replies(rt: HostRuntime) {
 
 static REFUSALS: [(Reply, &str); 4] = [
     (
-        Reply::Refused(1, None),
+        Reply::Refused(Refusal::BadLine, None),
         r#"{"error":{"code":1,"name":"BadLine"}}"#,
     ),
     (
-        Reply::Refused(18, Some(9)),
+        Reply::Refused(Refusal::UndoStale, Some(9)),
         r#"{"error":{"action":9,"code":18,"name":"UndoStale"}}"#,
     ),
     (

@@ -3,22 +3,22 @@ use Rattle.std.proofs.Common.{ℕ, List, ◌≡◌, refl, ap, Option, Some, None
 use Rattle.doc_model.specs.declared.user_action.UserAction.TheVariants.{Add, Update, Remove, AddTable, RemoveTable, RenameTable, AddColumn, RemoveColumn, RenameColumn, ModifyColumn}
 use Rattle.doc_model.specs.declared.view.ViewTable.{ViewTable}
 use Rattle.doc_model.specs.MetadataIds.{is_schema_id, is_acl_id, is_metadata_id}
-use Rattle.user_actions.specs.declared.objection.Objection.{Objection}
-use Rattle.user_actions.specs.declared.objection.Objection.TheVariants as objection
+use Rattle.doc_model.specs.declared.refusal.Refusal.{Refusal}
+use Rattle.doc_model.specs.declared.refusal.Refusal.TheVariants as refusal
 use Rattle.user_actions.specs.ObjectionLaws.{only, OneTableLaw}
 use Rattle.user_actions.specs.Objections.{against, in_table, in_records, in_schema, to_records, to_schema}
 use Rattle.user_actions.proofs.ViewLemmas.{find-passing}
 
-in_table-only : (v : List ViewTable) (table : List ℕ) (rest : ViewTable → Option Objection) → in_table (only table v) table rest ≡ in_table v table rest
+in_table-only : (v : List ViewTable) (table : List ℕ) (rest : ViewTable → Option Refusal) → in_table (only table v) table rest ≡ in_table v table rest
 in_table-only v table rest =
-    ap (λ (o : Option ViewTable). elim o [ None ↦ Some objection.NoSuchTable | Some t ↦ rest t ]) (find-passing _ v)
+    ap (λ (o : Option ViewTable). elim o [ None ↦ Some refusal.NoSuchTable | Some t ↦ rest t ]) (find-passing _ v)
 
-in_records-only : (v : List ViewTable) (table : List ℕ) (rest : ViewTable → Option Objection) → in_records (only table v) table rest ≡ in_records v table rest
+in_records-only : (v : List ViewTable) (table : List ℕ) (rest : ViewTable → Option Refusal) → in_records (only table v) table rest ≡ in_records v table rest
 in_records-only v table rest =
-    ap (λ o. against (is_schema_id table) objection.MetaTable (against (is_acl_id table) objection.NoSuchTable o)) (in_table-only v table rest)
+    ap (λ o. against (is_schema_id table) refusal.MetaTable (against (is_acl_id table) refusal.NoSuchTable o)) (in_table-only v table rest)
 
-in_schema-only : (v : List ViewTable) (table : List ℕ) (rest : ViewTable → Option Objection) → in_schema (only table v) table rest ≡ in_schema v table rest
-in_schema-only v table rest = ap (λ o. against (is_metadata_id table) objection.MetaTable o) (in_table-only v table rest)
+in_schema-only : (v : List ViewTable) (table : List ℕ) (rest : ViewTable → Option Refusal) → in_schema (only table v) table rest ≡ in_schema v table rest
+in_schema-only v table rest = ap (λ o. against (is_metadata_id table) refusal.MetaTable o) (in_table-only v table rest)
 
 pub objection_to-only : OneTableLaw
 objection_to-only v (Add table single count has_row_ids ks) = in_records-only v table (λ t. to_records t (Add table single count has_row_ids ks))

@@ -21,34 +21,34 @@ use Rattle.doc_model.specs.Valid.{is_data, passes, schema_table}
 use Rattle.doc_model.specs.ViewEdits.{shown_id}
 use Rattle.doc_model.proofs.ByIdsLaws.{found_all, found_id, has_found, has_id-find}
 use Rattle.doc_model.proofs.Choices.{both_true}
-use Rattle.user_actions.specs.declared.objection.Objection.{Objection}
-use Rattle.user_actions.specs.declared.objection.Objection.TheVariants as objection
+use Rattle.doc_model.specs.declared.refusal.Refusal.{Refusal}
+use Rattle.doc_model.specs.declared.refusal.Refusal.TheVariants as refusal
 use Rattle.user_actions.specs.Allowed.{may_give, may_name}
 use Rattle.user_actions.specs.Infos.{is_plain}
 use Rattle.user_actions.specs.Objections.{against, are_once, has_base, has_good_id, in_records, in_schema, in_table, is_computed, is_row, is_shown, on_change, on_columns, on_rows, on_values, to_records, to_schema}
 use Rattle.user_actions.specs.Unopposed.{IsColumnOf, IsTableOf, UnopposedLaw}
 
 -- nothing applies
-against_none : (b : Bool) (o : Objection) (next : Option Objection) → against b o next ≡ None → (b ≡ false) × (next ≡ None)
+against_none : (b : Bool) (o : Refusal) (next : Option Refusal) → against b o next ≡ None → (b ≡ false) × (next ≡ None)
 against_none true o next h = absurd (cc)
 against_none false o next h = (refl, h)
 
-lone_false : (b : Bool) (o : Objection) → against b o None ≡ None → b ≡ false
+lone_false : (b : Bool) (o : Refusal) → against b o None ≡ None → b ≡ false
 lone_false true o h = absurd (cc)
 lone_false false o h = refl
 
-lone_none : (b : Bool) (o : Objection) → against (not b) o None ≡ None → b ≡ true
+lone_none : (b : Bool) (o : Refusal) → against (not b) o None ≡ None → b ≡ true
 lone_none true o h = refl
 lone_none false o h = absurd (cc)
 
-needs_none : (b : Bool) (o : Objection) (next : Option Objection) → against (not b) o next ≡ None → (b ≡ true) × (next ≡ None)
+needs_none : (b : Bool) (o : Refusal) (next : Option Refusal) → against (not b) o next ≡ None → (b ≡ true) × (next ≡ None)
 needs_none true o next h = (refl, h)
 needs_none false o next h = absurd (cc)
 
 -- the table is in the view
-table_none : (v : List ViewTable) (table : List ℕ) (rest : ViewTable → Option Objection) → in_table v table rest ≡ None → (t : ViewTable) × (find_id shown_table_id table v ≡ Some t) × (rest t ≡ None)
+table_none : (v : List ViewTable) (table : List ℕ) (rest : ViewTable → Option Refusal) → in_table v table rest ≡ None → (t : ViewTable) × (find_id shown_table_id table v ≡ Some t) × (rest t ≡ None)
 table_none v table rest h =
-    elim (find_id shown_table_id table v) as (λ (o : Option ViewTable). find_id shown_table_id table v ≡ o → elim o as (λ _. Option Objection) [ None ↦ Some objection.NoSuchTable | Some t ↦ rest t ] ≡ None
+    elim (find_id shown_table_id table v) as (λ (o : Option ViewTable). find_id shown_table_id table v ≡ o → elim o as (λ _. Option Refusal) [ None ↦ Some refusal.NoSuchTable | Some t ↦ rest t ] ≡ None
     → (t : ViewTable) × (find_id shown_table_id table v ≡ Some t) × (rest t ≡ None)) [
       | None ↦ λ is e. absurd (cc)
       | Some t ↦ λ is e. (t, is, e)
@@ -62,18 +62,18 @@ module _ (s : Document) (v : List ViewTable) (shown : AllByRecursion (IsTableOf 
       let known : find_id table_id table s ≡ Some p.table = ap (λ id. find_id table_id id s) (sym (found_id shown_table_id table v t found)) ∙ p.found in
       ap (λ b. passes (cond b None (find_id table_id table s)) test) plain ∙ ap (λ o. passes o test) known ∙ holds p
 
-schema_none : (s : Document) (v : List ViewTable) → AllByRecursion (IsTableOf s) v → (table : List ℕ) (rest : ViewTable → Option Objection) (test : Table → Bool)
+schema_none : (s : Document) (v : List ViewTable) → AllByRecursion (IsTableOf s) v → (table : List ℕ) (rest : ViewTable → Option Refusal) (test : Table → Bool)
     → ((t : ViewTable) (p : IsTableOf s t) → rest t ≡ None → test p.table ≡ true) → in_schema v table rest ≡ None → passes (schema_table s table) test ≡ true
 schema_none s v shown table rest test holds h =
-    let a : (is_metadata_id table ≡ false) × (in_table v table rest ≡ None) = against_none (is_metadata_id table) objection.MetaTable (in_table v table rest) h in
+    let a : (is_metadata_id table ≡ false) × (in_table v table rest ≡ None) = against_none (is_metadata_id table) refusal.MetaTable (in_table v table rest) h in
     let t : (t : ViewTable) × (find_id shown_table_id table v ≡ Some t) × (rest t ≡ None) = table_none v table rest a.1 in
     there s v shown table a.0 t.0 t.1 test (λ p. holds t.0 p t.2)
 
-records_none : (s : Document) (v : List ViewTable) → AllByRecursion (IsTableOf s) v → (table : List ℕ) (rest : ViewTable → Option Objection) (test : Table → Bool)
+records_none : (s : Document) (v : List ViewTable) → AllByRecursion (IsTableOf s) v → (table : List ℕ) (rest : ViewTable → Option Refusal) (test : Table → Bool)
     → ((t : ViewTable) (p : IsTableOf s t) → rest t ≡ None → test p.table ≡ true) → in_records v table rest ≡ None → passes (schema_table s table) test ≡ true
 records_none s v shown table rest test holds h =
-    let a : (is_schema_id table ≡ false) × (against (is_acl_id table) objection.NoSuchTable (in_table v table rest) ≡ None) = against_none (is_schema_id table) objection.MetaTable (against (is_acl_id table) objection.NoSuchTable (in_table v table rest)) h in
-    let b : (is_acl_id table ≡ false) × (in_table v table rest ≡ None) = against_none (is_acl_id table) objection.NoSuchTable (in_table v table rest) a.1 in
+    let a : (is_schema_id table ≡ false) × (against (is_acl_id table) refusal.NoSuchTable (in_table v table rest) ≡ None) = against_none (is_schema_id table) refusal.MetaTable (against (is_acl_id table) refusal.NoSuchTable (in_table v table rest)) h in
+    let b : (is_acl_id table ≡ false) × (in_table v table rest ≡ None) = against_none (is_acl_id table) refusal.NoSuchTable (in_table v table rest) a.1 in
     let t : (t : ViewTable) × (find_id shown_table_id table v ≡ Some t) × (rest t ≡ None) = table_none v table rest b.1 in
     let plain : is_metadata_id table ≡ false = ap (λ x. x || is_acl_id table) a.0 ∙ b.0 in
     there s v shown table plain t.0 t.1 test (λ p. holds t.0 p t.2)
@@ -135,28 +135,28 @@ rows_known shown rows all (n ∷ ns) h =
     both_true (is_row rows n) (list_all (is_row rows) ns) (row_known shown rows all n p.0) (rows_known shown rows all ns p.1)
 
 -- what the parts of objections ask
-columns_none : (s : Document) (t : ViewTable) (p : IsTableOf s t) (ks : List UserColumn) (next : Option Objection) → (next ≡ None → list_all has_base ks ≡ true) → on_columns t ks next ≡ None → list_all (may_give p.table.grid) ks ≡ true
+columns_none : (s : Document) (t : ViewTable) (p : IsTableOf s t) (ks : List UserColumn) (next : Option Refusal) → (next ≡ None → list_all has_base ks ≡ true) → on_columns t ks next ≡ None → list_all (may_give p.table.grid) ks ≡ true
 columns_none s t p ks next base h =
-    let a : (list_all (is_shown t.columns) ks ≡ true) × (against (list_any (is_computed t.columns) ks) objection.FormulaColumn next ≡ None) = needs_none (list_all (is_shown t.columns) ks) objection.NoSuchColumn (against (list_any (is_computed t.columns) ks) objection.FormulaColumn next) h in
-    let b : (list_any (is_computed t.columns) ks ≡ false) × (next ≡ None) = against_none (list_any (is_computed t.columns) ks) objection.FormulaColumn next a.1 in
+    let a : (list_all (is_shown t.columns) ks ≡ true) × (against (list_any (is_computed t.columns) ks) refusal.FormulaColumn next ≡ None) = needs_none (list_all (is_shown t.columns) ks) refusal.NoSuchColumn (against (list_any (is_computed t.columns) ks) refusal.FormulaColumn next) h in
+    let b : (list_any (is_computed t.columns) ks ≡ false) × (next ≡ None) = against_none (list_any (is_computed t.columns) ks) refusal.FormulaColumn next a.1 in
     all_given p.table t.columns p.columns ks a.0 b.0 (base b.1)
 
-rows_none : (s : Document) (t : ViewTable) (p : IsTableOf s t) (rows : List ℤ) (next : Option Objection) → on_rows t rows next ≡ None → (may_name p.table.grid.rows rows ≡ true) × (next ≡ None)
+rows_none : (s : Document) (t : ViewTable) (p : IsTableOf s t) (rows : List ℤ) (next : Option Refusal) → on_rows t rows next ≡ None → (may_name p.table.grid.rows rows ≡ true) × (next ≡ None)
 rows_none s t p rows next h =
-    let a : (are_once rows ≡ true) × (against (not (list_all (is_row t.rows) rows)) objection.NoSuchRow next ≡ None) = needs_none (are_once rows) objection.DuplicateRow (against (not (list_all (is_row t.rows) rows)) objection.NoSuchRow next) h in
-    let b : (list_all (is_row t.rows) rows ≡ true) × (next ≡ None) = needs_none (list_all (is_row t.rows) rows) objection.NoSuchRow next a.1 in
+    let a : (are_once rows ≡ true) × (against (not (list_all (is_row t.rows) rows)) refusal.NoSuchRow next ≡ None) = needs_none (are_once rows) refusal.DuplicateRow (against (not (list_all (is_row t.rows) rows)) refusal.NoSuchRow next) h in
+    let b : (list_all (is_row t.rows) rows ≡ true) × (next ≡ None) = needs_none (list_all (is_row t.rows) rows) refusal.NoSuchRow next a.1 in
     (both_true (are_once rows) (list_all (is_row p.table.grid.rows) rows) a.0 (rows_known t.rows p.table.grid.rows p.rows rows b.0), b.1)
 
 values_none : (ks : List UserColumn) → on_values ks ≡ None → list_all has_base ks ≡ true
-values_none ks h = lone_none (list_all has_base ks) objection.BadValue h
+values_none ks h = lone_none (list_all has_base ks) refusal.BadValue h
 
 change_none : (s : Document) (t : ViewTable) (p : IsTableOf s t) (c : UserCol) → on_change t c ≡ None → (is_data p.table.grid c.id && is_plain c) ≡ true
 change_none s t p c h =
-    elim (find_id shown_id c.id t.columns) as (λ (o : Option ViewCol). find_id shown_id c.id t.columns ≡ o → elim o as (λ _. Option Objection) [ None ↦ Some objection.NoSuchColumn | Some d ↦ against (d.is_formula || not (is_plain c)) objection.BadValue None ] ≡ None
+    elim (find_id shown_id c.id t.columns) as (λ (o : Option ViewCol). find_id shown_id c.id t.columns ≡ o → elim o as (λ _. Option Refusal) [ None ↦ Some refusal.NoSuchColumn | Some d ↦ against (d.is_formula || not (is_plain c)) refusal.BadValue None ] ≡ None
     → (is_data p.table.grid c.id && is_plain c) ≡ true) [
       | None ↦ λ is e. absurd (cc)
       | Some d ↦ λ found e.
-          let b : (d.is_formula ≡ false) × (not (is_plain c) ≡ false) = or_parts d.is_formula (not (is_plain c)) (lone_false (d.is_formula || not (is_plain c)) objection.BadValue e) in
+          let b : (d.is_formula ≡ false) × (not (is_plain c) ≡ false) = or_parts d.is_formula (not (is_plain c)) (lone_false (d.is_formula || not (is_plain c)) refusal.BadValue e) in
           both_true (is_data p.table.grid c.id) (is_plain c) (column_data p.table t.columns p.columns c.id d found b.0) (not_false (is_plain c) b.1)
     ] refl h
   where
@@ -167,7 +167,7 @@ change_none s t p c h =
 pub is_allowed-unopposed : UnopposedLaw
 is_allowed-unopposed s (Add table single count has_row_ids ks) u =
     records_none s u.view u.shown table (λ t. to_records t (Add table single count has_row_ids ks)) (λ t. list_all (may_give t.grid) ks)
-    (λ t p none. columns_none s t p ks (against has_row_ids objection.BadValue (on_values ks)) (λ n. values_none ks (against_none has_row_ids objection.BadValue (on_values ks) n).1) none) u.none
+    (λ t p none. columns_none s t p ks (against has_row_ids refusal.BadValue (on_values ks)) (λ n. values_none ks (against_none has_row_ids refusal.BadValue (on_values ks) n).1) none) u.none
 is_allowed-unopposed s (Update table single rows ks) u =
     records_none s u.view u.shown table (λ t. to_records t (Update table single rows ks)) (λ t. may_name t.grid.rows rows && list_all (may_give t.grid) ks)
     (λ t p none.
@@ -176,25 +176,25 @@ is_allowed-unopposed s (Update table single rows ks) u =
 is_allowed-unopposed s (Remove table single rows) u =
     records_none s u.view u.shown table (λ t. to_records t (Remove table single rows)) (λ t. may_name t.grid.rows rows) (λ t p none. (rows_none s t p rows None none).0) u.none
 is_allowed-unopposed s (AddTable table cs) u =
-    let a : (is_metadata_id table ≡ false) × (against (not (is_name table && list_all has_good_id cs)) objection.BadName (against (not (list_all is_plain cs)) objection.BadValue None) ≡ None) = against_none (is_metadata_id table) objection.MetaTable (against (not (is_name table && list_all has_good_id cs)) objection.BadName (against (not (list_all is_plain cs)) objection.BadValue None)) u.none in
-    let b : ((is_name table && list_all has_good_id cs) ≡ true) × (against (not (list_all is_plain cs)) objection.BadValue None ≡ None) = needs_none (is_name table && list_all has_good_id cs) objection.BadName (against (not (list_all is_plain cs)) objection.BadValue None) a.1 in
-    both_true (is_name table && list_all has_good_id cs) (list_all is_plain cs) b.0 (lone_none (list_all is_plain cs) objection.BadValue b.1)
+    let a : (is_metadata_id table ≡ false) × (against (not (is_name table && list_all has_good_id cs)) refusal.BadName (against (not (list_all is_plain cs)) refusal.BadValue None) ≡ None) = against_none (is_metadata_id table) refusal.MetaTable (against (not (is_name table && list_all has_good_id cs)) refusal.BadName (against (not (list_all is_plain cs)) refusal.BadValue None)) u.none in
+    let b : ((is_name table && list_all has_good_id cs) ≡ true) × (against (not (list_all is_plain cs)) refusal.BadValue None ≡ None) = needs_none (is_name table && list_all has_good_id cs) refusal.BadName (against (not (list_all is_plain cs)) refusal.BadValue None) a.1 in
+    both_true (is_name table && list_all has_good_id cs) (list_all is_plain cs) b.0 (lone_none (list_all is_plain cs) refusal.BadValue b.1)
 is_allowed-unopposed s (RemoveTable table) u =
     schema_none s u.view u.shown table (λ t. to_schema t (RemoveTable table)) (λ t. true) (λ t p none. refl) u.none
 is_allowed-unopposed s (RenameTable table new) u =
-    schema_none s u.view u.shown table (λ t. to_schema t (RenameTable table new)) (λ t. is_name new) (λ t p none. lone_none (is_name new) objection.BadName none) u.none
+    schema_none s u.view u.shown table (λ t. to_schema t (RenameTable table new)) (λ t. is_name new) (λ t p none. lone_none (is_name new) refusal.BadName none) u.none
 is_allowed-unopposed s (AddColumn table c) u =
     schema_none s u.view u.shown table (λ t. to_schema t (AddColumn table c)) (λ t. is_name c.id && is_plain c)
     (λ t p none.
-    let a : (is_name c.id ≡ true) × (against (not (is_plain c)) objection.BadValue None ≡ None) = needs_none (is_name c.id) objection.BadName (against (not (is_plain c)) objection.BadValue None) none in
-    both_true (is_name c.id) (is_plain c) a.0 (lone_none (is_plain c) objection.BadValue a.1)) u.none
+    let a : (is_name c.id ≡ true) × (against (not (is_plain c)) refusal.BadValue None ≡ None) = needs_none (is_name c.id) refusal.BadName (against (not (is_plain c)) refusal.BadValue None) none in
+    both_true (is_name c.id) (is_plain c) a.0 (lone_none (is_plain c) refusal.BadValue a.1)) u.none
 is_allowed-unopposed s (RemoveColumn table column) u =
     schema_none s u.view u.shown table (λ t. to_schema t (RemoveColumn table column)) (λ t. has_id column_id t.grid.columns column)
-    (λ t p none. column_has p.table t.columns p.columns column (lone_none (has_id shown_id t.columns column) objection.NoSuchColumn none)) u.none
+    (λ t p none. column_has p.table t.columns p.columns column (lone_none (has_id shown_id t.columns column) refusal.NoSuchColumn none)) u.none
 is_allowed-unopposed s (RenameColumn table column new) u =
     schema_none s u.view u.shown table (λ t. to_schema t (RenameColumn table column new)) (λ t. has_id column_id t.grid.columns column && is_name new)
     (λ t p none.
-    let a : (has_id shown_id t.columns column ≡ true) × (against (not (is_name new)) objection.BadName None ≡ None) = needs_none (has_id shown_id t.columns column) objection.NoSuchColumn (against (not (is_name new)) objection.BadName None) none in
-    both_true (has_id column_id p.table.grid.columns column) (is_name new) (column_has p.table t.columns p.columns column a.0) (lone_none (is_name new) objection.BadName a.1)) u.none
+    let a : (has_id shown_id t.columns column ≡ true) × (against (not (is_name new)) refusal.BadName None ≡ None) = needs_none (has_id shown_id t.columns column) refusal.NoSuchColumn (against (not (is_name new)) refusal.BadName None) none in
+    both_true (has_id column_id p.table.grid.columns column) (is_name new) (column_has p.table t.columns p.columns column a.0) (lone_none (is_name new) refusal.BadName a.1)) u.none
 is_allowed-unopposed s (ModifyColumn table c) u =
     schema_none s u.view u.shown table (λ t. to_schema t (ModifyColumn table c)) (λ t. is_data t.grid c.id && is_plain c) (λ t p none. change_none s t p c none) u.none

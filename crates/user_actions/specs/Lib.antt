@@ -1,4 +1,3 @@
-pub mod Codes
 pub mod Infos
 pub mod Kinds
 pub mod Objections

@@ -16,29 +16,29 @@ use Rattle.doc_model.specs.Column.{is_base}
 use Rattle.doc_model.specs.MetadataIds.{is_schema_id, is_acl_id, is_metadata_id}
 use Rattle.doc_model.specs.Rows.{has}
 use Rattle.doc_model.specs.ViewEdits.{shown_id}
-use Rattle.user_actions.specs.declared.objection.Objection.{Objection}
-use Rattle.user_actions.specs.declared.objection.Objection.TheVariants as objection
+use Rattle.doc_model.specs.declared.refusal.Refusal.{Refusal}
+use Rattle.doc_model.specs.declared.refusal.Refusal.TheVariants as refusal
 use Rattle.user_actions.specs.Infos.{is_plain}
 use Rattle.user_actions.specs.Kinds.{is_about_rows, table_of}
 
 -- the objection where it applies, or else the next one
-abbrev pub against : Bool → Objection → Option Objection → Option Objection
+abbrev pub against : Bool → Refusal → Option Refusal → Option Refusal
 against applies this next = cond applies (Some this) next
 
 -- what stands against an action on a table of the view
-abbrev pub in_table : List ViewTable → List ℕ → (ViewTable → Option Objection) → Option Objection
+abbrev pub in_table : List ViewTable → List ℕ → (ViewTable → Option Refusal) → Option Refusal
 in_table v table rest =
-    elim (find_id shown_table_id table v) [ None ↦ Some objection.NoSuchTable | Some t ↦ rest t ]
+    elim (find_id shown_table_id table v) [ None ↦ Some refusal.NoSuchTable | Some t ↦ rest t ]
 
 -- a record action; the tables of the access rules are not built yet
-abbrev pub in_records : List ViewTable → List ℕ → (ViewTable → Option Objection) → Option Objection
+abbrev pub in_records : List ViewTable → List ℕ → (ViewTable → Option Refusal) → Option Refusal
 in_records v table rest =
-    against (is_schema_id table) objection.MetaTable
-    (against (is_acl_id table) objection.NoSuchTable (in_table v table rest))
+    against (is_schema_id table) refusal.MetaTable
+    (against (is_acl_id table) refusal.NoSuchTable (in_table v table rest))
 
 -- a schema action
-abbrev pub in_schema : List ViewTable → List ℕ → (ViewTable → Option Objection) → Option Objection
-in_schema v table rest = against (is_metadata_id table) objection.MetaTable (in_table v table rest)
+abbrev pub in_schema : List ViewTable → List ℕ → (ViewTable → Option Refusal) → Option Refusal
+in_schema v table rest = against (is_metadata_id table) refusal.MetaTable (in_table v table rest)
 
 -- whether a number stands in the list
 abbrev pub has_number : List ℤ → ℤ → Bool
@@ -54,10 +54,10 @@ abbrev pub is_row : List ℕ → ℤ → Bool
 is_row rows n = elim (row_number n) [ None ↦ false | Some r ↦ has rows r ]
 
 -- rows that are given: each once, and each in the table
-abbrev pub on_rows : ViewTable → List ℤ → Option Objection → Option Objection
+abbrev pub on_rows : ViewTable → List ℤ → Option Refusal → Option Refusal
 on_rows t rows next =
-    against (not (are_once rows)) objection.DuplicateRow
-    (against (not (list_all (is_row t.rows) rows)) objection.NoSuchRow next)
+    against (not (are_once rows)) refusal.DuplicateRow
+    (against (not (list_all (is_row t.rows) rows)) refusal.NoSuchRow next)
 
 abbrev pub is_shown : List ViewCol → UserColumn → Bool
 is_shown columns k = has_id shown_id columns k.id
@@ -68,58 +68,58 @@ is_computed columns k =
     elim (find_id shown_id k.id columns) [ None ↦ false | Some d ↦ d.is_formula ]
 
 -- columns that are given values: each in the table, and none with a formula
-abbrev pub on_columns : ViewTable → List UserColumn → Option Objection → Option Objection
+abbrev pub on_columns : ViewTable → List UserColumn → Option Refusal → Option Refusal
 on_columns t ks next =
-    against (not (list_all (is_shown t.columns) ks)) objection.NoSuchColumn
-    (against (list_any (is_computed t.columns) ks) objection.FormulaColumn next)
+    against (not (list_all (is_shown t.columns) ks)) refusal.NoSuchColumn
+    (against (list_any (is_computed t.columns) ks) refusal.FormulaColumn next)
 
 -- whether cells may hold the values
 abbrev pub has_base : UserColumn → Bool
 has_base k = list_all is_base k.values
 
 -- values that are given
-abbrev pub on_values : List UserColumn → Option Objection
-on_values ks = against (not (list_all has_base ks)) objection.BadValue None
+abbrev pub on_values : List UserColumn → Option Refusal
+on_values ks = against (not (list_all has_base ks)) refusal.BadValue None
 
 -- a column that is named
-abbrev pub on_column : ViewTable → List ℕ → Option Objection → Option Objection
-on_column t column next = against (not (has_id shown_id t.columns column)) objection.NoSuchColumn next
+abbrev pub on_column : ViewTable → List ℕ → Option Refusal → Option Refusal
+on_column t column next = against (not (has_id shown_id t.columns column)) refusal.NoSuchColumn next
 
 -- a new id
-abbrev pub on_name : List ℕ → Option Objection → Option Objection
-on_name id next = against (not (is_name id)) objection.BadName next
+abbrev pub on_name : List ℕ → Option Refusal → Option Refusal
+on_name id next = against (not (is_name id)) refusal.BadName next
 
 -- what is said of a column
-abbrev pub on_info : UserCol → Option Objection
-on_info c = against (not (is_plain c)) objection.BadValue None
+abbrev pub on_info : UserCol → Option Refusal
+on_info c = against (not (is_plain c)) refusal.BadValue None
 
 -- what is said of a column that is there; one with a formula cannot be changed yet
-abbrev pub on_change : ViewTable → UserCol → Option Objection
+abbrev pub on_change : ViewTable → UserCol → Option Refusal
 on_change t c =
     elim (find_id shown_id c.id t.columns) [
-      | None ↦ Some objection.NoSuchColumn
-      | Some d ↦ against (d.is_formula || not (is_plain c)) objection.BadValue None
+      | None ↦ Some refusal.NoSuchColumn
+      | Some d ↦ against (d.is_formula || not (is_plain c)) refusal.BadValue None
     ]
 
 abbrev pub has_good_id : UserCol → Bool
 has_good_id c = is_name c.id
 
 -- a new table: its id and those of its columns, and what is said of these
-abbrev pub on_table : List ℕ → List UserCol → Option Objection
+abbrev pub on_table : List ℕ → List UserCol → Option Refusal
 on_table table cs =
-    against (not (is_name table && list_all has_good_id cs)) objection.BadName
-    (against (not (list_all is_plain cs)) objection.BadValue None)
+    against (not (is_name table && list_all has_good_id cs)) refusal.BadName
+    (against (not (list_all is_plain cs)) refusal.BadValue None)
 
 -- a record action on a table that is there
-abbrev pub to_records : ViewTable → UserAction → Option Objection
+abbrev pub to_records : ViewTable → UserAction → Option Refusal
 to_records t (Add table single count has_row_ids ks) =
-    on_columns t ks (against has_row_ids objection.BadValue (on_values ks))
+    on_columns t ks (against has_row_ids refusal.BadValue (on_values ks))
 to_records t (Update table single rows ks) = on_rows t rows (on_columns t ks (on_values ks))
 to_records t (Remove table single rows) = on_rows t rows None
 to_records t _ = None
 
 -- a schema action on a table that is there
-abbrev pub to_schema : ViewTable → UserAction → Option Objection
+abbrev pub to_schema : ViewTable → UserAction → Option Refusal
 to_schema t (RenameTable table new) = on_name new None
 to_schema t (AddColumn table c) = on_name c.id (on_info c)
 to_schema t (RemoveColumn table column) = on_column t column None
@@ -128,9 +128,9 @@ to_schema t (ModifyColumn table c) = on_change t c
 to_schema t _ = None
 
 -- the first objection that applies
-abbrev pub objection_to : List ViewTable → UserAction → Option Objection
+abbrev pub objection_to : List ViewTable → UserAction → Option Refusal
 objection_to v (AddTable table cs) =
-    against (is_metadata_id table) objection.MetaTable (on_table table cs)
+    against (is_metadata_id table) refusal.MetaTable (on_table table cs)
 objection_to v a =
     cond (is_about_rows a) (in_records v (table_of a) (λ t. to_records t a))
     (in_schema v (table_of a) (λ t. to_schema t a))

@@ -17,7 +17,6 @@
 mod expanding;
 mod infos;
 mod laws;
-mod objection;
 mod record_steps;
 mod refusing;
 mod retyping;
@@ -29,7 +28,6 @@ mod values;
 
 pub use expanding::steps;
 pub use laws::{one_table_law, unopposed_law};
-pub use objection::Objection;
 pub use record_steps::row_ids;
 pub use refusing::{refuse, table_of};
 pub use table_readers::last_row;

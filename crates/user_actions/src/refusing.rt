@@ -6,14 +6,12 @@ ghost use Rattle.doc_model.specs.declared.view.ViewTable.{ViewTable};
 ghost use Rattle.doc_model.specs.Changes.{IsView, grid};
 ghost use Rattle.doc_model.specs.Rows.{IsAscending};
 ghost use Rattle.doc_model.specs.ViewEdits.{IsShown};
-ghost use Rattle.user_actions.specs.declared.objection.Objection.{Objection};
-ghost use Rattle.user_actions.specs.declared.objection.Objection.TheVariants.{BadValue};
-ghost use Rattle.user_actions.specs.Codes.{refusal_of};
+ghost use Rattle.doc_model.specs.declared.refusal.Refusal.{Refusal};
+ghost use Rattle.doc_model.specs.declared.refusal.Refusal.TheVariants.{BadValue};
 ghost use Rattle.user_actions.specs.Infos.{is_plain};
 ghost use Rattle.user_actions.specs.Kinds.{table_of};
 ghost use Rattle.user_actions.specs.Objections.{against, has_good_id, in_records, in_schema, objection_to, on_change, on_column, on_columns, on_name, on_info, on_rows, on_table, on_values, to_records, to_schema};
 
-use crate::Objection;
 use crate::infos::is_plain;
 use crate::rows::{are_once, are_rows};
 use crate::tables::{find_column, find_table, has_column};
@@ -24,58 +22,58 @@ use name_rules::is_name;
 use std::alloc::{AllocError, Global};
 
 // The table of a record action.
-fn records_table<'a>(tables: &'a [ViewTable], id: &str) -> Result<&'a ViewTable, Objection>
+fn records_table<'a>(tables: &'a [ViewTable], id: &str) -> Result<&'a ViewTable, Refusal>
     requires { AllByRecursion (λ t. IsShown (grid t)) tables.now }
-    ensures table { MatchResult result (λ t. (rest : ViewTable → Option Objection) → in_records tables.now id.now rest ≡ rest t.now) (λ o. (rest : ViewTable → Option Objection) → in_records tables.now id.now rest ≡ Some o) }
+    ensures table { MatchResult result (λ t. (rest : ViewTable → Option Refusal) → in_records tables.now id.now rest ≡ rest t.now) (λ o. (rest : ViewTable → Option Refusal) → in_records tables.now id.now rest ≡ Some o) }
     ensures ascending { MatchResult result (λ t. IsAscending t.now.rows) (λ _. Unit {0}) }
 {
     if is_schema_id(id) {
-        return Err(Objection::MetaTable);
+        return Err(Refusal::MetaTable);
     }
     if is_acl_id(id) {
-        return Err(Objection::NoSuchTable);
+        return Err(Refusal::NoSuchTable);
     }
     match find_table(tables, id) {
         Some(table) => Ok(table),
-        None => Err(Objection::NoSuchTable),
+        None => Err(Refusal::NoSuchTable),
     }
 }
 
 // The table of a schema action.
-fn schema_table<'a>(tables: &'a [ViewTable], id: &str) -> Result<&'a ViewTable, Objection>
-    ensures { MatchResult result (λ t. (rest : ViewTable → Option Objection) → in_schema tables.now id.now rest ≡ rest t.now) (λ o. (rest : ViewTable → Option Objection) → in_schema tables.now id.now rest ≡ Some o) }
+fn schema_table<'a>(tables: &'a [ViewTable], id: &str) -> Result<&'a ViewTable, Refusal>
+    ensures { MatchResult result (λ t. (rest : ViewTable → Option Refusal) → in_schema tables.now id.now rest ≡ rest t.now) (λ o. (rest : ViewTable → Option Refusal) → in_schema tables.now id.now rest ≡ Some o) }
 {
     if is_metadata_id(id) {
-        return Err(Objection::MetaTable);
+        return Err(Refusal::MetaTable);
     }
     match find_table(tables, id) {
         Some(table) => Ok(table),
-        None => Err(Objection::NoSuchTable),
+        None => Err(Refusal::NoSuchTable),
     }
 }
 
-fn on_values(given: &[UserColumn]) -> Option<Objection>
+fn on_values(given: &[UserColumn]) -> Option<Refusal>
     ensures { result ≡ on_values given.now }
 {
     if !are_all_base(given) {
-        return Some(Objection::BadValue);
+        return Some(Refusal::BadValue);
     }
     None
 }
 
 // The columns that an action gives values; the next objection is that a row id is given.
-fn on_columns(table: &ViewTable, has_row_ids: bool, given: &[UserColumn]) -> Option<Objection>
+fn on_columns(table: &ViewTable, has_row_ids: bool, given: &[UserColumn]) -> Option<Refusal>
     ensures { result ≡ on_columns table.now given.now (against has_row_ids BadValue (on_values given.now)) }
 {
     let columns = table.columns.as_slice();
     if !are_shown(columns, given) {
-        return Some(Objection::NoSuchColumn);
+        return Some(Refusal::NoSuchColumn);
     }
     if is_any_computed(columns, given) {
-        return Some(Objection::FormulaColumn);
+        return Some(Refusal::FormulaColumn);
     }
     if has_row_ids {
-        return Some(Objection::BadValue);
+        return Some(Refusal::BadValue);
     }
     on_values(given)
 }
@@ -85,54 +83,54 @@ fn on_rows(
     alloc: Global,
     table: &ViewTable,
     rows: &[i64],
-    next: Option<Objection>,
-) -> Result<Option<Objection>, AllocError>
+    next: Option<Refusal>,
+) -> Result<Option<Refusal>, AllocError>
     requires { IsAscending table.now.rows }
     ensures { IfOk result (λ o. o ≡ on_rows table.now rows.now next) }
 {
     if !are_once(alloc, rows)? {
-        return Ok(Some(Objection::DuplicateRow));
+        return Ok(Some(Refusal::DuplicateRow));
     }
     if !are_rows(table.rows.as_slice(), rows) {
-        return Ok(Some(Objection::NoSuchRow));
+        return Ok(Some(Refusal::NoSuchRow));
     }
     Ok(next)
 }
 
-fn on_name(id: &str, next: Option<Objection>) -> Option<Objection>
+fn on_name(id: &str, next: Option<Refusal>) -> Option<Refusal>
     ensures { result ≡ on_name id.now next }
 {
     if !is_name(id) {
-        return Some(Objection::BadName);
+        return Some(Refusal::BadName);
     }
     next
 }
 
-fn on_column(table: &ViewTable, column: &str, next: Option<Objection>) -> Option<Objection>
+fn on_column(table: &ViewTable, column: &str, next: Option<Refusal>) -> Option<Refusal>
     ensures { result ≡ on_column table.now column.now next }
 {
     if !has_column(table.columns.as_slice(), column) {
-        return Some(Objection::NoSuchColumn);
+        return Some(Refusal::NoSuchColumn);
     }
     next
 }
 
-fn on_info(column: &UserCol) -> Option<Objection>
+fn on_info(column: &UserCol) -> Option<Refusal>
     ensures { result ≡ on_info column.now }
 {
     if !is_plain(column) {
-        return Some(Objection::BadValue);
+        return Some(Refusal::BadValue);
     }
     None
 }
 
 // What is said of a column that is there.
-fn on_change(table: &ViewTable, column: &UserCol) -> Option<Objection>
+fn on_change(table: &ViewTable, column: &UserCol) -> Option<Refusal>
     ensures { result ≡ on_change table.now column.now }
 {
     match find_column(table.columns.as_slice(), column.id.as_str()) {
-        None => Some(Objection::NoSuchColumn),
-        Some(known) if known.is_formula || !is_plain(column) => Some(Objection::BadValue),
+        None => Some(Refusal::NoSuchColumn),
+        Some(known) if known.is_formula || !is_plain(column) => Some(Refusal::BadValue),
         Some(_) => None,
     }
 }
@@ -150,14 +148,14 @@ fn are_plain(columns: &[UserCol]) -> bool
 }
 
 // A new table.
-fn on_table(table: &str, columns: &[UserCol]) -> Option<Objection>
+fn on_table(table: &str, columns: &[UserCol]) -> Option<Refusal>
     ensures { result ≡ on_table table.now columns.now }
 {
     if !is_name(table) || !have_good_ids(columns) {
-        return Some(Objection::BadName);
+        return Some(Refusal::BadName);
     }
     if !are_plain(columns) {
-        return Some(Objection::BadValue);
+        return Some(Refusal::BadValue);
     }
     None
 }
@@ -167,7 +165,7 @@ fn to_records(
     alloc: Global,
     table: &ViewTable,
     action: &UserAction,
-) -> Result<Option<Objection>, AllocError>
+) -> Result<Option<Refusal>, AllocError>
     requires { IsAscending table.now.rows }
     ensures { IfOk result (λ o. o ≡ to_records table.now action.now) }
 {
@@ -187,7 +185,7 @@ fn to_records(
 }
 
 // What stands against a schema action on a table that is there.
-fn to_schema(table: &ViewTable, action: &UserAction) -> Option<Objection>
+fn to_schema(table: &ViewTable, action: &UserAction) -> Option<Refusal>
     ensures { result ≡ to_schema table.now action.now }
 {
     match action {
@@ -225,14 +223,14 @@ fn objection_to(
     alloc: Global,
     tables: &[ViewTable],
     action: &UserAction,
-) -> Result<Option<Objection>, AllocError>
+) -> Result<Option<Refusal>, AllocError>
     requires { AllByRecursion (λ t. IsShown (grid t)) tables.now }
     ensures { IfOk result (λ o. o ≡ objection_to tables.now action.now) }
 {
     match action {
         UserAction::AddTable { table, columns } => {
             if is_metadata_id(table.as_str()) {
-                return Ok(Some(Objection::MetaTable));
+                return Ok(Some(Refusal::MetaTable));
             }
             Ok(on_table(table.as_str(), columns.as_slice()))
         }
@@ -249,8 +247,8 @@ fn objection_to(
     }
 }
 
-/// Why the action at that index of its bundle is refused, by its user's view alone; nothing where
-/// nothing stands against it. Limits and access rules are not asked here.
+/// Why the action is refused, by its user's view alone; nothing where nothing stands against it.
+/// Limits and access rules are not asked here.
 ///
 /// Errors: out of memory. Cost: the tables, the columns of the one that is named times those that
 /// are given, and the rows and values that are given.
@@ -259,13 +257,9 @@ pub fn refuse(
     alloc: Global,
     view: &View,
     action: &UserAction,
-    index: u32,
 ) -> Result<Option<Refusal>, AllocError>
     requires { IsView view.now.tables }
-    ensures { IfOk result (λ r. r ≡ refusal_of index (objection_to view.now.tables action.now)) }
+    ensures { IfOk result (λ o. o ≡ objection_to view.now.tables action.now) }
 {
-    match objection_to(alloc, view.tables.as_slice(), action)? {
-        Some(objection) => Ok(Some(objection.refusal(index))),
-        None => Ok(None),
-    }
+    objection_to(alloc, view.tables.as_slice(), action)
 }

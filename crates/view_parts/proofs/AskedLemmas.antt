@@ -11,8 +11,8 @@ use Rattle.doc_model.specs.Changes.{shown_table_id}
 use Rattle.doc_model.specs.MetadataIds.{is_schema_id, is_acl_id, is_metadata_id}
 use Rattle.doc_model.specs.Rows.{has}
 use Rattle.doc_model.proofs.RowsLaws.{number_itself, has-filter}
-use Rattle.user_actions.specs.declared.objection.Objection.{Objection}
-use Rattle.user_actions.specs.declared.objection.Objection.TheVariants as objection
+use Rattle.doc_model.specs.declared.refusal.Refusal.{Refusal}
+use Rattle.doc_model.specs.declared.refusal.Refusal.TheVariants as refusal
 use Rattle.user_actions.specs.Objections.{against, are_once, in_table, in_records, in_schema, is_row, objection_to, on_columns, on_rows, on_values, to_records, to_schema}
 use Rattle.user_actions.specs.Steps.{row_ids}
 use Rattle.view_parts.specs.Parts.{passing, rows_asked}
@@ -34,28 +34,28 @@ rows_kept test rows (n ∷ ns) named =
     (ap (λ (o : Option ℕ). eqb (unwrap_or o 0) r || has (row_ids ns) r) is ∙ ap (λ b. b || has (row_ids ns) r) (number_itself r))))
     ∙ ap (λ b. is_row rows n && b) (rows_kept test rows ns (λ r here. named r (or_right (eqb (unwrap_or (row_number n) 0) r) (has (row_ids ns) r) here)))
 
-on_rows-passing : (t : ViewTable) (ns : List ℤ) (next : Option Objection) → on_rows (passing (has (row_ids ns)) t) ns next ≡ on_rows t ns next
+on_rows-passing : (t : ViewTable) (ns : List ℤ) (next : Option Refusal) → on_rows (passing (has (row_ids ns)) t) ns next ≡ on_rows t ns next
 on_rows-passing t ns next =
-    ap (λ b. against (not (are_once ns)) objection.DuplicateRow (against (not b) objection.NoSuchRow next)) (rows_kept (has (row_ids ns)) t.rows ns (λ r here. here))
+    ap (λ b. against (not (are_once ns)) refusal.DuplicateRow (against (not b) refusal.NoSuchRow next)) (rows_kept (has (row_ids ns)) t.rows ns (λ r here. here))
 
 -- ---- the table that it names
 
-module _ (test : ℕ → Bool) (v : List ViewTable) (table : List ℕ) (rest : ViewTable → Option Objection) (same : (t : ViewTable) → rest (passing test t) ≡ rest t) where
+module _ (test : ℕ → Bool) (v : List ViewTable) (table : List ℕ) (rest : ViewTable → Option Refusal) (same : (t : ViewTable) → rest (passing test t) ≡ rest t) where
   in_table-passing : in_table (map (passing test) v) table rest ≡ in_table v table rest
   in_table-passing =
-      ap (λ (o : Option ViewTable). elim o as (λ _. Option Objection) [ None ↦ Some objection.NoSuchTable | Some t ↦ rest t ]) (find-mapped shown_table_id shown_table_id (passing test) (λ t. refl) table v)
-      ∙ elim (find_id shown_table_id table v) as (λ (o : Option ViewTable). elim (option_map (passing test) o) as (λ _. Option Objection) [ None ↦ Some objection.NoSuchTable | Some t ↦ rest t ]
-      ≡ elim o as (λ _. Option Objection) [ None ↦ Some objection.NoSuchTable | Some t ↦ rest t ]) [
+      ap (λ (o : Option ViewTable). elim o as (λ _. Option Refusal) [ None ↦ Some refusal.NoSuchTable | Some t ↦ rest t ]) (find-mapped shown_table_id shown_table_id (passing test) (λ t. refl) table v)
+      ∙ elim (find_id shown_table_id table v) as (λ (o : Option ViewTable). elim (option_map (passing test) o) as (λ _. Option Refusal) [ None ↦ Some refusal.NoSuchTable | Some t ↦ rest t ]
+      ≡ elim o as (λ _. Option Refusal) [ None ↦ Some refusal.NoSuchTable | Some t ↦ rest t ]) [
         | None ↦ refl
         | Some t ↦ same t
       ]
 
   in_records-passing : in_records (map (passing test) v) table rest ≡ in_records v table rest
   in_records-passing =
-      ap (λ o. against (is_schema_id table) objection.MetaTable (against (is_acl_id table) objection.NoSuchTable o)) in_table-passing
+      ap (λ o. against (is_schema_id table) refusal.MetaTable (against (is_acl_id table) refusal.NoSuchTable o)) in_table-passing
 
   in_schema-passing : in_schema (map (passing test) v) table rest ≡ in_schema v table rest
-  in_schema-passing = ap (λ o. against (is_metadata_id table) objection.MetaTable o) in_table-passing
+  in_schema-passing = ap (λ o. against (is_metadata_id table) refusal.MetaTable o) in_table-passing
 
 pub objection_to-passing : (v : List ViewTable) (a : UserAction) → objection_to (map (passing (has (rows_asked a))) v) a ≡ objection_to v a
 objection_to-passing v (Add table single count has_row_ids ks) = in_records-passing (has []) v table (λ t. to_records t (Add table single count has_row_ids ks)) (λ t. refl)

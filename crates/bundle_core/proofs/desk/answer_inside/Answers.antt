@@ -45,7 +45,7 @@ returns-in-Some g c =
     let h = (get_or xs c.args.index d).holder in
     let quick : (get_or xs c.args.index d).lagging ≡ false = ap (λ (z : SessionState). z.lagging) (sym c.index.ensures) ∙ sym c.is_lagging.ensures ∙ c.if-is_lagging.false in
     let comes = inside c.args.users.now s xs c.args.index e c.requires.finds d _ quick
-    (λ l n. code_inside (state_of s n l) h e.kept e.request c.in-Some.code (sym c.refusal_inside.ensures ∙ c.in-Some.is) ∙ ap (answered s (Some h)) (sym c.refused-in-Some.ensures)) in
+    (λ l n. code_inside (state_of s n l) h e.kept e.request c.in-Some.refusal (sym c.refusal_inside.ensures ∙ c.in-Some.is) ∙ ap (answered s (Some h)) (sym c.refused-in-Some.ensures)) in
     record {
       ok = IfOk-weaker c.stay.result _ _ (λ v kept. find_stays c.args.users.now s xs c.args.index e c.requires.finds d c.refused-in-Some.result _ v.items c.requires.whole comes kept) c.stay.ensures.ok;
       whole = c.requires.whole;

@@ -7,7 +7,7 @@ use Rattle.bundle_core.proofs.desk.answer_outside.Goals as goal
 pub returns-in-Some-clause-ok : goal.returns-in-Some-clause-ok
 returns-in-Some-clause-ok g c =
     IfOk-weaker c.reply_alone.result _ _ (λ v p. answers_by _ _ _ _ _ _ _ _ (p ∙ ap (λ x. reply_text x ∷ []) c.refused.ensures)
-    (miss_refused c.args.users.now (g.D.DocTables.document c.args.tables.now) c.args.sessions.now.items c.args.index c.args.entry.now c.requires.misses c.in-Some.code (sym c.in-Some.ensures))) c.reply_alone.ensures
+    (miss_refused c.args.users.now (g.D.DocTables.document c.args.tables.now) c.args.sessions.now.items c.args.index c.args.entry.now c.requires.misses c.in-Some.refusal (sym c.in-Some.ensures))) c.reply_alone.ensures
 
 pub returns-clause-ok : goal.returns-clause-ok
 returns-clause-ok g c =

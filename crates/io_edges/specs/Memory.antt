@@ -1,8 +1,17 @@
 -- What the sources and sinks in memory tell.
-use Rattle.std.specs.Prelude.{ℕ, List, drop}
+use Rattle.std.specs.Prelude.{ℕ, ◌-◌, ◌<◌, ◌≡◌, List, drop, length, Contains, ◌⊎◌}
+use Rattle.io_edges.specs.declared.listed_calls.ListedCalls.{ListedCalls}
 use Rattle.io_edges.specs.declared.memory_source.MemSource.{MemSource}
 use Rattle.io_edges.specs.declared.memory_source.SureSource.{SureSource}
 use Rattle.io_edges.specs.declared.memory_sink.MemSink.{MemSink}
+
+-- how many calls there were
+abbrev pub calls_of : ListedCalls → ℕ
+calls_of l = l.count
+
+-- the numbers of the calls that are to fail
+abbrev pub failing_of : ListedCalls → List ℕ
+failing_of l = l.failing.items
 
 -- the bytes that reads will give
 abbrev pub left_of : MemSource → List ℕ
@@ -14,11 +23,11 @@ read_faults s = s.faults
 
 -- how often the source was called
 abbrev pub read_calls : MemSource → ℕ
-read_calls s = s.calls
+read_calls s = calls_of s.calls
 
 -- the calls that are to fail
 abbrev pub failing_reads : MemSource → List ℕ
-failing_reads s = s.failing.items
+failing_reads s = failing_of s.calls
 
 -- the bytes that reads of a source that never fails will give
 abbrev pub sure_left_of : SureSource → List ℕ
@@ -34,12 +43,21 @@ write_faults s = s.faults
 
 -- how often the sink was called
 abbrev pub write_calls : MemSink → ℕ
-write_calls s = s.calls
+write_calls s = calls_of s.calls
 
 -- the calls that are to fail
 abbrev pub failing_writes : MemSink → List ℕ
-failing_writes s = s.failing.items
+failing_writes s = failing_of s.calls
 
 -- how many bytes the sink holds at most
 abbrev pub room_of : MemSink → ℕ
 room_of s = s.room
+
+-- for how many more bytes the sink has room
+abbrev pub space_of : MemSink → ℕ
+space_of s = room_of s - length (written_of s)
+
+-- a write of the piece is to fail, or finds no room
+abbrev pub RefusesPiece : MemSink → List ℕ → Type 0
+RefusesPiece s piece =
+    Contains (failing_writes s) (write_calls s) ⊎ ((space_of s ≡ 0) × (0 < length piece))

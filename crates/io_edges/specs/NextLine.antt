@@ -30,8 +30,10 @@ Answers (Err ReadFault) text new left = new.ahead ≡ []
 Answers (Err TurnsSpent) text new left = new.ahead ≡ []
 Answers (Err NoMemory) text new left = Unit {0}
 
--- bytes came, and with those that were ahead they are a text, its newline where there is one, and what is ahead now
-pub record Reads (result : Result NextLine ReadEnd) (old new : LineState) (left_old left_new : Option (List ℕ)) : Type 0 where
+-- bytes came, and with those that were ahead they are a text, its newline where there is one, and
+-- what is ahead now
+pub record Reads (result : Result NextLine ReadEnd) (old new : LineState)
+    (left_old left_new : Option (List ℕ)) : Type 0 where
   pub came : List ℕ
   pub text : List ℕ
   pub consumed : Consumes left_old left_new came

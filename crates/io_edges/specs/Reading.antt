@@ -2,7 +2,8 @@
 use Rattle.std.specs.Prelude.{◌≡◌, ℕ, ◌+◌, ◌-◌, ◌*◌, ◌≤◌, List, [], ◌∷◌, ◌++◌, length, Bool, true, false}
 use Rattle.io_edges.specs.Lines.{IsOneLine, kept_of}
 
--- the bytes that came and were not given yet, what is kept of the last line, and the reads that each took a byte
+-- the bytes that came and were not given yet, what is kept of the last line, and the reads that
+-- each took a byte
 pub record LineState : Type 0 where
   pub ahead : List ℕ
   pub line : List ℕ

@@ -2,10 +2,11 @@
 //!
 //! Stands on std alone. Used by every crate that reads or writes bytes.
 //!
-//! Promises: a source and a sink are seen as the bytes that they have left or hold and as a count of
-//! faults; a call fails only where that count rose in it, and then no told byte has moved. `LineReader`
-//! gives the lines of a source in bounded memory, and says after each answer which bytes came.
-//! `write_all` and `Outbox` write in order, and after a fault what was written is a front of it.
+//! Promises: a source and a sink are seen as the bytes that they have left or hold and as a count
+//! of faults; a call fails only where that count rose in it, and then no told byte has moved.
+//! `LineReader` gives the lines of a source in bounded memory, and says after each answer which
+//! bytes came. `write_all` and `Outbox` write in order, and after a fault what was written is a
+//! front of it.
 //! Not promised: what a real stream gives or takes. `StdSource` and `StdSink` tell counts alone.
 //! Read first: source.rt, then line_reader.rt.
 #![tactic(auto)]
@@ -13,6 +14,7 @@
 mod laws;
 mod line_parts;
 mod line_reader;
+mod listed_calls;
 mod memory_sink;
 mod memory_source;
 mod outbox;

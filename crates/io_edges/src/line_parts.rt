@@ -38,7 +38,8 @@ fn keep(line: &mut Vec<u8>, part: &[u8]) -> Result<(), AllocError>
 // Gives how many bytes it took, and whether a newline was the last of them.
 pub(crate) fn take_part(ahead: &[u8], line: &mut Vec<u8>) -> Result<(usize, bool), AllocError>
     requires { length line.old.items ≤ 1048577 }
-    ensures part { IfOk result (λ r. TakesPart ahead.now (drop r.0 ahead.now) line.old.items line.new.items r.1) }
+    ensures part { IfOk result
+        (λ r. TakesPart ahead.now (drop r.0 ahead.now) line.old.items line.new.items r.1) }
     ensures within { IfOk result (λ r. r.0 ≤ length ahead.now) }
     ensures bound { length line.new.items ≤ 1048577 }
 {

@@ -33,7 +33,8 @@ pub enum NextLine {
 
 /// Gives the lines of a source. It reads when no whole line is ahead.
 ///
-/// Memory: a fixed buffer, and of each line one byte more than the longest line has, whatever its length.
+/// Memory: a fixed buffer, and of each line one byte more than the longest line has, whatever its
+/// length.
 #[derive(Drop)]
 pub struct LineReader {
     buffer: Vec<u8>,
@@ -49,7 +50,11 @@ impl Model for LineReader {
 
     ghost Value = { LineState };
 
-    ghost view = { λ r. record { ahead = slice_range r.buffer.items r.start r.end; line = r.line.items; turns = r.turns } };
+    ghost view = { λ r. record {
+      ahead = slice_range r.buffer.items r.start r.end;
+      line = r.line.items;
+      turns = r.turns;
+    } };
 
     ghost invariant = { λ r. IsInRoom r.start r.end (vec_len r.buffer) (vec_len r.line) r.turns };
 }
@@ -96,13 +101,16 @@ impl LineReader {
 
     /// Reads the next line, which `line` then lends.
     ///
-    /// Errors: `ReadFault` where a read failed, `TurnsSpent` where no more reads are made, `NoMemory`.
+    /// Errors: `ReadFault` where a read failed, `TurnsSpent` where no more reads are made,
+    /// `NoMemory`.
     /// Of the line that had begun nothing more is given afterwards.
     pub fn next_line<S: Source>(&mut self, source: &mut S) -> Result<NextLine, ReadEnd>
         ensures reads { Reads result self.old self.new (S.left source.old) (S.left source.new) }
-        ensures falls { IfOk result (λ next. next ≡ NextLine.Line → work_left self.new < work_left self.old) }
+        ensures falls { IfOk result
+            (λ next. next ≡ NextLine.Line → work_left self.new < work_left self.old) }
         ensures later { S.faults source.old ≤ S.faults source.new }
-        ensures fault { IsErrOf result ReadEnd.ReadFault → Rose (S.faults source.old) (S.faults source.new) }
+        ensures fault { IsErrOf result ReadEnd.ReadFault
+            → Rose (S.faults source.old) (S.faults source.new) }
         ensures spent { IsErrOf result ReadEnd.TurnsSpent → self.new.turns ≡ 4294967296 }
     {
         self.begin();
@@ -136,7 +144,8 @@ impl LineReader {
 
     // Takes what is ahead up to a newline, or all of it, and says whether a newline was there.
     fn take_ahead(&mut self) -> Result<bool, AllocError>
-        ensures part { IfOk result (λ whole. TakesPart self.old.ahead self.new.ahead self.old.line self.new.line whole) }
+        ensures part { IfOk result
+            (λ whole. TakesPart self.old.ahead self.new.ahead self.old.line self.new.line whole) }
         ensures stays { OnErr result (self.new.ahead ≡ self.old.ahead) }
         ensures turns { self.new.turns ≡ self.old.turns }
     {
@@ -155,7 +164,9 @@ impl LineReader {
     // Reads once, when nothing is ahead. `false` is the end.
     fn fill<S: Source>(&mut self, source: &mut S) -> Result<bool, Failed>
         requires { self.old.turns < 4294967296 }
-        ensures bytes { MatchResult result (λ _. Consumes (S.left source.old) (S.left source.new) self.new.ahead) (λ _. Keeps (S.left source.old) (S.left source.new)) }
+        ensures bytes { MatchResult result
+            (λ _. Consumes (S.left source.old) (S.left source.new) self.new.ahead)
+            (λ _. Keeps (S.left source.old) (S.left source.new)) }
         ensures some { result ≡ Ok true → 0 < length self.new.ahead }
         ensures few { length self.new.ahead ≤ 65536 }
         ensures end { result ≡ Ok false → (self.new.ahead ≡ []) × IsAtEnd (S.left source.new) }

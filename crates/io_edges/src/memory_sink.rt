@@ -1,6 +1,8 @@
-//! Sinks in memory: one that fails at listed calls and where its room is spent, and one that never fails.
-ghost use Rattle.std.specs.Prelude.{◌≡◌, [], Some, None};
+//! Sinks in memory: one that fails at listed calls and where it has no room, and one that never
+//! fails.
+ghost use Rattle.std.specs.Prelude.{◌≡◌, ◌≤◌, [], Some, None, vec_len, vec_capacity};
 
+use crate::listed_calls::ListedCalls;
 use crate::{Failed, Sink};
 use std::alloc::{AllocError, Global};
 
@@ -9,13 +11,14 @@ use std::alloc::{AllocError, Global};
 pub struct MemSink {
     bytes: Vec<u8>,
     room: usize,
-    failing: Vec<u64>,
-    calls: u64,
+    calls: ListedCalls,
     faults: u64,
+    ghost within: { vec_len bytes ≤ room },
+    ghost reserved: { room ≤ vec_capacity bytes },
 }
 
 impl MemSink {
-    ghost use Rattle.std.specs.Prelude.{◌≡◌, ◌↔◌, ◌+◌, ◌-◌, ◌^◌, min, [], IfOk, IsTrue, Contains};
+    ghost use Rattle.std.specs.Prelude.{◌≡◌, [], IfOk};
     ghost use Rattle.io_edges.specs.Memory.{written_of, write_faults, write_calls, failing_writes, room_of};
 
     /// Holds up to `room` bytes, and fails at the calls whose numbers are listed.
@@ -32,8 +35,7 @@ impl MemSink {
         Ok(MemSink {
             bytes: Vec::with_capacity(alloc, room)?,
             room,
-            failing,
-            calls: 0,
+            calls: ListedCalls::new(failing),
             faults: 0,
         })
     }
@@ -44,28 +46,14 @@ impl MemSink {
     {
         &self.bytes
     }
-
-    // Counts a call, and says whether it is to fail.
-    fn is_failing(&mut self) -> bool
-        ensures bytes { written_of self.new ≡ written_of self.old }
-        ensures faults { write_faults self.new ≡ write_faults self.old }
-        ensures listed { IsTrue result ↔ Contains (failing_writes self.old) (write_calls self.old) }
-        ensures failing { failing_writes self.new ≡ failing_writes self.old }
-        ensures room { room_of self.new ≡ room_of self.old }
-        ensures calls { write_calls self.new ≡ min (write_calls self.old + 1) (2 ^ 64 - 1) }
-    {
-        let call = self.calls;
-        self.calls = self.calls.saturating_add(1);
-        self.failing.contains(&call)
-    }
 }
 
 impl Sink for MemSink {
-    ghost use Rattle.std.specs.Prelude.{◌≡◌, ◌↔◌, ◌<◌, ◌≤◌, length, Some, IsErr, IfOk, Contains};
+    ghost use Rattle.std.specs.Prelude.{◌≡◌, ◌↔◌, ◌<◌, ◌≤◌, ◌+◌, ◌-◌, ◌^◌, min, length, Some, IsErr, IfOk, Contains};
     ghost use Rattle.std.specs.Io.{WritesAtMost};
     ghost use Rattle.std.specs.Io.KnownBytes.{WriteAppends, Keeps};
     ghost use Rattle.io_edges.specs.Causes.{HasCause};
-    ghost use Rattle.io_edges.specs.Memory.{written_of, write_faults, write_calls, failing_writes, room_of};
+    ghost use Rattle.io_edges.specs.Memory.{written_of, write_faults, write_calls, failing_writes, room_of, space_of, RefusesPiece};
 
     ghost written = { λ s. Some s.bytes.items };
 
@@ -74,15 +62,24 @@ impl Sink for MemSink {
     fn write(&mut self, piece: &[u8]) -> Result<usize, Failed>
         ensures bound { WritesAtMost result piece.now }
         ensures some { 0 < length piece.now → IfOk result (λ n. 0 < n) }
-        ensures bytes { WriteAppends (Some (written_of self.old)) (Some (written_of self.new)) result piece.now }
+        ensures bytes { WriteAppends (Some (written_of self.old))
+            (Some (written_of self.new)) result piece.now }
         ensures cause { HasCause (write_faults self.old) (write_faults self.new) result }
-        ensures listed { Contains (failing_writes self.old) (write_calls self.old) → IsErr result }
-        ensures held { length (written_of self.old) ≤ room_of self.old → length (written_of self.new) ≤ room_of self.new }
+
+        // It fails exactly where its call is listed or there is no room, and takes all there is
+        // room for.
+        ensures refused { IsErr result ↔ RefusesPiece self.old piece.now }
+        ensures count { IfOk result (λ n. n ≡ min (space_of self.old) (length piece.now)) }
+        ensures held { length (written_of self.old) ≤ room_of self.old
+            → length (written_of self.new) ≤ room_of self.new }
+        ensures failing { failing_writes self.new ≡ failing_writes self.old }
+        ensures room { room_of self.new ≡ room_of self.old }
+        ensures calls { write_calls self.new ≡ min (write_calls self.old + 1) (2 ^ 64 - 1) }
     {
-        let left = self.room.saturating_sub(self.bytes.len());
-        let count = left.min(piece.len());
+        let listed = self.calls.is_next_failing();
+        let count = piece.len().min(self.room - self.bytes.len());
         let full = count == 0 && !piece.is_empty();
-        if self.is_failing() || full || self.bytes.extend_from_slice(&piece[..count]).is_err() {
+        if listed || full || self.bytes.extend_from_slice(&piece[..count]).is_err() {
             self.faults = self.faults.saturating_add(1);
             return Err(Failed);
         }
@@ -93,8 +90,11 @@ impl Sink for MemSink {
         ensures bytes { Keeps (Some (written_of self.old)) (Some (written_of self.new)) }
         ensures cause { HasCause (write_faults self.old) (write_faults self.new) result }
         ensures listed { IsErr result ↔ Contains (failing_writes self.old) (write_calls self.old) }
+        ensures failing { failing_writes self.new ≡ failing_writes self.old }
+        ensures room { room_of self.new ≡ room_of self.old }
+        ensures calls { write_calls self.new ≡ min (write_calls self.old + 1) (2 ^ 64 - 1) }
     {
-        if self.is_failing() {
+        if self.calls.is_next_failing() {
             self.faults = self.faults.saturating_add(1);
             return Err(Failed);
         }

@@ -1,6 +1,7 @@
 //! Sources over bytes in memory: one that fails at listed calls, and one that never fails.
 ghost use Rattle.std.specs.Prelude.{◌≡◌, [], ◌++◌, ◌<◌, ◌≤◌, length, take, drop, Some, vec_len};
 
+use crate::listed_calls::ListedCalls;
 use crate::{Failed, Source};
 
 // Moves as many bytes as both have from the place `at` on, and the place behind them.
@@ -23,8 +24,7 @@ fn take_front(bytes: &[u8], at: &mut usize, buf: &mut [u8]) -> usize
 pub struct MemSource {
     bytes: Vec<u8>,
     at: usize,
-    failing: Vec<u64>,
-    calls: u64,
+    calls: ListedCalls,
     faults: u64,
     ghost within: { at ≤ vec_len bytes },
 }
@@ -44,8 +44,7 @@ impl MemSource {
         MemSource {
             bytes,
             at: 0,
-            failing,
-            calls: 0,
+            calls: ListedCalls::new(failing),
             faults: 0,
         }
     }
@@ -64,15 +63,14 @@ impl Source for MemSource {
 
     fn read(&mut self, buf: &mut [u8]) -> Result<usize, Failed>
         ensures bound { ReadsAtMost result buf.new }
-        ensures bytes { ReadConsumes (Some (left_of self.old)) (Some (left_of self.new)) result buf.new }
+        ensures bytes { ReadConsumes (Some (left_of self.old))
+            (Some (left_of self.new)) result buf.new }
         ensures cause { HasCause (read_faults self.old) (read_faults self.new) result }
         ensures listed { IsErr result ↔ Contains (failing_reads self.old) (read_calls self.old) }
         ensures failing { failing_reads self.new ≡ failing_reads self.old }
         ensures calls { read_calls self.new ≡ min (read_calls self.old + 1) (2 ^ 64 - 1) }
     {
-        let call = self.calls;
-        self.calls = self.calls.saturating_add(1);
-        if self.failing.contains(&call) {
+        if self.calls.is_next_failing() {
             self.faults = self.faults.saturating_add(1);
             return Err(Failed);
         }

@@ -40,11 +40,14 @@ impl Outbox {
 
     /// Adds bytes behind those that wait, and writes all where they find no room.
     ///
-    /// Errors: `Failed`, where a write failed. A front of what waited and was added is then written,
+    /// Errors: `Failed`, where a write failed. A front of what waited and was added is then
+    /// written,
     /// and the rest is forgotten.
     pub fn put<O: Sink>(&mut self, out: &mut O, bytes: &[u8]) -> Result<(), Failed>
-        ensures ok { OnOk result (Sends (self.old ++ bytes.now) self.new (O.written out.old) (O.written out.new)) }
-        ensures err { OnErr result (SendsFront (self.old ++ bytes.now) (O.written out.old) (O.written out.new)) }
+        ensures ok { OnOk result
+            (Sends (self.old ++ bytes.now) self.new (O.written out.old) (O.written out.new)) }
+        ensures err { OnErr result
+            (SendsFront (self.old ++ bytes.now) (O.written out.old) (O.written out.new)) }
         ensures lost { OnErr result (self.new ≡ []) }
         ensures later { O.faults out.old ≤ O.faults out.new }
         ensures cause { OnErr result (Rose (O.faults out.old) (O.faults out.new)) }

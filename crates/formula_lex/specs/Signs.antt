@@ -24,7 +24,8 @@ sign_text sign.Comma = codes ","
 sign_text sign.Point = codes "."
 sign_text sign.Assign = codes "="
 
--- whether the sign and the character behind it are a longer sign: only `=` makes `<`, `>` and `=` longer
+-- whether the sign and the character behind it are a longer sign: only `=` makes `<`, `>` and `=`
+-- longer
 abbrev pub is_longer : Sign → ℕ → Bool
 is_longer sign.Less c = nat_eq c 61
 is_longer sign.More c = nat_eq c 61

@@ -10,7 +10,7 @@ pub enum LexFault {
     ///
     /// Units: `at` counts bytes.
     Bad { at: usize },
-    /// Memory is wanting.
+    /// Out of memory.
     NoMemory,
 }
 
@@ -42,10 +42,12 @@ impl From<AllocError> for LexFault {
     }
 }
 
-// What ends the reading at a character, whose place the loop knows.
+/// What ends a reading, of characters or of tokens, at a place that its loop knows.
 #[derive(Clone, Copy)]
-pub(crate) enum Stop {
+pub enum Stop {
+    /// Nothing that is read has this at the place.
     Bad,
+    /// Out of memory.
     NoMemory,
 }
 

@@ -69,7 +69,8 @@ fn run(alloc: Global, text: &str) -> Result<TokenList, LexFault>
 pub fn tokens(alloc: Global, text: &str) -> Result<TokenList, LexFault>
     // The list spells the text, and no other one does.
     ensures spells { IfOk result (λ list. SpellsText text.now list) }
-    ensures only { IfOk result (λ list. (other : List Token) → SpellsText text.now other → other ≡ list) }
+    ensures only { IfOk result
+        (λ list. (other : List Token) → SpellsText text.now other → other ≡ list) }
 
     // Tokens stand one behind the other, and each is written as its slice of the text.
     ensures in_order { IfOk result (λ list. IsInOrder 0 list (length text.now)) }

@@ -14,6 +14,6 @@ mod lexer;
 mod reading;
 mod token;
 
-pub use fault::LexFault;
+pub use fault::{LexFault, Stop};
 pub use lexer::tokens;
 pub use token::{Sign, Token, TokenKind, TokenList, TokenText};

@@ -98,7 +98,8 @@ fn dollar_name_step(
     c: char,
 ) -> Result<Reading, Stop>
     requires { at + len_utf8 c < 2 ^ 64 }
-    ensures { Gives (λ reading. (out.new, reading)) result (dollar_name_step out.old from at name c) }
+    ensures { Gives (λ reading. (out.new, reading)) result
+        (dollar_name_step out.old from at name c) }
 {
     if is_xid_continue(c) {
         let mut name = name;
@@ -154,7 +155,8 @@ fn text_step(
     c: char,
 ) -> Result<Reading, Stop>
     requires { at + len_utf8 c < 2 ^ 64 }
-    ensures { Gives (λ reading. (out.new, reading)) result (text_step out.old from at quote text c) }
+    ensures { Gives (λ reading. (out.new, reading)) result
+        (text_step out.old from at quote text c) }
 {
     if is_plain(quote, c) {
         let mut text = text;
@@ -181,7 +183,8 @@ fn half_step(
     c: char,
 ) -> Result<Reading, Stop>
     requires { at + len_utf8 c < 2 ^ 64 }
-    ensures { Gives (λ reading. (out.new, reading)) result (half_step out.old from at half c (joined half c)) }
+    ensures { Gives (λ reading. (out.new, reading)) result
+        (half_step out.old from at half c (joined half c)) }
 {
     match joined(half, c) {
         Some(sign) => {

@@ -64,7 +64,7 @@ tree_only text o only t e other s =
       | inr p ↦ absurd (none-some t (only None p.1 ∙ e))
     ]
 
-pub nothing_only : (text : List ℕ) (o : Option Tree) → ((other : Option Tree) → SpellsIn dialect.Formula text other → other ≡ o) → o ≡ None → (t : Tree) → t ≡ constant con.Nothing → (other : Tree) → SpellsFormula text other → other ≡ t
+pub nothing_only : (text : List ℕ) (o : Option Tree) → ((other : Option Tree) → SpellsIn dialect.Formula text other → other ≡ o) → o ≡ None → (t : Tree) → t ≡ constant con.None → (other : Tree) → SpellsFormula text other → other ≡ t
 nothing_only text o only e t k other s =
     elim s [
       | inl p ↦ absurd (none-some other (sym (only (Some other) p ∙ e)))

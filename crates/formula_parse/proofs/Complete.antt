@@ -314,9 +314,9 @@ module _ (d : Dialect) where
   is_first (conditional a c b) s h rest fs t = absurd (omega arith)
   is_first (number m) s h rest fs t = is_token (Number m) rest fs t
   is_first (text m) s h rest fs t = is_token (Text m) rest fs t
-  is_first (constant con.Truth) s h rest fs t = is_token (Word word.Truth) rest fs t
-  is_first (constant con.Falsity) s h rest fs t = is_token (Word word.Falsity) rest fs t
-  is_first (constant con.Nothing) s h rest fs t = is_token (Word word.Nothing) rest fs t
+  is_first (constant con.True) s h rest fs t = is_token (Word word.True) rest fs t
+  is_first (constant con.False) s h rest fs t = is_token (Word word.False) rest fs t
+  is_first (constant con.None) s h rest fs t = is_token (Word word.None) rest fs t
   is_first (constant con.Rec) s h rest fs t = is_token (Word word.Rec) rest fs t
   is_first (dollar m) s h rest fs t = is_token (Dollar m) rest fs t
   is_first (parentheses a) s h rest fs t = is_token (Mark sign.Open) ((lexemes_of a ++ Mark sign.Close ∷ []) ++ rest) fs t
@@ -346,9 +346,9 @@ module _ (d : Dialect) where
   first_same (conditional a c b) rest fs = subst (λ ks. SameFirst ks fs) (sym (append_assoc (lexemes_of a) _ rest)) (first_same a _ fs)
   first_same (number m) rest fs = refl
   first_same (text m) rest fs = refl
-  first_same (constant con.Truth) rest fs = refl
-  first_same (constant con.Falsity) rest fs = refl
-  first_same (constant con.Nothing) rest fs = refl
+  first_same (constant con.True) rest fs = refl
+  first_same (constant con.False) rest fs = refl
+  first_same (constant con.None) rest fs = refl
   first_same (constant con.Rec) rest fs = refl
   first_same (dollar m) rest fs = refl
   first_same (parentheses a) rest fs = refl
@@ -464,9 +464,9 @@ module _ (d : Dialect) where
 
   constant_runs : (c : Constant) → HasConstant d c → height_of (constant c) ≤ max_height → (fs : List Frame) (rest : List Lexeme) → run d (constant_lexeme c ∷ rest) fs Operand ≡ run d rest fs (Operator (constant c))
   unfolding run step
-  constant_runs con.Truth o h fs rest = after_runs (constant con.Truth) h fs rest
-  constant_runs con.Falsity o h fs rest = after_runs (constant con.Falsity) h fs rest
-  constant_runs con.Nothing o h fs rest = after_runs (constant con.Nothing) h fs rest
+  constant_runs con.True o h fs rest = after_runs (constant con.True) h fs rest
+  constant_runs con.False o h fs rest = after_runs (constant con.False) h fs rest
+  constant_runs con.None o h fs rest = after_runs (constant con.None) h fs rest
   constant_runs con.Rec o h fs rest = ap (λ (x : Option State). x >>= λ s. run d rest s.0 s.1) (rec_is d o fs) ∙ after_runs (constant con.Rec) h fs rest
 
   if_runs : OnlyFormula d → (a : Tree) → Stands d a → height_of a ≤ max_height → 1 ≤ level_of a → (fs : List Frame) → room fs ≤ 0 → (rest : List Lexeme)

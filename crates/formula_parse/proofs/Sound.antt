@@ -264,9 +264,9 @@ module _ (dia : Dialect) where
   -- a keyword, a sign or a name where an operand is wanted
   word_operand_sound : (k : Keyword) (done : List Lexeme) (fs : List Frame) (s : State) → done ≡ before fs → Good fs → word_operand dia k fs ≡ Some s → Holds (done ++ Word k ∷ []) s
   word_operand_sound word.Not done fs s d g e = prefix_sound pre.Not done fs s d g e
-  word_operand_sound word.Truth done fs s d g e = after_sound _ fs (constant con.Truth) s (ap (λ x. x ++ Word word.Truth ∷ []) d) g tt (omega arith) e
-  word_operand_sound word.Falsity done fs s d g e = after_sound _ fs (constant con.Falsity) s (ap (λ x. x ++ Word word.Falsity ∷ []) d) g tt (omega arith) e
-  word_operand_sound word.Nothing done fs s d g e = after_sound _ fs (constant con.Nothing) s (ap (λ x. x ++ Word word.Nothing ∷ []) d) g tt (omega arith) e
+  word_operand_sound word.True done fs s d g e = after_sound _ fs (constant con.True) s (ap (λ x. x ++ Word word.True ∷ []) d) g tt (omega arith) e
+  word_operand_sound word.False done fs s d g e = after_sound _ fs (constant con.False) s (ap (λ x. x ++ Word word.False ∷ []) d) g tt (omega arith) e
+  word_operand_sound word.None done fs s d g e = after_sound _ fs (constant con.None) s (ap (λ x. x ++ Word word.None ∷ []) d) g tt (omega arith) e
   word_operand_sound word.Rec done fs s d g e = rec_sound dia refl done fs s d g e
   word_operand_sound _ done fs s d g e = none_is s e
 

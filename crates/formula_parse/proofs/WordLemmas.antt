@@ -44,7 +44,7 @@ keyword_means : (n : List ℕ) → HasMeaning n (keyword_of n)
 unfolding keyword_of operator_word value_word
 keyword_means n =
     is_word n word.Or _ (is_word n word.And _ (is_word n word.Not _ (is_word n word.In _ (is_word n word.Is _ (is_word n word.If _ (is_word n word.Else _
-    (is_word n word.Truth _ (is_word n word.Falsity _ (is_word n word.Nothing _ (is_word n word.Rec _ (record { meaning = tt })))))))))))
+    (is_word n word.True _ (is_word n word.False _ (is_word n word.None _ (is_word n word.Rec _ (record { meaning = tt })))))))))))
 
 keyword_back : (n : List ℕ) (k : Keyword) → keyword_of n ≡ Some k → n ≡ keyword_text k
 keyword_back n k e = let h : HasMeaning n (Some k) = subst (HasMeaning n) e (keyword_means n) in h.meaning
@@ -58,9 +58,9 @@ keyword_again word.In = refl
 keyword_again word.Is = refl
 keyword_again word.If = refl
 keyword_again word.Else = refl
-keyword_again word.Truth = refl
-keyword_again word.Falsity = refl
-keyword_again word.Nothing = refl
+keyword_again word.True = refl
+keyword_again word.False = refl
+keyword_again word.None = refl
 keyword_again word.Rec = refl
 
 keyword_no_field : (k : Keyword) → is_field (keyword_text k) ≡ false
@@ -72,9 +72,9 @@ keyword_no_field word.In = refl
 keyword_no_field word.Is = refl
 keyword_no_field word.If = refl
 keyword_no_field word.Else = refl
-keyword_no_field word.Truth = refl
-keyword_no_field word.Falsity = refl
-keyword_no_field word.Nothing = refl
+keyword_no_field word.True = refl
+keyword_no_field word.False = refl
+keyword_no_field word.None = refl
 keyword_no_field word.Rec = refl
 
 false_true : {A : Type 0} (b : Bool) → b ≡ true → b ≡ false → A

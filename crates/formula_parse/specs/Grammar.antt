@@ -59,9 +59,9 @@ prefix_lexeme pre.Negate = Mark sign.Minus
 
 -- how a constant is written
 abbrev pub constant_lexeme : Constant → Lexeme
-constant_lexeme con.Truth = Word word.Truth
-constant_lexeme con.Falsity = Word word.Falsity
-constant_lexeme con.Nothing = Word word.Nothing
+constant_lexeme con.True = Word word.True
+constant_lexeme con.False = Word word.False
+constant_lexeme con.None = Word word.None
 constant_lexeme con.Rec = Word word.Rec
 
 -- the word behind a table's name that asks for all of its rows

@@ -18,9 +18,9 @@ keyword_text word.In = codes "in"
 keyword_text word.Is = codes "is"
 keyword_text word.If = codes "if"
 keyword_text word.Else = codes "else"
-keyword_text word.Truth = codes "True"
-keyword_text word.Falsity = codes "False"
-keyword_text word.Nothing = codes "None"
+keyword_text word.True = codes "True"
+keyword_text word.False = codes "False"
+keyword_text word.None = codes "None"
 keyword_text word.Rec = codes "rec"
 
 -- the operator that is written so, or else this
@@ -37,9 +37,9 @@ operator_word n other =
 -- the value that is written so
 unfoldable pub value_word : List ℕ → Option Keyword
 value_word n =
-    cond (bytes_eq n (codes "True")) (Some word.Truth)
-    (cond (bytes_eq n (codes "False")) (Some word.Falsity)
-    (cond (bytes_eq n (codes "None")) (Some word.Nothing)
+    cond (bytes_eq n (codes "True")) (Some word.True)
+    (cond (bytes_eq n (codes "False")) (Some word.False)
+    (cond (bytes_eq n (codes "None")) (Some word.None)
     (cond (bytes_eq n (codes "rec")) (Some word.Rec) None)))
 
 -- the keyword that is written so

@@ -1,4 +1,5 @@
--- The parser as a machine: what is open, innermost first, and what operators and closers make of it.
+-- The parser as a machine: what is open, innermost first, and what operators and closers make of
+-- it.
 use Rattle.std.specs.Prelude.{ℕ, ◌+◌, Bool, true, false, ◌&&◌, nat_le, cond, List, [], ◌∷◌, ◌++◌, Option, Some, None}
 use Rattle.formula_parse.specs.declared.operator.BinaryOp.{BinaryOp}
 use Rattle.formula_parse.specs.declared.operator.PrefixOp.{PrefixOp}

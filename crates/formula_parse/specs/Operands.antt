@@ -33,9 +33,9 @@ dollar_step dialect.Rule n fs = None
 -- a keyword where an operand is wanted
 abbrev pub word_operand : Dialect → Keyword → List Frame → Option State
 word_operand d word.Not fs = prefix_step pre.Not fs
-word_operand d word.Truth fs = after fs (constant con.Truth)
-word_operand d word.Falsity fs = after fs (constant con.Falsity)
-word_operand d word.Nothing fs = after fs (constant con.Nothing)
+word_operand d word.True fs = after fs (constant con.True)
+word_operand d word.False fs = after fs (constant con.False)
+word_operand d word.None fs = after fs (constant con.None)
 word_operand d word.Rec fs = rec_step d fs
 word_operand d _ fs = None
 

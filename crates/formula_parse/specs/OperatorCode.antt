@@ -72,20 +72,20 @@ pre_back pre.Negate = refl
 
 -- the number of a constant
 abbrev pub con_number : Constant → ℕ
-con_number con.Truth = 0
-con_number con.Falsity = 1
-con_number con.Nothing = 2
+con_number con.True = 0
+con_number con.False = 1
+con_number con.None = 2
 con_number con.Rec = 3
 
 -- the one with the number
 abbrev pub con_at : ℕ → Constant
-con_at n = get_or (con.Truth ∷ con.Falsity ∷ con.Nothing ∷ con.Rec ∷ []) n con.Truth
+con_at n = get_or (con.True ∷ con.False ∷ con.None ∷ con.Rec ∷ []) n con.True
 
 -- which is the one that has it
 pub con_back : (o : Constant) → con_at (con_number o) ≡ o
-con_back con.Truth = refl
-con_back con.Falsity = refl
-con_back con.Nothing = refl
+con_back con.True = refl
+con_back con.False = refl
+con_back con.None = refl
 con_back con.Rec = refl
 
 -- the number of a kind of lookup

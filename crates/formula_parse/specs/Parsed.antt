@@ -4,22 +4,10 @@ use Rattle.formula_lex.specs.declared.fault.LexFault.{LexFault}
 use Rattle.formula_lex.specs.declared.fault.LexFault.TheVariants as lex
 use Rattle.formula_parse.specs.declared.fault.ParseFault.{ParseFault}
 use Rattle.formula_parse.specs.declared.fault.ParseFault.TheVariants as fault
-use Rattle.formula_parse.specs.declared.fault.Stop.{Stop}
-use Rattle.formula_parse.specs.declared.fault.Stop.TheVariants.{Syntax, NoMemory}
 use Rattle.formula_parse.specs.declared.frame.Frame.{Frame}
 use Rattle.formula_parse.specs.Machine.{is_last, room_in}
 
--- the machine stops where there is a syntax fault
-abbrev pub Stops : {Y : Type 0} → Stop → Option Y → Type 0
-Stops Syntax o = o ≡ None
-Stops NoMemory o = Unit {0}
-
--- what was returned, seen by view, is what the machine gives, unless memory ran out
-abbrev pub Gives : {X Y : Type 0} → (X → Y) → Result X Stop → Option Y → Type 0
-Gives view (Ok x) o = o ≡ Some (view x)
-Gives view (Err e) o = Stops e o
-
--- the same with the place of the fault, which is not behind n
+-- the machine stops where there is a syntax fault, not behind n
 abbrev pub StopsWithin : {Y : Type 0} → ℕ → ParseFault → Option Y → Type 0
 StopsWithin n (fault.Syntax at) o = (at ≤ n) × (o ≡ None)
 StopsWithin n fault.NoMemory o = Unit {0}

@@ -39,7 +39,7 @@ pub record SpellsIn (d : Dialect) (text : List ℕ) (o : Option Tree) : Type 0 w
 abbrev pub SpellsFormula : List ℕ → Tree → Type 0
 SpellsFormula text t =
     SpellsIn dialect.Formula text (Some t)
-    ⊎ ((t ≡ constant con.Nothing) × SpellsIn dialect.Formula text None)
+    ⊎ ((t ≡ constant con.None) × SpellsIn dialect.Formula text None)
 
 -- the fault is a syntax fault only where there is no tree, and its place lies in the text
 abbrev pub FitsFault : List ℕ → Type 0 → ParseFault → Type 0

@@ -26,15 +26,20 @@ abbrev mutual
   tree_code (text s) = gcons (gcons (gnum 1) (name_code s)) gnil
   tree_code (constant c) = gcons (gcons (gnum 2) (gnum (con_number c))) gnil
   tree_code (dollar n) = gcons (gcons (gnum 3) (name_code n)) gnil
-  tree_code (binary o a b) = gcons (gcons (gnum 4) (gnum (op_number o))) (gcons (tree_code a) (gcons (tree_code b) gnil))
+  tree_code (binary o a b) =
+      gcons (gcons (gnum 4) (gnum (op_number o))) (gcons (tree_code a) (gcons (tree_code b) gnil))
   tree_code (prefix o a) = gcons (gcons (gnum 5) (gnum (pre_number o))) (gcons (tree_code a) gnil)
-  tree_code (conditional a c b) = gcons (gcons (gnum 6) gnil) (gcons (tree_code a) (gcons (tree_code c) (gcons (tree_code b) gnil)))
+  tree_code (conditional a c b) =
+      gcons (gcons (gnum 6) gnil)
+      (gcons (tree_code a) (gcons (tree_code c) (gcons (tree_code b) gnil)))
   tree_code (parentheses a) = gcons (gcons (gnum 7) gnil) (gcons (tree_code a) gnil)
   tree_code (list ts) = gcons (gcons (gnum 8) gnil) (trees_code ts)
   tree_code (call n ts) = gcons (gcons (gnum 9) (name_code n)) (trees_code ts)
   tree_code (attribute a n) = gcons (gcons (gnum 10) (name_code n)) (gcons (tree_code a) gnil)
   tree_code (every n) = gcons (gcons (gnum 11) (name_code n)) gnil
-  tree_code (lookup k n ks) = gcons (gcons (gnum 12) (gcons (gnum (kind_number k)) (gcons (name_code n) (names_code ks)))) (keys_code ks)
+  tree_code (lookup k n ks) =
+      gcons (gcons (gnum 12) (gcons (gnum (kind_number k)) (gcons (name_code n) (names_code ks))))
+      (keys_code ks)
   tree_code (atom a) = gcons (gcons (gnum 13) (atom_code a)) gnil
 
   keys_code : Keys → Gv
@@ -69,7 +74,9 @@ made_at tag g ts =
     (cond (nat_eq tag 9) (call (name_in g) ts)
     (cond (nat_eq tag 10) (attribute (first ts) (name_in g))
     (cond (nat_eq tag 11) (every (name_in g))
-    (cond (nat_eq tag 12) (lookup (kind_at (num (left_of g))) (name_in (left_of (right_of g))) (zipped (right_of (right_of g)) ts)) (atom (atom_in g))))))))))))))
+    (cond (nat_eq tag 12)
+    (lookup (kind_at (num (left_of g))) (name_in (left_of (right_of g)))
+    (zipped (right_of (right_of g)) ts)) (atom (atom_in g))))))))))))))
 
 -- the tree with that root and those parts
 abbrev made : Gv → Trees → Tree

@@ -22,7 +22,8 @@ key_list_size-keys : (ks : List (List ℕ × Tree)) → key_list_size ks ≡ key
 key_list_size-keys [] = refl
 key_list_size-keys (k ∷ ks) = ap (λ n. tree_size k.1 + 2 + n) (key_list_size-keys ks)
 
-pub keys_fall : (ks : List LookupKey) → most (λ k. deep.deep-LookupKey k) ks ≤ key_list_size (keys_of ks)
+pub keys_fall : (ks : List LookupKey) → most (λ k. deep.deep-LookupKey k) ks ≤ key_list_size
+    (keys_of ks)
 keys_fall [] = omega arith
 keys_fall (k ∷ ks) = omega (arith, keys_fall ks)
 

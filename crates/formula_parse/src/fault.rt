@@ -1,10 +1,10 @@
 //! Why there is no formula.
 
 ghost use Rattle.std.specs.Prelude.{◌≡◌, Err};
-ghost use Rattle.formula_parse.specs.declared.fault.Stop.{Stop};
+ghost use Rattle.formula_lex.specs.declared.fault.Stop.{Stop};
 
-use formula_lex::LexFault;
-use std::alloc::{AllocError, AllocFailed};
+use formula_lex::{LexFault, Stop};
+use std::alloc::AllocError;
 use std::fmt;
 
 /// Why a text is no formula.
@@ -15,7 +15,7 @@ pub enum ParseFault {
     ///
     /// Units: `at` counts bytes.
     Syntax { at: usize },
-    /// Memory is wanting.
+    /// Out of memory.
     NoMemory,
 }
 
@@ -61,43 +61,13 @@ impl From<LexFault> for ParseFault {
     }
 }
 
-// What ends the reading at a token, whose place the loop knows.
-#[derive(Clone, Copy)]
-pub(crate) enum Stop {
-    Syntax,
-    NoMemory,
-}
-
-impl From<AllocError> for Stop {
-    ghost use Rattle.std.specs.Prelude.{◌≡◌};
-    ghost use Rattle.formula_parse.specs.declared.fault.Stop.TheVariants.{NoMemory};
-
-    ghost from_gives = { λ _ made. made ≡ NoMemory };
-
-    fn from(error: AllocError) -> Self {
-        let _ = error;
-        Stop::NoMemory
-    }
-}
-
-impl<T: Drop> From<AllocFailed<T>> for Stop {
-    ghost use Rattle.std.specs.Prelude.{◌≡◌};
-    ghost use Rattle.formula_parse.specs.declared.fault.Stop.TheVariants.{NoMemory};
-
-    ghost from_gives = { λ _ made. made ≡ NoMemory };
-
-    fn from(error: AllocFailed<T>) -> Self {
-        let _ = error;
-        Stop::NoMemory
-    }
-}
-
-/// The end of a reading at what has no place there, which is let go.
+/// The end of a reading at what has no place there, which is dropped.
 ///
-/// Its callers hand it over: where a value of many forms is let go in place, each form is proved anew.
+/// Its callers hand it over: where a value of many forms is dropped in place, each form is proved
+/// anew.
 pub(crate) fn refused<X, T: Drop>(rest: T) -> Result<X, Stop>
-    ensures { result ≡ Err Stop.Syntax }
+    ensures { result ≡ Err Stop.Bad }
 {
     drop(rest);
-    Err(Stop::Syntax)
+    Err(Stop::Bad)
 }

@@ -19,14 +19,15 @@
 
 ghost use Rattle.std.specs.Prelude.{◌≡◌, ℕ, ◌+◌, ◌≤◌, List, [], ◌∷◌, ◌++◌, Bool, Option, Some, None, IfNone, IfSome, OnOk};
 ghost use Rattle.formula_parse.specs.Machine.{formula_of, no_frames, room, room_in, is_last, opened};
-ghost use Rattle.formula_parse.specs.Parsed.{Gives, taken};
+ghost use Rattle.formula_lex.specs.Lexed.{Gives};
+ghost use Rattle.formula_parse.specs.Parsed.{taken};
 
-use crate::fault::Stop;
 use crate::open_keys::OpenKeys;
 use crate::operator::{BinaryOp, LookupKind, PrefixOp};
 use crate::rule::Subject;
 use crate::tree::{ArgumentList, Formula};
 use cell_types::Name;
+use formula_lex::Stop;
 use std::alloc::{AllocFailed, Global};
 use std::marker::Model;
 

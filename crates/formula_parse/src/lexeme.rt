@@ -4,11 +4,10 @@ ghost use Rattle.std.specs.Prelude.{◌≡◌, Bool, Option, Some, None, cond, b
 ghost use Rattle.cell_types.specs.NameRule.{is_reserved};
 ghost use Rattle.formula_parse.specs.Lexemes.{keyword_of, operator_word, value_word, is_id, is_field};
 ghost use Rattle.formula_parse.specs.Runs.{lexeme_of, kept_name};
-ghost use Rattle.formula_parse.specs.Parsed.{Gives};
+ghost use Rattle.formula_lex.specs.Lexed.{Gives};
 
-use crate::fault::Stop;
 use cell_types::{CellText, Name};
-use formula_lex::{Sign, TokenKind, TokenText};
+use formula_lex::{Sign, Stop, TokenKind, TokenText};
 use std::alloc::Global;
 
 /// A reserved word that the grammar uses.
@@ -21,9 +20,9 @@ pub enum Keyword {
     Is,
     If,
     Else,
-    Truth,
-    Falsity,
-    Nothing,
+    True,
+    False,
+    None,
     Rec,
 }
 
@@ -61,9 +60,9 @@ fn value_word(word: &str) -> Option<Keyword>
     ensures { result ≡ value_word word.now }
 {
     match word {
-        "True" => Some(Keyword::Truth),
-        "False" => Some(Keyword::Falsity),
-        "None" => Some(Keyword::Nothing),
+        "True" => Some(Keyword::True),
+        "False" => Some(Keyword::False),
+        "None" => Some(Keyword::None),
         "rec" => Some(Keyword::Rec),
         _ => None,
     }
@@ -104,12 +103,12 @@ fn kept_name(alloc: Global, word: &TokenText) -> Result<Name, Stop>
     ensures { Gives (λ name. name) result (kept_name word.now) }
 {
     if is_reserved(word.as_str()) && !is_id(word.as_str()) {
-        return Err(Stop::Syntax);
+        return Err(Stop::Bad);
     }
     let text = CellText::copy_of(alloc, word.as_str())?;
     match Name::try_new(text) {
         Some(name) => Ok(name),
-        None => Err(Stop::Syntax),
+        None => Err(Stop::Bad),
     }
 }
 

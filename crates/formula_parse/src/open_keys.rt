@@ -32,7 +32,8 @@ impl Model for OpenKeys {
 
     ghost view = { λ o. o.keys };
 
-    ghost invariant = { λ o. (q : List ℕ) → contains_by (slice_cmp nat_cmp q) o.names ≡ has_key q o.keys };
+    ghost invariant = { λ o. (q : List ℕ) → contains_by (slice_cmp nat_cmp q) o.names
+        ≡ has_key q o.keys };
 }
 
 impl OpenKeys {

@@ -60,11 +60,11 @@ pub enum PrefixOp {
 #[derive(Clone, Copy, Debug)]
 pub enum Constant {
     /// `True`
-    Truth,
+    True,
     /// `False`
-    Falsity,
+    False,
     /// `None`
-    Nothing,
+    None,
     /// `rec`
     Rec,
 }

@@ -2,19 +2,20 @@
 
 ghost use Rattle.std.specs.Prelude.{◌≡◌, ◌≤◌, ℕ, List, [], Option, Some, None, IfOk, IfErr, length};
 ghost use Rattle.formula_lex.specs.Places.{IsInOrder};
-ghost use Rattle.formula_parse.specs.Parsed.{Gives, GivesWithin};
+ghost use Rattle.formula_lex.specs.Lexed.{Gives};
+ghost use Rattle.formula_parse.specs.Parsed.{GivesWithin};
 ghost use Rattle.formula_parse.specs.Spelling.{SpellsIn, SpellsFormula, FitsFault};
 ghost use Rattle.formula_parse.specs.Runs.{token_step, finish, tree_from};
 ghost use Rattle.formula_parse.specs.Tree.{Tree};
 ghost use Rattle.formula_parse.specs.declared.operator.Dialect.TheVariants as dialects;
 
-use crate::fault::{ParseFault, Stop};
+use crate::fault::ParseFault;
 use crate::frame::{Mode, Stack};
 use crate::lexeme::lexeme_of;
 use crate::operator::{Constant, Dialect};
 use crate::step::{finish, step};
 use crate::tree::{Formula, Node};
-use formula_lex::{Token, tokens};
+use formula_lex::{Stop, Token, tokens};
 use std::alloc::Global;
 
 /// How many bytes the text of a formula has at most.
@@ -52,7 +53,7 @@ fn token_step(
 {
     match token_stop(alloc, dialect, frames, mode, token) {
         Ok(next) => Ok(next),
-        Err(Stop::Syntax) => Err(ParseFault::Syntax { at: token.from }),
+        Err(Stop::Bad) => Err(ParseFault::Syntax { at: token.from }),
         Err(Stop::NoMemory) => Err(ParseFault::NoMemory),
     }
 }
@@ -68,7 +69,7 @@ fn finish_at(
 {
     match finish(alloc, frames, mode) {
         Ok(tree) => Ok(tree),
-        Err(Stop::Syntax) => Err(ParseFault::Syntax { at }),
+        Err(Stop::Bad) => Err(ParseFault::Syntax { at }),
         Err(Stop::NoMemory) => Err(ParseFault::NoMemory),
     }
 }
@@ -97,8 +98,10 @@ fn run(alloc: Global, dialect: Dialect, tokens: &[Token], end: usize) -> Result<
 pub fn read_tree(alloc: Global, dialect: Dialect, text: &str) -> Result<Option<Formula>, ParseFault>
     // The text spells the tree, and no other one.
     ensures spells { IfOk result (λ o. SpellsIn dialect text.now o) }
-    ensures only { IfOk result (λ o. (other : Option Tree) → SpellsIn dialect text.now other → other ≡ o) }
-    ensures fault { IfErr result (FitsFault text.now ((o : Option Tree) × SpellsIn dialect text.now o)) }
+    ensures only { IfOk result
+        (λ o. (other : Option Tree) → SpellsIn dialect text.now other → other ≡ o) }
+    ensures fault { IfErr result
+        (FitsFault text.now ((o : Option Tree) × SpellsIn dialect text.now o)) }
 {
     if text.len() > MAX_TEXT_BYTES {
         return Err(ParseFault::Syntax { at: MAX_TEXT_BYTES });
@@ -122,11 +125,12 @@ pub fn read_tree(alloc: Global, dialect: Dialect, text: &str) -> Result<Option<F
 pub fn parse(alloc: Global, text: &str) -> Result<Formula, ParseFault>
     // The text spells the tree, and no other one.
     ensures spells { IfOk result (λ tree. SpellsFormula text.now tree) }
-    ensures only { IfOk result (λ tree. (other : Tree) → SpellsFormula text.now other → other ≡ tree) }
+    ensures only { IfOk result
+        (λ tree. (other : Tree) → SpellsFormula text.now other → other ≡ tree) }
     ensures fault { IfErr result (FitsFault text.now ((t : Tree) × SpellsFormula text.now t)) }
 {
     match read_tree(alloc, Dialect::Formula, text)? {
         Some(tree) => Ok(tree),
-        None => Ok(Formula::of(alloc, Node::Constant(Constant::Nothing), 1)?),
+        None => Ok(Formula::of(alloc, Node::Constant(Constant::None), 1)?),
     }
 }

@@ -5,15 +5,16 @@ ghost use Rattle.formula_parse.specs.Tree.{Tree, height_of};
 ghost use Rattle.formula_parse.specs.Seen.{tree_of};
 ghost use Rattle.formula_parse.specs.Machine.{after, kept, is_last, filled, reduce, infix_step, else_step, prefix_step};
 ghost use Rattle.formula_parse.specs.Operands.{if_step};
-ghost use Rattle.formula_parse.specs.Parsed.{Gives};
+ghost use Rattle.formula_lex.specs.Lexed.{Gives};
 ghost use Rattle.formula_parse.specs.declared.frame.Frame.{Frame};
 ghost use Rattle.formula_parse.specs.declared.frame.Mode.TheVariants as modes;
 ghost use Rattle.formula_parse.specs.declared.operator.Dialect.TheVariants as dialects;
 
-use crate::fault::{Stop, refused};
+use crate::fault::refused;
 use crate::frame::{Frame, Mode, Stack};
 use crate::operator::{BinaryOp, Dialect, PrefixOp};
 use crate::tree::{Formula, MAX_HEIGHT, Node};
+use formula_lex::Stop;
 use std::alloc::Global;
 
 /// The formula with this at its root, where it is not too high.
@@ -23,7 +24,7 @@ pub(crate) fn kept(alloc: Global, node: Node, below: u16) -> Result<Formula, Sto
 {
     if below >= MAX_HEIGHT {
         drop(node);
-        return Err(Stop::Syntax);
+        return Err(Stop::Bad);
     }
     Ok(Formula::of(alloc, node, below + 1)?)
 }
@@ -82,13 +83,14 @@ pub(crate) fn open_left(
     frames: &mut Stack,
     tree: Formula,
 ) -> Result<(), Stop>
-    ensures { Gives (λ _. (frames.new, modes.Operand)) result (infix_step dialect op frames.old tree) }
+    ensures { Gives (λ _. (frames.new, modes.Operand)) result
+        (infix_step dialect op frames.old tree) }
 {
     let left = reduce(alloc, op.level() + 1, frames, tree)?;
     if dialect.has(op) && frames.room() <= op.level() && op.left() <= left.level() {
         return Ok(frames.push(Frame::Left(left, op))?);
     }
-    Err(Stop::Syntax)
+    Err(Stop::Bad)
 }
 
 /// An operator between operands behind a formula.
@@ -112,7 +114,7 @@ pub(crate) fn open_prefix(op: PrefixOp, frames: &mut Stack) -> Result<Mode, Stop
     if frames.room() <= op.level() {
         return frames.open(Frame::Prefix(op));
     }
-    Err(Stop::Syntax)
+    Err(Stop::Bad)
 }
 
 /// `if` behind a formula.
@@ -123,7 +125,7 @@ pub(crate) fn open_condition(alloc: Global, frames: &mut Stack, tree: Formula) -
     if frames.room() == 0 && 1 <= value.level() {
         return frames.open(Frame::Condition(value));
     }
-    Err(Stop::Syntax)
+    Err(Stop::Bad)
 }
 
 /// `else` behind a formula that nothing else closes.
@@ -135,7 +137,7 @@ pub(crate) fn open_otherwise(frames: &mut Stack, tree: Formula) -> Result<Mode, 
             if 1 <= tree.level() {
                 return frames.open(Frame::Otherwise(value, tree));
             }
-            Err(Stop::Syntax)
+            Err(Stop::Bad)
         }
         other => refused((other, tree)),
     }

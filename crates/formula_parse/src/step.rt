@@ -5,14 +5,14 @@ ghost use Rattle.formula_parse.specs.Tree.{Tree, attribute, parentheses, call, l
 ghost use Rattle.formula_parse.specs.Machine.{after, kept, opened, close_step, close_list_step, comma_step};
 ghost use Rattle.formula_parse.specs.Operands.{rule_name, point_step, word_operand, sign_operand, name_operand, operand_step, close_empty, close_empty_list, first_step};
 ghost use Rattle.formula_parse.specs.Steps.{word_after, sign_after, after_step, compared_step, is_step, name_step, table_step, first_key_step, next_key_step, key_step, not_step, dot_step, name_point_step, lookup_step, subject_step, subject_point_step, user_point_step};
-ghost use Rattle.formula_parse.specs.Runs.{step, finish, closed};
+ghost use Rattle.formula_parse.specs.Runs.{step, finish};
 ghost use Rattle.formula_parse.specs.Grammar.{all_word, lookup_word};
-ghost use Rattle.formula_parse.specs.Parsed.{Gives};
+ghost use Rattle.formula_lex.specs.Lexed.{Gives};
 ghost use Rattle.formula_parse.specs.RuleGrammar.{asked};
 ghost use Rattle.formula_parse.specs.declared.frame.Frame.{Frame};
 ghost use Rattle.formula_parse.specs.declared.frame.Frame.TheVariants as frame;
 
-use crate::fault::{Stop, refused};
+use crate::fault::refused;
 use crate::frame::{Frame, Mode, Stack};
 use crate::lexeme::{Keyword, Lexeme, is_id};
 use crate::open_keys::OpenKeys;
@@ -23,7 +23,7 @@ use crate::reduce::{
 use crate::rule::{RuleAtom, Subject};
 use crate::tree::{ArgumentList, Formula, LookupKey, LookupKeyList, Node};
 use cell_types::{CellText, Name};
-use formula_lex::Sign;
+use formula_lex::{Sign, Stop};
 use std::alloc::{AllocError, Global};
 
 // A formula in parentheses.
@@ -36,7 +36,8 @@ fn parentheses(alloc: Global, tree: Formula) -> Result<Mode, Stop>
 
 // A call of these arguments and this last one.
 fn call(alloc: Global, name: Name, items: ArgumentList, last: Formula) -> Result<Mode, Stop>
-    ensures { (fs : List Frame) → Gives (λ m. (fs, m)) result (after fs (call name (from_list (items ++ last ∷ [])))) }
+    ensures { (fs : List Frame) → Gives (λ m. (fs, m)) result
+        (after fs (call name (from_list (items ++ last ∷ [])))) }
 {
     let items = items.with(last)?;
     let below = items.height();
@@ -45,7 +46,8 @@ fn call(alloc: Global, name: Name, items: ArgumentList, last: Formula) -> Result
 
 // A list of these items and this last one.
 fn list(alloc: Global, items: ArgumentList, last: Formula) -> Result<Mode, Stop>
-    ensures { (fs : List Frame) → Gives (λ m. (fs, m)) result (after fs (list (from_list (items ++ last ∷ [])))) }
+    ensures { (fs : List Frame) → Gives (λ m. (fs, m)) result
+        (after fs (list (from_list (items ++ last ∷ [])))) }
 {
     let items = items.with(last)?;
     let below = items.height();
@@ -60,7 +62,8 @@ fn lookup(
     keys: OpenKeys,
     last: LookupKey,
 ) -> Result<Mode, Stop>
-    ensures { (fs : List Frame) → Gives (λ m. (fs, m)) result (after fs (lookup kind table (keys_from (keys ++ (last.name, last.value) ∷ [])))) }
+    ensures { (fs : List Frame) → Gives (λ m. (fs, m)) result
+        (after fs (lookup kind table (keys_from (keys ++ (last.name, last.value) ∷ [])))) }
 {
     let mut keys = keys.into_keys();
     keys.push(last)?;
@@ -99,7 +102,8 @@ fn next_argument(
     items: ArgumentList,
     tree: Formula,
 ) -> Result<Mode, Stop>
-    ensures { Gives (λ m. (frames.new, m)) result (opened (frame.Arguments name (items ++ tree ∷ [])) frames.old) }
+    ensures { Gives (λ m. (frames.new, m)) result
+        (opened (frame.Arguments name (items ++ tree ∷ [])) frames.old) }
 {
     let items = items.with(tree)?;
     frames.open(Frame::Arguments(name, items))
@@ -131,14 +135,14 @@ fn word_operand(
 {
     match keyword {
         Keyword::Not => open_prefix(PrefixOp::Not, frames),
-        Keyword::Truth => operand_of(alloc, Node::Constant(Constant::Truth), 0),
-        Keyword::Falsity => { operand_of(alloc, Node::Constant(Constant::Falsity), 0) }
-        Keyword::Nothing => { operand_of(alloc, Node::Constant(Constant::Nothing), 0) }
+        Keyword::True => operand_of(alloc, Node::Constant(Constant::True), 0),
+        Keyword::False => { operand_of(alloc, Node::Constant(Constant::False), 0) }
+        Keyword::None => { operand_of(alloc, Node::Constant(Constant::None), 0) }
         Keyword::Rec => match dialect {
             Dialect::Formula => operand_of(alloc, Node::Constant(Constant::Rec), 0),
             Dialect::Rule => Ok(Mode::AfterSubject(Subject::Rec)),
         },
-        _ => Err(Stop::Syntax),
+        _ => Err(Stop::Bad),
     }
 }
 
@@ -153,7 +157,7 @@ fn sign_operand(alloc: Global, frames: &mut Stack, sign: Sign) -> Result<Mode, S
             frames.push(Frame::Items(ArgumentList::new(alloc)))?;
             Ok(Mode::FirstItem)
         }
-        _ => Err(Stop::Syntax),
+        _ => Err(Stop::Bad),
     }
 }
 
@@ -177,7 +181,7 @@ fn rule_name(alloc: Global, frames: &mut Stack, word: &str) -> Result<Mode, Stop
     if word == "newRec" {
         return Ok(Mode::AfterSubject(Subject::NewRec));
     }
-    Err(Stop::Syntax)
+    Err(Stop::Bad)
 }
 
 // A name where an operand is wanted.
@@ -192,7 +196,7 @@ fn name_operand(
     match dialect {
         Dialect::Formula => {
             if is_id(name.as_str()) {
-                return Err(Stop::Syntax);
+                return Err(Stop::Bad);
             }
             Ok(Mode::AfterName(name))
         }
@@ -214,7 +218,7 @@ fn operand(
         Lexeme::Text(text) => operand_of(alloc, Node::Text(text), 0),
         Lexeme::Dollar(name) => match dialect {
             Dialect::Formula => operand_of(alloc, Node::Dollar(name), 0),
-            Dialect::Rule => Err(Stop::Syntax),
+            Dialect::Rule => Err(Stop::Bad),
         },
         Lexeme::Name(name) => name_operand(alloc, dialect, frames, name),
         Lexeme::Keyword(keyword) => word_operand(alloc, dialect, frames, keyword),
@@ -246,7 +250,7 @@ fn close_empty_list(alloc: Global, frames: &mut Stack) -> Result<Mode, Stop>
             if items.is_empty() {
                 return operand_of(alloc, Node::List(items), 0);
             }
-            Err(Stop::Syntax)
+            Err(Stop::Bad)
         }
         other => refused(other),
     }
@@ -286,13 +290,13 @@ fn word_after(
         Keyword::Is => Ok(Mode::AfterIs(tree)),
         Keyword::If => match dialect {
             Dialect::Formula => open_condition(alloc, frames, tree),
-            Dialect::Rule => Err(Stop::Syntax),
+            Dialect::Rule => Err(Stop::Bad),
         },
         Keyword::Else => {
             let tree = reduce(alloc, 0, frames, tree)?;
             open_otherwise(frames, tree)
         }
-        _ => Err(Stop::Syntax),
+        _ => Err(Stop::Bad),
     }
 }
 
@@ -304,7 +308,7 @@ fn point(alloc: Global, dialect: Dialect, tree: Formula) -> Result<Mode, Stop>
         Dialect::Formula => Ok(Mode::AfterDot(tree)),
         Dialect::Rule => match tree.node() {
             Node::Rule(RuleAtom::User(name)) => Ok(Mode::UserPoint(copy(alloc, name)?)),
-            _ => Err(Stop::Syntax),
+            _ => Err(Stop::Bad),
         },
     }
 }
@@ -344,7 +348,7 @@ fn sign_after(
             let tree = reduce(alloc, 0, frames, tree)?;
             comma(frames, tree)
         }
-        _ => Err(Stop::Syntax),
+        _ => Err(Stop::Bad),
     }
 }
 
@@ -361,7 +365,7 @@ fn after(
     match lexeme {
         Lexeme::Keyword(keyword) => word_after(alloc, dialect, frames, tree, keyword),
         Lexeme::Sign(sign) => sign_after(alloc, dialect, frames, tree, sign),
-        _ => Err(Stop::Syntax),
+        _ => Err(Stop::Bad),
     }
 }
 
@@ -450,7 +454,7 @@ fn after_point(alloc: Global, frames: &mut Stack, table: Name, word: &str) -> Re
     if word == "lookupOne" {
         return Ok(Mode::AfterLookup(LookupKind::One, table));
     }
-    Err(Stop::Syntax)
+    Err(Stop::Bad)
 }
 
 // A token where the first key is wanted, or the end of the keys.
@@ -481,7 +485,8 @@ fn next_key(
     keys: OpenKeys,
     lexeme: Lexeme,
 ) -> Result<Mode, Stop>
-    ensures { Gives (λ m. (frames.new, m)) result (next_key_step lexeme frames.old kind table keys) }
+    ensures { Gives (λ m. (frames.new, m)) result
+        (next_key_step lexeme frames.old kind table keys) }
 {
     match lexeme {
         Lexeme::Name(name) => {
@@ -503,7 +508,8 @@ fn after_key(
     name: Name,
     lexeme: Lexeme,
 ) -> Result<Mode, Stop>
-    ensures { Gives (λ m. (frames.new, m)) result (key_step lexeme frames.old kind table keys name) }
+    ensures { Gives (λ m. (frames.new, m)) result
+        (key_step lexeme frames.old kind table keys name) }
 {
     match lexeme {
         Lexeme::Sign(Sign::Assign) => { frames.open(Frame::Key(kind, table, keys, name)) }
@@ -570,7 +576,8 @@ fn after_subject(subject: Subject, lexeme: Lexeme) -> Result<Mode, Stop>
 }
 
 fn after_subject_point(alloc: Global, subject: Subject, lexeme: Lexeme) -> Result<Mode, Stop>
-    ensures { (fs : List Frame) → Gives (λ m. (fs, m)) result (subject_point_step lexeme fs subject) }
+    ensures { (fs : List Frame) → Gives (λ m. (fs, m)) result
+        (subject_point_step lexeme fs subject) }
 {
     match lexeme {
         Lexeme::Name(name) => {
@@ -625,18 +632,6 @@ pub(crate) fn step(
     }
 }
 
-// The formula that is left once all frames are closed.
-fn closed(alloc: Global, frames: &mut Stack, tree: Formula) -> Result<Formula, Stop>
-    ensures { Gives (λ t. t) result (closed frames.old tree) }
-{
-    let tree = reduce(alloc, 0, frames, tree)?;
-    if frames.is_empty() {
-        Ok(tree)
-    } else {
-        Err(Stop::Syntax)
-    }
-}
-
 /// What the end of the tokens makes of what is open.
 #[tactic(auto, unfolding(crate::specs::Runs::finish))]
 pub(crate) fn finish(alloc: Global, frames: &mut Stack, mode: Mode) -> Result<Formula, Stop>
@@ -648,9 +643,9 @@ pub(crate) fn finish(alloc: Global, frames: &mut Stack, mode: Mode) -> Result<Fo
             if frames.is_empty() {
                 Ok(tree)
             } else {
-                Err(Stop::Syntax)
+                Err(Stop::Bad)
             }
         }
-        _ => Err(Stop::Syntax),
+        _ => Err(Stop::Bad),
     }
 }

@@ -192,16 +192,6 @@ impl ArgumentList {
         ArgumentList { items }
     }
 
-    /// Adds a formula at the end.
-    ///
-    /// Errors: out of memory; it hands the formula back; the list is then as it was.
-    pub fn push(&mut self, formula: Formula) -> Result<(), AllocFailed<Formula>>
-        ensures ok { OnOk result (self.new ≡ self.old ++ formula ∷ []) }
-        ensures err { OnErr result (self.new ≡ self.old) }
-    {
-        self.items.push(formula)
-    }
-
     // The list with one more at its end.
     pub(crate) fn with(self, formula: Formula) -> Result<Self, AllocError>
         ensures { IfOk result (λ made. made ≡ self ++ formula ∷ []) }

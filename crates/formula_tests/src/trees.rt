@@ -166,7 +166,7 @@ static GROUPS: [(&str, &str); 37] = [
     ("1 in [1] + [2]", "In Number Add"),
     ("3 not in [1, 2]", "NotIn Number List"),
     ("1 is not 0", "IsNot Number Number"),
-    ("None is None", "Is Nothing Nothing"),
+    ("None is None", "Is None None"),
     ("1 != 2 and 3 >= 4", "And NotEqual AtLeast"),
     ("1 <= 2 or 3 > 4", "Or AtMost More"),
     (
@@ -193,8 +193,8 @@ fn groups_as_python_does(rt: HostRuntime) {
 
 // Texts, and their shapes.
 static FORMS: [(&str, &str); 23] = [
-    (" \t\r\n", "Nothing"),
-    ("", "Nothing"),
+    (" \t\r\n", "None"),
+    ("", "None"),
     ("  7  ", "Number"),
     ("007", "Number"),
     ("$A if $id > 2 else 0", "Conditional $A More Number"),

@@ -1,0 +1,34 @@
+#!/usr/bin/env python3
+"""Names the lines of src/ and specs/ that are wider than 100 columns, imports apart, and fails where there are any.
+
+    python3 tools/check_widths.py
+"""
+import glob
+import os
+import sys
+
+ROOT = os.path.dirname(os.path.dirname(os.path.abspath(__file__)))
+WIDEST = 100
+IMPORTS = ("use ", "ghost use ", "pub use ")
+
+
+def wide_lines():
+    """Each line that is too wide, with its file and number."""
+    for pattern in ("crates/*/src/**/*.rt", "crates/*/specs/**/*.antt"):
+        for path in sorted(glob.glob(os.path.join(ROOT, pattern), recursive=True)):
+            with open(path, encoding="utf-8") as file:
+                for number, line in enumerate(file, 1):
+                    if len(line.rstrip("\n")) > WIDEST and not line.lstrip().startswith(IMPORTS):
+                        yield os.path.relpath(path, ROOT), number, len(line.rstrip("\n"))
+
+
+def main():
+    found = list(wide_lines())
+    for path, number, width in found:
+        print(f"{path}:{number}: {width} columns")
+    print(f"{len(found)} lines are wider than {WIDEST} columns")
+    return 1 if found else 0
+
+
+if __name__ == "__main__":
+    sys.exit(main())

@@ -3,12 +3,12 @@
 ghost use Rattle.std.specs.Prelude.{◌≡◌, ◌+◌, true, false, IfOk};
 ghost use Rattle.doc_model.specs.Counts.{first_passed};
 ghost use Rattle.doc_model.specs.DocumentLaws.{IsWhole};
+ghost use Rattle.doc_model.specs.WellFormed.{has_whole_columns};
 ghost use Rattle.user_actions.specs.Allowed.{is_allowed};
 ghost use Rattle.action_limits.specs.Capped.{AddsSo, AreTaken, AreMaximaAdded, capped, maxima_noted, settled};
 ghost use Rattle.user_actions.specs.Kinds.{makes_rows};
 ghost use Rattle.action_limits.specs.Grown.{AreMaximaDescribed, AreMaximaGrown, grows_schema, new_tables};
 ghost use Rattle.user_actions.specs.Kinds.{table_of};
-ghost use Rattle.user_actions.specs.StepLaws.{is_well_formed};
 ghost use Rattle.action_limits.specs.Tallies.{IsExpansion, IsTally};
 
 use crate::Tally;
@@ -77,7 +77,7 @@ fn other_expansion<D: DocTables>(
 ) -> Result<Expansion, AllocError>
     requires whole { IsWhole (D.document tables.now) }
     requires allowed { is_allowed (D.document tables.now) action.now ≡ true }
-    requires well_formed { is_well_formed action.now ≡ true }
+    requires well_formed { has_whole_columns action.now ≡ true }
     requires tally { IsTally (D.document tables.now) tally }
     requires other { makes_rows action.now ≡ false }
     ensures { IfOk result (λ e. IsExpansion (D.document tables.now) action.now e) }
@@ -126,7 +126,7 @@ fn add_expansion<D: DocTables>(
 ) -> Result<Expansion, AllocError>
     requires whole { IsWhole (D.document tables.now) }
     requires allowed { is_allowed (D.document tables.now) action.now ≡ true }
-    requires well_formed { is_well_formed action.now ≡ true }
+    requires well_formed { has_whole_columns action.now ≡ true }
     requires tally { IsTally (D.document tables.now) tally }
     requires adds { AddsSo action.now count }
     ensures { IfOk result (λ e. IsExpansion (D.document tables.now) action.now e) }
@@ -215,7 +215,7 @@ fn schema_expansion<D: DocTables>(
 ) -> Result<Expansion, AllocError>
     requires whole { IsWhole (D.document tables.now) }
     requires allowed { is_allowed (D.document tables.now) action.now ≡ true }
-    requires well_formed { is_well_formed action.now ≡ true }
+    requires well_formed { has_whole_columns action.now ≡ true }
     requires tally { IsTally (D.document tables.now) tally }
     requires grows { grows_schema action.now ≡ true }
     ensures { IfOk result (λ e. IsExpansion (D.document tables.now) action.now e) }
@@ -250,7 +250,7 @@ pub fn expand<D: DocTables>(
 ) -> Result<Expansion, AllocError>
     requires whole { IsWhole (D.document tables.now) }
     requires allowed { is_allowed (D.document tables.now) action.now ≡ true }
-    requires well_formed { is_well_formed action.now ≡ true }
+    requires well_formed { has_whole_columns action.now ≡ true }
     requires tally { IsTally (D.document tables.now) tally }
     ensures { IfOk result (λ e. IsExpansion (D.document tables.now) action.now e) }
 {

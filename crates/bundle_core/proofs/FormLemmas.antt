@@ -5,9 +5,9 @@ use Rattle.doc_model.specs.declared.user_action.UserAction.{UserAction}
 use Rattle.doc_model.specs.declared.user_action.UserAction.TheVariants.{Add, Update, Remove, AddTable, RemoveTable, RenameTable, AddColumn, RemoveColumn, RenameColumn, ModifyColumn}
 use Rattle.doc_model.specs.declared.user_action.UserColumn.{UserColumn}
 use Rattle.doc_model.specs.ByIds.{precedes, are_distinct, IsByIds}
+use Rattle.doc_model.specs.WellFormed.{are_whole, has_whole_columns, user_id}
 use Rattle.doc_model.proofs.ByIdsLaws.{precedes_trans, AreDistinct-IsByIds, are_distinct-AreDistinct}
 use Rattle.doc_model.proofs.Choices.{both_true, each_weaker}
-use Rattle.user_actions.specs.StepLaws.{are_whole, is_well_formed, user_id}
 use Rattle.bundle_core.specs.Forms.{are_by_id, have_values, is_for_one, is_in_form}
 
 by_ids : (ks : List UserColumn) → are_by_id ks ≡ true → IsByIds user_id ks
@@ -24,7 +24,7 @@ whole_columns count ks h =
     both_true (are_distinct user_id ks) (have_values count ks) (are_distinct-AreDistinct user_id ks (AreDistinct-IsByIds user_id ks (by_ids ks p.0))) p.1
 
 -- what has its form gives each column once, with a value for each of its rows
-pub well_formed : (a : UserAction) → is_in_form a ≡ true → is_well_formed a ≡ true
+pub well_formed : (a : UserAction) → is_in_form a ≡ true → has_whole_columns a ≡ true
 well_formed (Add table single count has_row_ids ks) h = whole_columns count ks (and_parts (is_for_one single count) (are_by_id ks && have_values count ks) h).1
 well_formed (Update table single rows ks) h = whole_columns (length rows) ks (and_parts (is_for_one single (length rows)) (are_by_id ks && have_values (length rows) ks) h).1
 well_formed (Remove table single rows) h = refl

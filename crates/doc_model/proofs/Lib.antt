@@ -1,6 +1,7 @@
 pub mod Choices
 pub mod Walks
 pub mod ByIdsLaws
+pub mod WellFormedLaws
 pub mod RowsLaws
 pub mod GridLaws
 pub mod RecordsLaws

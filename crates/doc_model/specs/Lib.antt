@@ -15,6 +15,7 @@ pub mod Inverse
 pub mod Readers
 pub mod Counts
 pub mod Refusals
+pub mod WellFormed
 pub mod DocumentLaws
 pub mod CountLaws
 pub mod MaximaLaws

@@ -8,8 +8,8 @@
 
 ghost use Rattle.std.specs.Prelude.{◌≡◌, true};
 ghost use Rattle.doc_model.specs.DocumentLaws.{IsWhole};
+ghost use Rattle.doc_model.specs.WellFormed.{has_whole_columns};
 ghost use Rattle.user_actions.specs.Allowed.{is_allowed};
-ghost use Rattle.user_actions.specs.StepLaws.{is_well_formed};
 
 use crate::actions::Change;
 use crate::tests::{Deed, does};
@@ -128,7 +128,7 @@ fn user_action(alloc: Global, asked: &Asked) -> Result<UserAction, AllocError> {
 
 // Whether the action gives no values, so that it gives each column once.
 fn is_bare(action: &UserAction) -> bool
-    ensures { result ≡ true → is_well_formed action.now ≡ true }
+    ensures { result ≡ true → has_whole_columns action.now ≡ true }
 {
     match action {
         UserAction::Add { columns, .. } => columns.is_empty(),

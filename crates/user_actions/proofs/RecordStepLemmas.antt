@@ -25,6 +25,7 @@ use Rattle.doc_model.specs.Rows.{IsAscending, all_in, has, has_no_duplicates, no
 use Rattle.doc_model.specs.Schema.{no_grid}
 use Rattle.doc_model.specs.Sound.{IsSoundGrid}
 use Rattle.doc_model.specs.Valid.{from_one, gives_column, gives_data, is_data, passes, record_table, schema_table, valid}
+use Rattle.doc_model.specs.WellFormed.{are_whole, user_id}
 use Rattle.doc_model.proofs.ByIdsLaws.{found_all}
 use Rattle.doc_model.proofs.Choices.{both_true, each_weaker, not_true}
 use Rattle.doc_model.proofs.DocumentParts.{passes_parts}
@@ -32,7 +33,6 @@ use Rattle.doc_model.proofs.TimesLaws.{once_ascending}
 use Rattle.doc_readers.specs.Parts.{grid_at}
 use Rattle.user_actions.specs.Allowed.{may_give, may_name}
 use Rattle.user_actions.specs.Objections.{are_once, has_base, has_number, is_row}
-use Rattle.user_actions.specs.StepLaws.{are_whole, user_id}
 use Rattle.user_actions.specs.Steps.{all_fitted, fitted, last_row, numbers_after, row_ids, type_in}
 
 -- ---- new rows

@@ -11,11 +11,12 @@ use Rattle.doc_model.specs.Document.{Document}
 use Rattle.doc_model.specs.DocumentLaws.{IsWhole}
 use Rattle.doc_model.specs.Valid.{valid}
 use Rattle.doc_model.specs.ViewEdits.{if_any}
+use Rattle.doc_model.specs.WellFormed.{has_whole_columns}
 use Rattle.doc_model.proofs.Choices.{both_true}
 use Rattle.name_rules.specs.FreeName.{free_name}
 use Rattle.user_actions.specs.Allowed.{is_allowed}
 use Rattle.user_actions.specs.Infos.{is_plain}
-use Rattle.user_actions.specs.StepLaws.{action_of, HasFresh, is_well_formed}
+use Rattle.user_actions.specs.StepLaws.{action_of, HasFresh}
 use Rattle.user_actions.specs.Steps.{all_fitted, column_ids, column_said, direct, last_row, numbers_after, row_ids, steps_of, table_ids, table_said}
 use Rattle.user_actions.proofs.FitLemmas.{all_base-fit, is_base-fit}
 use Rattle.user_actions.proofs.RecordStepLemmas.{valid-add, valid-update, valid-remove}
@@ -36,7 +37,7 @@ other_valid : (s : Document) (b : Bool) (a : DocAction) → (b ≡ false → val
 other_valid s true a h = refl
 other_valid s false a h = one_valid s a (h refl)
 
-pub all_valid-steps_of : (s : Document) → IsWhole s → (a : UserAction) → is_allowed s a ≡ true → is_well_formed a ≡ true → HasFresh s a → all_valid s (map action_of (steps_of s a)) ≡ true
+pub all_valid-steps_of : (s : Document) → IsWhole s → (a : UserAction) → is_allowed s a ≡ true → has_whole_columns a ≡ true → HasFresh s a → all_valid s (map action_of (steps_of s a)) ≡ true
 all_valid-steps_of s w (Add table single count has_row_ids ks) h whole fresh = one_valid s (action.BulkAdd table (numbers_after (last_row s table) count) (all_fitted s table ks)) (valid-add all_base-fit s table count ks h whole)
 all_valid-steps_of s w (Update table single rows ks) h whole fresh =
     any_valid s (row_ids rows) (action.BulkUpdate table (row_ids rows) (all_fitted s table ks)) (valid-update all_base-fit s w table rows ks h whole)

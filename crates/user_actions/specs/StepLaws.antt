@@ -1,35 +1,18 @@
 -- Where the steps of user actions are valid.
-use Rattle.std.specs.Prelude.{ℕ, Bool, true, false, ◌&&◌, nat_eq, List, [], ◌∷◌, ◌++◌, length, ◌≡◌}
-use Rattle.std.specs.List.{list_all}
+use Rattle.std.specs.Prelude.{ℕ, true, false, List, [], ◌∷◌, ◌++◌, ◌≡◌}
 use Rattle.std.specs.Str.{bytes_eq}
 use Rattle.cell_types.specs.NameRule.{is_name}
 use Rattle.doc_model.specs.declared.action.DocAction.{DocAction}
 use Rattle.doc_model.specs.declared.action.Step.{Step}
 use Rattle.doc_model.specs.declared.user_action.UserAction.{UserAction}
-use Rattle.doc_model.specs.declared.user_action.UserAction.TheVariants.{Add, Update, AddTable, RenameTable, AddColumn, RenameColumn}
+use Rattle.doc_model.specs.declared.user_action.UserAction.TheVariants.{AddTable, RenameTable, AddColumn, RenameColumn}
 use Rattle.doc_model.specs.declared.user_action.UserCol.{UserCol}
-use Rattle.doc_model.specs.declared.user_action.UserColumn.{UserColumn}
-use Rattle.doc_model.specs.ByIds.{are_distinct}
 use Rattle.doc_model.specs.Document.{Document}
 use Rattle.name_rules.specs.FreeName.{free_name, is_taken}
 use Rattle.user_actions.specs.Steps.{column_ids, table_ids}
 
 abbrev pub action_of : Step → DocAction
 action_of step = step.action
-
-abbrev pub user_id : UserColumn → List ℕ
-user_id k = k.id
-
--- whether each column stands once and has so many values
-abbrev pub are_whole : ℕ → List UserColumn → Bool
-are_whole count ks =
-    are_distinct user_id ks && list_all (λ (k : UserColumn). nat_eq (length k.values) count) ks
-
--- whether an action gives each column once, with a value for each of its rows
-abbrev pub is_well_formed : UserAction → Bool
-is_well_formed (Add table single count has_row_ids ks) = are_whole count ks
-is_well_formed (Update table single rows ks) = are_whole (length rows) ks
-is_well_formed _ = true
 
 -- the id that is made of a wanted one is a name that is free
 abbrev pub IsFresh : List (List ℕ) → List ℕ → Type 0

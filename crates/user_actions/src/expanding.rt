@@ -4,10 +4,11 @@ ghost use Rattle.std.specs.Prelude.{◌≡◌, ◌<◌, [], ◌∷◌, true, fal
 ghost use Rattle.cell_types.specs.NameRule.{is_name};
 ghost use Rattle.doc_model.specs.Apply.{all_valid};
 ghost use Rattle.doc_model.specs.DocumentLaws.{IsWhole};
+ghost use Rattle.doc_model.specs.WellFormed.{has_whole_columns};
 ghost use Rattle.doc_model.specs.declared.action.DocAction.TheVariants.{RemoveColumn, RemoveTable};
 ghost use Rattle.user_actions.specs.Allowed.{is_allowed};
 ghost use Rattle.user_actions.specs.Kinds.{makes_rows, table_of};
-ghost use Rattle.user_actions.specs.StepLaws.{HasFresh, action_of, is_well_formed};
+ghost use Rattle.user_actions.specs.StepLaws.{HasFresh, action_of};
 ghost use Rattle.user_actions.specs.Steps.{direct, last_new_row, steps_of};
 
 use crate::record_steps::{add_steps, direct, remove_steps, update_steps};
@@ -125,7 +126,7 @@ pub fn steps<D: DocTables>(
 ) -> Result<Option<StepList>, AllocError>
     requires whole { IsWhole (D.document tables.now) }
     requires allowed { is_allowed (D.document tables.now) action.now ≡ true }
-    requires well_formed { is_well_formed action.now ≡ true }
+    requires well_formed { has_whole_columns action.now ≡ true }
     ensures valid { IfOk result (λ _. all_valid (D.document tables.now) (map action_of (steps_of (D.document tables.now) action.now)) ≡ true) }
     ensures made { IfOk result (λ o. MatchOption o (4294967295 < last_new_row (D.document tables.now) action.now) (λ l. l ≡ steps_of (D.document tables.now) action.now)) }
 {

@@ -10,3 +10,4 @@ pub mod InfoLemmas
 pub mod RecordLemmas
 pub mod SchemaLemmas
 pub mod ActionLemmas
+pub mod WellFormedLemmas

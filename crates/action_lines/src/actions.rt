@@ -1,7 +1,9 @@
 //! User actions, as lines spell them.
-ghost use Rattle.std.specs.Prelude.{◌≡◌, List, IfOk, IfSome, IfNone};
+ghost use Rattle.std.specs.Prelude.{◌≡◌, List, true, IfOk, IfSome, IfNone};
+ghost use Rattle.std.specs.List.{list_all};
 ghost use Rattle.serde_json.specs.View.{view, items_view};
 ghost use Rattle.doc_model.specs.declared.user_action.UserAction.{UserAction};
+ghost use Rattle.doc_model.specs.WellFormed.{is_well_formed};
 ghost use Rattle.action_lines.specs.Actions.{AreActions, kind_action_from, action_from, actions_from};
 
 use crate::items::Items;
@@ -73,6 +75,7 @@ pub fn read_actions(alloc: Global, value: &Value) -> Result<Option<UserActionLis
     ensures found { IfOk result (λ o. IfSome o (λ actions. AreActions actions (view value.now))) }
     ensures none { IfOk result (λ o. IfNone o ((actions : List UserAction) → AreActions actions (view value.now) → ⊥)) }
     ensures exact { IfOk result (λ o. o ≡ actions_from (view value.now)) }
+    ensures well_formed { IfOk result (λ o. IfSome o (λ actions. list_all is_well_formed actions ≡ true)) }
 {
     actions_of(alloc, value)
 }

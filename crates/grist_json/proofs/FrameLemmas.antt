@@ -5,13 +5,14 @@ use Rattle.serde_json.specs.Find.{as_object}
 use Rattle.cell_types.specs.NameRule.{is_name}
 use Rattle.doc_model.specs.declared.request.Request.{Request}
 use Rattle.doc_model.specs.declared.request.Request.TheVariants.{Bad}
+use Rattle.doc_model.specs.WellFormed.{asks_well_formed}
 use Rattle.grist_json.specs.declared.frames.Frame.{Frame}
 use Rattle.action_lines.specs.Fields.{field, field_text, is_done}
 use Rattle.grist_json.specs.Reading.{request_from}
 use Rattle.grist_json.specs.Frames.{frame_data, Asks, IsFrame, SpellsFrame, request_or_bad, frame_from, frame_at}
 use Rattle.action_lines.proofs.StepLemmas.{bind_some, guard_then, guard_some, none≢some}
 use Rattle.action_lines.proofs.FieldLemmas.{object_takes, field_takes, field_text_takes, done_takes}
-use Rattle.grist_json.proofs.RequestLemmas.{request_takes, request_again}
+use Rattle.grist_json.proofs.RequestLemmas.{request_takes, request_again, request_formed}
 use Rattle.grist_json.proofs.Exactly.{found_by, none_by, once_by}
 
 asks_read : (line : Data) (o : Option Request) → request_from line ≡ o → Asks (unwrap_or o Bad) line
@@ -57,3 +58,13 @@ frame_none bytes e f s = none_by frame_from IsFrame frame_again bytes e f s
 
 pub frame_once : (bytes : List ℕ) (f g : Frame) → SpellsFrame f bytes → SpellsFrame g bytes → f ≡ g
 frame_once bytes f g s t = once_by frame_from IsFrame frame_again bytes f g s t
+
+asks_formed : (line : Data) (request : Request) → Asks request line → asks_well_formed request ≡ true
+asks_formed line request (inl s) = request_formed request line s
+asks_formed line request (inr n) = ap asks_well_formed n.0
+
+-- the request of a frame is well formed
+pub frame_formed : (bytes : List ℕ) (f : Frame) → frame_at bytes ≡ Some f → asks_well_formed f.request ≡ true
+frame_formed bytes f e =
+    let is = frame_found bytes f e in
+    asks_formed is.2.0 f.request is.2.3

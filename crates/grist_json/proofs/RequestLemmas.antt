@@ -1,15 +1,17 @@
 -- A request is read exactly from the JSON that spells it.
-use Rattle.std.proofs.Common.{◌≡◌, ℕ, List, codes, subst, ◌⊎◌, inl, inr, Some, None, sym, ap, ◌∙◌, refl}
+use Rattle.std.proofs.Common.{◌≡◌, ℕ, List, codes, true, subst, ◌⊎◌, inl, inr, Some, None, sym, ap, ◌∙◌, refl}
 use Rattle.std.specs.Str.{bytes_eq}
 use Rattle.serde_json.specs.Data.{Data, string, object, member}
 use Rattle.serde_json.specs.Find.{as_object}
 use Rattle.doc_model.specs.declared.request.Request.{Request}
 use Rattle.doc_model.specs.declared.request.Request.TheVariants.{Bad, TooLong, Open, Apply, Undo, Sync, Fetch, Close, Gone}
+use Rattle.doc_model.specs.WellFormed.{asks_well_formed}
 use Rattle.action_lines.specs.Fields.{field, field_text, is_done}
 use Rattle.action_lines.specs.Actions.{actions_from}
 use Rattle.action_lines.proofs.StepLemmas.{bind_some, guard_some, guard_then, or_some, some_same, none≢some, chain_by}
 use Rattle.action_lines.proofs.FieldLemmas.{object_takes, same_text, field_takes, field_text_takes, done_takes}
 use Rattle.action_lines.proofs.ActionLemmas.{actions_take, actions_again}
+use Rattle.action_lines.proofs.WellFormedLemmas.{actions_formed}
 use Rattle.grist_json.specs.Reading.{open_from, word_from, bare_from, apply_from, request_from}
 use Rattle.grist_json.specs.Requests.{open_data, bare_data, apply_data, IsRequest, Spells, request_at}
 use Rattle.grist_json.proofs.Exactly.{found_by, none_by, once_by}
@@ -99,3 +101,15 @@ request_none bytes e r s = none_by request_from IsRequest request_again bytes e 
 
 pub request_once : (bytes : List ℕ) (r q : Request) → Spells r bytes → Spells q bytes → r ≡ q
 request_once bytes r q s t = once_by request_from IsRequest request_again bytes r q s t
+
+-- a request that is spelled is well formed
+pub request_formed : (r : Request) (d : Data) → IsRequest r d → asks_well_formed r ≡ true
+request_formed (Open token) d s = refl
+request_formed (Apply actions) d s = actions_formed actions s.0 s.1
+request_formed Sync d s = refl
+request_formed Close d s = refl
+request_formed Bad d s = refl
+request_formed TooLong d s = refl
+request_formed (Undo bundle) d s = refl
+request_formed (Fetch table) d s = refl
+request_formed Gone d s = refl

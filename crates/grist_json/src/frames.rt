@@ -1,6 +1,7 @@
 //! Frames: a line together with the name of its session.
-ghost use Rattle.std.specs.Prelude.{◌≡◌, IfOk, IfSome, IfNone};
+ghost use Rattle.std.specs.Prelude.{◌≡◌, true, IfOk, IfSome, IfNone};
 ghost use Rattle.serde_json.specs.View.{view};
+ghost use Rattle.doc_model.specs.WellFormed.{asks_well_formed};
 ghost use Rattle.grist_json.specs.Frames.{frame_from, frame_at, SpellsFrame};
 ghost use Rattle.grist_json.specs.declared.frames.Frame.{Frame};
 
@@ -61,6 +62,7 @@ pub fn read_frame(alloc: Global, line: &[u8]) -> Result<Option<Frame>, AllocErro
     ensures found { IfOk result (λ o. IfSome o (λ f. SpellsFrame f line.now)) }
     ensures none { IfOk result (λ o. IfNone o ((f : Frame) → SpellsFrame f line.now → ⊥)) }
     ensures exact { IfOk result (λ o. o ≡ frame_at line.now) }
+    ensures well_formed { IfOk result (λ o. IfSome o (λ f. asks_well_formed f.request ≡ true)) }
 {
     frame_in(alloc, line)
 }

@@ -1,9 +1,10 @@
 //! Requests, as lines spell them.
-ghost use Rattle.std.specs.Prelude.{◌≡◌, IfOk, Err};
+ghost use Rattle.std.specs.Prelude.{◌≡◌, true, IfOk, Err};
 ghost use Rattle.serde_json.specs.View.{view};
 ghost use Rattle.grist_json.specs.Requests.{Spells, IsRead, request_at};
 ghost use Rattle.grist_json.specs.Reading.{open_from, word_from, bare_from, apply_from, request_from};
 ghost use Rattle.doc_model.specs.declared.request.Request.{Request};
+ghost use Rattle.doc_model.specs.WellFormed.{asks_well_formed};
 
 use crate::json_text::json_of;
 use action_lines::{Fields, read_actions};
@@ -128,6 +129,7 @@ pub fn read_request(alloc: Global, line: &[u8]) -> Result<Request, ReadFault>
     ensures found { IfOk result (λ r. Spells r line.now) }
     ensures none { result ≡ Err ReadFault.BadLine → (r : Request) → Spells r line.now → ⊥ }
     ensures exact { IsRead result (request_at line.now) }
+    ensures well_formed { IfOk result (λ r. asks_well_formed r ≡ true) }
 {
     match request_in(alloc, line) {
         Ok(Some(request)) => Ok(request),

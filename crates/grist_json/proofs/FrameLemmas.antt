@@ -9,7 +9,8 @@ use Rattle.doc_model.specs.WellFormed.{asks_well_formed}
 use Rattle.grist_json.specs.declared.frames.Frame.{Frame}
 use Rattle.action_lines.specs.Fields.{field, field_text, is_done}
 use Rattle.grist_json.specs.Reading.{request_from}
-use Rattle.grist_json.specs.Frames.{frame_data, Asks, IsFrame, SpellsFrame, request_or_bad, frame_from, frame_at}
+use Rattle.grist_json.specs.Frames.{frame_data, frame_of, Asks, IsFrame, SpellsFrame, request_or_bad, frame_from, frame_at}
+use Rattle.grist_json.specs.Json.{IsJson}
 use Rattle.action_lines.proofs.StepLemmas.{bind_some, guard_then, guard_some, none≢some}
 use Rattle.action_lines.proofs.FieldLemmas.{object_takes, field_takes, field_text_takes, done_takes}
 use Rattle.grist_json.proofs.RequestLemmas.{request_takes, request_again, request_formed}
@@ -68,3 +69,7 @@ pub frame_formed : (bytes : List ℕ) (f : Frame) → frame_at bytes ≡ Some f 
 frame_formed bytes f e =
     let is = frame_found bytes f e in
     asks_formed is.2.0 f.request is.2.3
+
+-- what a value asks for in a frame is spelled by it
+pub framed_spells : (bytes : List ℕ) (session : List ℕ) (d : Data) → IsJson bytes (frame_data d session) → is_name session ≡ true → SpellsFrame (frame_of session d) bytes
+framed_spells bytes session d reads named = (frame_data d session, reads, (d, refl, named, asks_read d (request_from d) refl))

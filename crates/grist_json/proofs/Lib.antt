@@ -5,4 +5,5 @@ pub mod FrameLemmas
 pub mod UserLemmas
 pub mod PlainLemmas
 pub mod PrintLemmas
+pub mod FramedLemmas
 pub mod ShownLemmas

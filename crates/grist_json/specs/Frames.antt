@@ -33,12 +33,16 @@ SpellsFrame = SpellsBy IsFrame
 abbrev pub request_or_bad : Data → Request
 request_or_bad line = unwrap_or (request_from line) Bad
 
+-- the frame of a value
+abbrev pub frame_of : List ℕ → Data → Frame
+frame_of session line = record { session = session; request = request_or_bad line }
+
 unfoldable pub frame_from : Data → Option Frame
 frame_from d = do
   fields ← as_object d
   line ← field (codes "line") fields
   session ← field_text (codes "session") line.1
-  if is_done session.1 then (if is_name session.0 then Some (record { session = session.0; request = request_or_bad line.0 }) else None) else None
+  if is_done session.1 then (if is_name session.0 then Some (frame_of session.0 line.0) else None) else None
 
 -- the frame that the bytes spell, as a function
 unfoldable pub frame_at : List ℕ → Option Frame

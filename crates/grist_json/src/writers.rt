@@ -1,9 +1,12 @@
 //! The lines that are printed.
-ghost use Rattle.std.specs.Prelude.{◌≡◌, IfOk};
+ghost use Rattle.std.specs.Prelude.{◌≡◌, true, IfOk, IsUtf8};
+ghost use Rattle.serde_json.specs.Data.{Data};
 ghost use Rattle.serde_json.specs.View.{view};
+ghost use Rattle.cell_types.specs.NameRule.{is_name};
+ghost use Rattle.grist_json.specs.Frames.{SpellsFrame, frame_data, frame_of};
 ghost use Rattle.grist_json.specs.Json.{IsJson};
 ghost use Rattle.grist_json.specs.Replies.{verdict_data};
-ghost use Rattle.grist_json.specs.Lines.{stream_data, reply_text, stream_text, frame_text};
+ghost use Rattle.grist_json.specs.Lines.{IsPrinted, stream_data, reply_text, stream_text, frame_text};
 
 use crate::Line;
 use crate::json_parts::with_member;
@@ -20,6 +23,7 @@ use std::alloc::{AllocError, Global};
 pub fn write_reply(alloc: Global, verdict: &Verdict) -> Result<Line, AllocError>
     ensures text { IfOk result (λ l. l ≡ reply_text verdict.now) }
     ensures spells { IfOk result (λ l. IsJson l (verdict_data verdict.now)) }
+    ensures printed { IfOk result (λ l. IsPrinted l (verdict_data verdict.now)) }
 {
     let value = verdict_value(alloc, verdict)?;
     Ok(Line::new(value.to_string(alloc)?))
@@ -44,17 +48,17 @@ pub fn write_stream(
 ) -> Result<Line, AllocError>
     ensures text { IfOk result (λ l. l ≡ stream_text number actions.now) }
     ensures spells { IfOk result (λ l. IsJson l (stream_data number actions.now)) }
+    ensures printed { IfOk result (λ l. IsPrinted l (stream_data number actions.now)) }
 {
     let value = stream_value(alloc, number, actions)?;
     Ok(Line::new(value.to_string(alloc)?))
 }
 
-/// Prints a line of a session in its frame.
-///
-/// Source: docs/PROTOCOL.md, "frames".
+// The line of a session in its frame.
 #[tactic(auto, unfolding(crate::specs::Lines::frame_text))]
-pub fn write_frame(alloc: Global, session: &Name, line: &Line) -> Result<Line, AllocError>
+fn framed(alloc: Global, session: &Name, line: &Line) -> Result<Line, AllocError>
     ensures text { IfOk result (λ l. l ≡ frame_text line.now session.now) }
+    ensures utf8 { IfOk result (λ l. IsUtf8 l) }
 {
     let name = String::from_str(alloc, session.as_str())?;
     let name = Value::String(name).to_string(alloc)?;
@@ -64,4 +68,16 @@ pub fn write_frame(alloc: Global, session: &Name, line: &Line) -> Result<Line, A
     text.push_str(name.as_str())?;
     text.push_str("}")?;
     Ok(Line::new(text))
+}
+
+/// Prints a line of a session in its frame. What it prints spells the frame that has the session
+/// and what the line asks for, where the session has a name and the line is a printed one.
+///
+/// Source: docs/PROTOCOL.md, "frames".
+pub fn write_frame(alloc: Global, session: &Name, line: &Line) -> Result<Line, AllocError>
+    ensures text { IfOk result (λ l. l ≡ frame_text line.now session.now) }
+    ensures spells { IfOk result (λ l. (d : Data) → IsPrinted line.now d → IsJson l (frame_data d session.now)) }
+    ensures reads_back { IfOk result (λ l. (d : Data) → IsPrinted line.now d → is_name session.now ≡ true → SpellsFrame (frame_of session.now d) l) }
+{
+    framed(alloc, session, line)
 }

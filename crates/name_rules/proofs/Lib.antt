@@ -1,3 +1,5 @@
 pub mod FreeNumbers
+pub mod FreshNames
+mod NameCharacters
 mod NameLemmas
 pub mod NumberedNames

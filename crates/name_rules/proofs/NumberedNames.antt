@@ -1,7 +1,7 @@
 -- A name with a number behind it.
 use Rattle.std.proofs.Common.{◌≡◌, ℕ, zero, suc, ◌+◌, ◌-◌, ◌%◌, ◌^◌, ◌<◌, ◌≤◌, Bool, true, false, ◌&&◌, List, [], ◌∷◌, ◌++◌, length, take, refl, ap, sym, ◌∙◌, arith, length-append, length-take, min, le-leb}
 use Rattle.std.specs.Prelude.{nat_le}
-use Rattle.std.specs.Str.{chars, encode_utf8_all, bytes_eq, IsUtf8}
+use Rattle.std.specs.Str.{chars, encode_utf8_all, bytes_eq}
 use Rattle.std.specs.List.{list_any, list_all}
 use Rattle.std.specs.Char.{is_ascii_alphanumeric}
 use Rattle.std.specs.Fmt.{decimal}
@@ -10,12 +10,13 @@ use Rattle.std.proofs.lemmas.Bool.{and_parts, and_from, or_right, or_left, or_pa
 use Rattle.std.proofs.lemmas.Fmt.{decimal_by_steps, decimal_nonempty, length-decimal-le, IsAscii-decimal}
 use Rattle.std.proofs.lemmas.List.Folds.{list_any-append, list_all-append}
 use Rattle.std.proofs.lemmas.Slice.Eq.{bytes_eq-Decides}
-use Rattle.std.proofs.lemmas.Str.{chars-append, chars-encodes, chars-IsAscii, scalars-chars}
+use Rattle.std.proofs.lemmas.Str.{chars-append, chars-encodes, chars-IsAscii}
 use Rattle.unicode_ident.specs.Ident.{is_xid_continue}
 use Rattle.unicode_ident.proofs.IdentLemmas.{is_xid_continue-ascii}
 use Rattle.cell_types.specs.NameLength.{HasNameLength}
 use Rattle.cell_types.specs.NameRule.{reserved_words, is_reserved, has_name_characters, is_name}
 use Rattle.name_rules.specs.FreeName.{numbered}
+use Rattle.name_rules.proofs.NameCharacters.{scalars-name}
 
 scalars-take : (n : ℕ) (cs : List ℕ) → scalars cs ≡ true → scalars (take n cs) ≡ true
 scalars-take zero cs all = refl
@@ -23,11 +24,11 @@ scalars-take (suc n) [] all = refl
 scalars-take (suc n) (c ∷ cs) all = let parts = and_parts _ _ all in and_from _ _ parts.0 (scalars-take n cs parts.1)
 
 -- the characters are those of the text, cut, and then the digits
-chars-numbered : (text : List ℕ) (k : ℕ) → IsUtf8 text → k < 2 ^ 64 → chars (numbered text k) ≡ take (64 - length (decimal k)) (chars text) ++ decimal k
+chars-numbered : (text : List ℕ) (k : ℕ) → scalars (chars text) ≡ true → k < 2 ^ 64 → chars (numbered text k) ≡ take (64 - length (decimal k)) (chars text) ++ decimal k
 unfolding numbered
-chars-numbered text k utf8 small =
+chars-numbered text k text_good small =
     let front = take (64 - length (decimal k)) (chars text) in
-    let good : scalars front ≡ true = scalars-take (64 - length (decimal k)) (chars text) (scalars-chars text utf8) in
+    let good : scalars front ≡ true = scalars-take (64 - length (decimal k)) (chars text) text_good in
     chars-append (encode_utf8_all front) (decimal k) (front, (good, refl))
     ∙ ap (λ cs. cs ++ chars (decimal k)) (chars-encodes front good)
     ∙ ap (λ cs. front ++ cs) (chars-IsAscii (decimal k) (IsAscii-decimal k small))
@@ -35,10 +36,10 @@ chars-numbered text k utf8 small =
 pub few_digits : (k : ℕ) → k < 2 ^ 64 → length (decimal k) ≤ 20
 few_digits k small = length-decimal-le 20 k (omega arith) (omega arith) small
 
-pub HasNameLength-numbered : (text : List ℕ) (k : ℕ) → IsUtf8 text → k < 2 ^ 64 → HasNameLength (numbered text k)
-HasNameLength-numbered text k utf8 small =
+pub HasNameLength-numbered : (text : List ℕ) (k : ℕ) → scalars (chars text) ≡ true → k < 2 ^ 64 → HasNameLength (numbered text k)
+HasNameLength-numbered text k good small =
     let count : length (chars (numbered text k)) ≡ min (64 - length (decimal k)) (length (chars text)) + length (decimal k) =
-    ap length (chars-numbered text k utf8 small)
+    ap length (chars-numbered text k good small)
     ∙ length-append (take (64 - length (decimal k)) (chars text)) (decimal k)
     ∙ ap (λ n. n + length (decimal k)) (length-take (64 - length (decimal k)) (chars text)) in
     record {
@@ -99,14 +100,15 @@ not_reserved : (text : List ℕ) → list_any (λ c. is_digit c) text ≡ true �
 unfolding is_reserved
 not_reserved text digit = not_among (λ word. list_any (λ c. is_digit c) word) reserved_words text no_digit_in_words digit
 
-pub is_name-numbered : (text : List ℕ) (k : ℕ) → IsUtf8 text → k < 2 ^ 64 → is_name text ≡ true → is_name (numbered text k) ≡ true
+pub is_name-numbered : (text : List ℕ) (k : ℕ) → k < 2 ^ 64 → is_name text ≡ true → is_name (numbered text k) ≡ true
 unfolding is_name numbered
-is_name-numbered text k utf8 small good =
+is_name-numbered text k small good =
     let parts = and_parts _ _ good in
-    let size = HasNameLength-numbered text k utf8 small in
+    let text_good = scalars-name text good in
+    let size = HasNameLength-numbered text k text_good small in
     let digit : list_any (λ c. is_digit c) (numbered text k) ≡ true =
     list_any-append (λ c. is_digit c) (encode_utf8_all (take (64 - length (decimal k)) (chars text))) (decimal k) ∙ or_right _ _ (digits_have_digit k small) in
     and_from _ _
-    (ap has_name_characters (chars-numbered text k utf8 small)
+    (ap has_name_characters (chars-numbered text k text_good small)
     ∙ characters_kept _ (chars text) (decimal k) (omega (arith, few_digits k small)) parts.0 (digits_continue k small))
     (and_from _ _ (le-leb _ _ size.few) (not_from_false _ (not_reserved (numbered text k) digit)))

@@ -1,8 +1,9 @@
 -- The id that a new table or column gets beside those that are taken.
-use Rattle.std.specs.Prelude.{ℕ, ◌≡◌, ◌<◌, ◌≤◌, ◌+◌, ◌*◌, ◌-◌, Bool, true, if◌then◌else◌, List, ◌++◌, zero, suc, length, take, bytes_eq}
+use Rattle.std.specs.Prelude.{ℕ, ◌≡◌, ◌<◌, ◌≤◌, ◌+◌, ◌*◌, ◌^◌, ◌-◌, Bool, true, false, if◌then◌else◌, List, ◌++◌, zero, suc, length, take, bytes_eq}
 use Rattle.std.specs.List.{list_any}
 use Rattle.std.specs.Str.{chars, encode_utf8_all}
 use Rattle.std.specs.Fmt.{decimal}
+use Rattle.cell_types.specs.NameRule.{is_name}
 
 -- one of the names is the text
 abbrev pub is_taken : List (List ℕ) → List ℕ → Bool
@@ -33,3 +34,12 @@ pub record HasLeastNumber (taken : List (List ℕ)) (text name : List ℕ) : Typ
   pub from_two : 2 ≤ number
   pub few : number < 12 * length taken + 102
   pub least : (k : ℕ) → 2 ≤ k → k < number → is_taken taken (numbered text k) ≡ true
+
+-- the id that is made of a wanted one is a name that is free
+abbrev pub IsFresh : List (List ℕ) → List ℕ → Type 0
+IsFresh taken wanted =
+    (is_taken taken (free_name taken wanted) ≡ false) × (is_name (free_name taken wanted) ≡ true)
+
+-- so few are taken that 64 bits can tell a number that makes each name free
+abbrev pub AreFew : List (List ℕ) → Type 0
+AreFew taken = 12 * length taken + 102 ≤ 2 ^ 64

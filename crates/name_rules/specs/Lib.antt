@@ -1,2 +1,3 @@
 pub mod FreeName
 pub mod NameStart
+pub mod FreshLaw

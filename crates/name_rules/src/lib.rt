@@ -7,13 +7,15 @@
 //! memory; what it takes has the length of a name; `name_of` makes it one. `free_name` is the definition in
 //! specs/FreeName.antt: the wanted id where it is free, otherwise the wanted id with the least
 //! number from 2 upwards that makes it free. There is such a number below 102 and 12 more for each
-//! taken name, and what is made of a good name is one.
+//! taken name, and what is made of a good name is one; `fresh_law` says so of the definition.
 //! Not promised: that memory is found.
 //! Read first: name_rule.rt, specs/FreeName.antt, free_id.rt.
 #![tactic(auto)]
 
 mod free_id;
+mod laws;
 mod name_rule;
 
 pub use free_id::free_name;
+pub use laws::fresh_law;
 pub use name_rule::{is_name, name_of};

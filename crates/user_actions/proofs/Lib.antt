@@ -1,5 +1,6 @@
 pub mod AllowedLemmas
 mod FitLemmas
+mod FreshIdsLemmas
 mod LoopLemmas
 mod NumberLemmas
 mod ObjectionLemmas

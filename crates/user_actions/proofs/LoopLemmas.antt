@@ -8,8 +8,8 @@ use Rattle.std.specs.Option.{MatchOption}
 use Rattle.doc_model.specs.declared.column.ColDef.{ColDef}
 use Rattle.doc_model.specs.declared.user_action.UserCol.{UserCol}
 use Rattle.doc_model.specs.ViewEdits.{if_any}
-use Rattle.name_rules.specs.FreeName.{free_name}
-use Rattle.user_actions.specs.StepLaws.{AreFresh, IsFresh}
+use Rattle.name_rules.specs.FreeName.{IsFresh, free_name}
+use Rattle.user_actions.specs.StepLaws.{AreFresh}
 use Rattle.user_actions.specs.Steps.{new_column, new_columns}
 
 -- one more value beside one more number

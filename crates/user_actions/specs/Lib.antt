@@ -6,3 +6,4 @@ pub mod Steps
 pub mod StepLaws
 pub mod Allowed
 pub mod Unopposed
+pub mod FreshIds

@@ -1,25 +1,19 @@
 -- Where the steps of user actions are valid.
 use Rattle.std.specs.Prelude.{ℕ, true, false, List, [], ◌∷◌, ◌++◌, ◌≡◌}
 use Rattle.std.specs.Str.{bytes_eq}
-use Rattle.cell_types.specs.NameRule.{is_name}
 use Rattle.doc_model.specs.declared.action.DocAction.{DocAction}
 use Rattle.doc_model.specs.declared.action.Step.{Step}
 use Rattle.doc_model.specs.declared.user_action.UserAction.{UserAction}
 use Rattle.doc_model.specs.declared.user_action.UserAction.TheVariants.{AddTable, RenameTable, AddColumn, RenameColumn}
 use Rattle.doc_model.specs.declared.user_action.UserCol.{UserCol}
 use Rattle.doc_model.specs.Document.{Document}
-use Rattle.name_rules.specs.FreeName.{free_name, is_taken}
+use Rattle.name_rules.specs.FreeName.{IsFresh, free_name}
 use Rattle.user_actions.specs.Steps.{column_ids, table_ids}
 
 abbrev pub action_of : Step → DocAction
 action_of step = step.action
 
--- the id that is made of a wanted one is a name that is free
-abbrev pub IsFresh : List (List ℕ) → List ℕ → Type 0
-IsFresh taken wanted =
-    (is_taken taken (free_name taken wanted) ≡ false) × (is_name (free_name taken wanted) ≡ true)
-
--- and so is each of several, beside those before it
+-- each of several new ids is a name that is free, beside those before it
 abbrev pub AreFresh : List (List ℕ) → List UserCol → Type 0
 AreFresh taken [] = Unit {0}
 AreFresh taken (c ∷ cs) = IsFresh taken c.id × AreFresh (taken ++ free_name taken c.id ∷ []) cs

@@ -8,7 +8,8 @@
 //! `steps` gives the document actions of specs/Steps.antt, over any store of a whole document, and
 //! nothing exactly where a new row would pass the last row id; each step is valid at its place. It
 //! wants an action that the document allows; `unopposed_law` says that each action is allowed that
-//! is not refused in some view of the document.
+//! is not refused in some view of the document. `steps_law` and `fresh_ids_law` say of the
+//! definitions that steps are valid and new ids free, beside at most 2^60 ids.
 //! Not promised: that memory is found. Formulas, references and the tables of access rules are
 //! refused, since they are not built; what cannot come then has no steps.
 //! Read first: specs/Objections.antt and refusing.rt, then specs/Steps.antt and expanding.rt.
@@ -27,7 +28,7 @@ mod tables;
 mod values;
 
 pub use expanding::steps;
-pub use laws::{one_table_law, unopposed_law};
+pub use laws::{fresh_ids_law, one_table_law, steps_law, unopposed_law};
 pub use record_steps::row_ids;
 pub use refusing::{refuse, table_of};
 pub use table_readers::last_row;

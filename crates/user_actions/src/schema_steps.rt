@@ -7,9 +7,9 @@ ghost use Rattle.cell_types.specs.declared.column_type.ColType.TheVariants.{Any}
 ghost use Rattle.doc_model.specs.DocumentLaws.{IsWhole};
 ghost use Rattle.doc_model.specs.MetadataIds.{columns_id, tables_id};
 ghost use Rattle.doc_model.specs.declared.action.DocAction.TheVariants.{AddColumn, AddTable, RenameColumn, RenameTable};
-ghost use Rattle.name_rules.specs.FreeName.{free_name};
+ghost use Rattle.name_rules.specs.FreeName.{IsFresh, free_name};
 ghost use Rattle.user_actions.specs.Objections.{has_good_id};
-ghost use Rattle.user_actions.specs.StepLaws.{AreFresh, IsFresh};
+ghost use Rattle.user_actions.specs.StepLaws.{AreFresh};
 ghost use Rattle.user_actions.specs.Steps.{column_ids, column_said, direct, info_said, last_row, new_column, new_columns, table_ids, table_said};
 
 use crate::infos::type_of;

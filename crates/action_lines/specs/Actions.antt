@@ -31,16 +31,25 @@ remove_kind false = kind.BulkRemoveRecord
 
 -- the JSON of a user action
 abbrev pub IsAction : UserAction → Data → Type 0
-IsAction (Add t single count has_row_ids cs) d = (rest : Items) × IsAdd single count has_row_ids cs rest × (d ≡ action_data (add_kind single) t rest)
-IsAction (Update t single ids cs) d = (rest : Items) × IsUpdate single ids cs rest × (d ≡ action_data (update_kind single) t rest)
-IsAction (Remove t single ids) d = (rest : Items) × IsRemove single ids rest × (d ≡ action_data (remove_kind single) t rest)
-IsAction (AddTable t cs) d = (infos : Items) × AreAll IsColumn cs infos × (d ≡ action_data kind.AddTable t (item (array infos) no_items))
+IsAction (Add t single count has_row_ids cs) d =
+    (rest : Items) × IsAdd single count has_row_ids cs rest
+    × (d ≡ action_data (add_kind single) t rest)
+IsAction (Update t single ids cs) d =
+    (rest : Items) × IsUpdate single ids cs rest × (d ≡ action_data (update_kind single) t rest)
+IsAction (Remove t single ids) d =
+    (rest : Items) × IsRemove single ids rest × (d ≡ action_data (remove_kind single) t rest)
+IsAction (AddTable t cs) d =
+    (infos : Items) × AreAll IsColumn cs infos
+    × (d ≡ action_data kind.AddTable t (item (array infos) no_items))
 IsAction (RemoveTable t) d = d ≡ action_data kind.RemoveTable t no_items
 IsAction (RenameTable t new) d = d ≡ action_data kind.RenameTable t (item (string new) no_items)
-IsAction (AddColumn t c) d = d ≡ action_data kind.AddColumn t (item (string c.id) (item (info_data c) no_items))
+IsAction (AddColumn t c) d =
+    d ≡ action_data kind.AddColumn t (item (string c.id) (item (info_data c) no_items))
 IsAction (RemoveColumn t c) d = d ≡ action_data kind.RemoveColumn t (item (string c) no_items)
-IsAction (RenameColumn t c new) d = d ≡ action_data kind.RenameColumn t (item (string c) (item (string new) no_items))
-IsAction (ModifyColumn t c) d = d ≡ action_data kind.ModifyColumn t (item (string c.id) (item (info_data c) no_items))
+IsAction (RenameColumn t c new) d =
+    d ≡ action_data kind.RenameColumn t (item (string c) (item (string new) no_items))
+IsAction (ModifyColumn t c) d =
+    d ≡ action_data kind.ModifyColumn t (item (string c.id) (item (info_data c) no_items))
 
 -- the JSON of the user actions of a bundle: [action,..]
 abbrev pub AreActions : List UserAction → Data → Type 0

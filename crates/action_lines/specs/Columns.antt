@@ -25,24 +25,34 @@ abbrev pub filled : List ℕ → List CellValue → UserColumn
 filled name vs = record { id = name; values = vs }
 
 -- the members are these columns, in order and without repeats, each with so many values
-pub data AreColumns (single : Bool) (count : ℕ) : Option (List ℕ) → List UserColumn → Members → Type 0 where
+pub data AreColumns (single : Bool) (count : ℕ)
+    : Option (List ℕ) → List UserColumn → Members → Type 0 where
   none : {before : Option (List ℕ)} → AreColumns single count before [] no_members
-  more : {before : Option (List ℕ)} {name : List ℕ} {vs : List CellValue} {d : Data} {cs : List UserColumn} {ms : Members}
-      → is_after before name ≡ true → AreCells single count vs d → AreColumns single count (Some name) cs ms → AreColumns single count before (filled name vs ∷ cs) (member name d ms)
+  more : {before : Option (List ℕ)} {name : List ℕ} {vs : List CellValue} {d : Data}
+      {cs : List UserColumn} {ms : Members}
+      → is_after before name ≡ true → AreCells single count vs d
+      → AreColumns single count (Some name) cs ms
+      → AreColumns single count before (filled name vs ∷ cs) (member name d ms)
 
 -- ---- reading
 
 unfoldable pub cells_from : Bool → ℕ → Data → Option (List CellValue)
-cells_from single count d = given_from value_from single d >>= λ vs. if nat_eq (length vs) count then Some vs else None
+cells_from single count d =
+    given_from value_from single d >>= λ vs. if nat_eq (length vs) count then Some vs else None
 
 -- the column of a member, behind the one before
 unfoldable pub filled_from : Bool → ℕ → Option (List ℕ) → List ℕ → Data → Option UserColumn
-filled_from single count before name d = if is_after before name then (cells_from single count d >>= λ vs. Some (filled name vs)) else None
+filled_from single count before name d =
+    if is_after before name then (cells_from single count d >>= λ vs. Some (filled name vs))
+    else None
 
 -- the columns read so far, and those of the members behind the one before
-abbrev pub columns_onto : Bool → ℕ → List UserColumn → Option (List ℕ) → Members → Option (List UserColumn)
+abbrev pub columns_onto : Bool → ℕ → List UserColumn → Option (List ℕ) → Members
+    → Option (List UserColumn)
 columns_onto single count done before no_members = Some done
-columns_onto single count done before (member name d ms) = filled_from single count before name d >>= λ c. columns_onto single count (done ++ c ∷ []) (Some name) ms
+columns_onto single count done before (member name d ms) =
+    filled_from single count before name d
+    >>= λ c. columns_onto single count (done ++ c ∷ []) (Some name) ms
 
 abbrev pub columns_from : Bool → ℕ → Members → Option (List UserColumn)
 columns_from single count ms = columns_onto single count [] None ms

@@ -8,7 +8,9 @@ use Rattle.action_lines.specs.Fields.{field_text, optional, put_front, is_done}
 
 -- the members behind the id; what is not said is left out
 abbrev pub info_members : UserCol → Members
-info_members c = put_front (codes "isFormula") (option_map boolean c.is_formula) (put_front (codes "type") (option_map string c.ty) no_members)
+info_members c =
+    put_front (codes "isFormula") (option_map boolean c.is_formula)
+    (put_front (codes "type") (option_map string c.ty) no_members)
 
 -- {"formula":text,"isFormula":b,"type":text}, of a column that is named beside it
 abbrev pub info_data : UserCol → Data
@@ -16,7 +18,9 @@ info_data c = object (put_front (codes "formula") (option_map string c.formula) 
 
 -- {"formula":text,"id":text,"isFormula":b,"type":text}
 abbrev pub column_data : UserCol → Data
-column_data c = object (put_front (codes "formula") (option_map string c.formula) (member (codes "id") (string c.id) (info_members c)))
+column_data c =
+    object (put_front (codes "formula") (option_map string c.formula)
+    (member (codes "id") (string c.id) (info_members c)))
 
 -- the JSON of a column with its id
 abbrev pub IsColumn : UserCol → Data → Type 0
@@ -31,7 +35,9 @@ maybe from (Some d) = from d >>= λ x. Some (Some x)
 
 -- what the formula, the flag and the type say of the column of that id
 unfoldable pub col_from : List ℕ → Option Data → Option Data → Option Data → Option UserCol
-col_from id formula is ty = maybe as_bool is >>= λ b. maybe as_str formula >>= λ f. maybe as_str ty >>= λ t. Some (record { id = id; ty = t; is_formula = b; formula = f })
+col_from id formula is ty =
+    maybe as_bool is >>= λ b. maybe as_str formula >>= λ f. maybe as_str ty
+    >>= λ t. Some (record { id = id; ty = t; is_formula = b; formula = f })
 
 -- what the formula, the id and the members behind it say
 unfoldable pub said_from : Option Data → List ℕ → Members → Option UserCol
@@ -42,8 +48,12 @@ said_from formula id ms =
 
 -- of a column that is named beside it
 unfoldable pub info_from : List ℕ → Data → Option UserCol
-info_from id d = as_object d >>= λ ms. said_from (optional (codes "formula") ms).0 id (optional (codes "formula") ms).1
+info_from id d =
+    as_object d
+    >>= λ ms. said_from (optional (codes "formula") ms).0 id (optional (codes "formula") ms).1
 
 -- of a column with its id
 unfoldable pub column_from : Data → Option UserCol
-column_from d = as_object d >>= λ ms. field_text (codes "id") (optional (codes "formula") ms).1 >>= λ id. said_from (optional (codes "formula") ms).0 id.0 id.1
+column_from d =
+    as_object d >>= λ ms. field_text (codes "id") (optional (codes "formula") ms).1
+    >>= λ id. said_from (optional (codes "formula") ms).0 id.0 id.1

@@ -18,8 +18,10 @@ mark_text mark.Censored = codes "C"
 abbrev pub mark_from : List ℕ → Option Mark
 mark_from t =
     if bytes_eq t (codes "L") then Some mark.List else if bytes_eq t (codes "d") then Some mark.Date
-    else if bytes_eq t (codes "R") then Some mark.Rec else if bytes_eq t (codes "r") then Some mark.Rows
-    else if bytes_eq t (codes "E") then Some mark.Err else if bytes_eq t (codes "C") then Some mark.Censored else None
+    else if bytes_eq t (codes "R") then Some mark.Rec
+    else if bytes_eq t (codes "r") then Some mark.Rows
+    else if bytes_eq t (codes "E") then Some mark.Err
+    else if bytes_eq t (codes "C") then Some mark.Censored else None
 
 -- an error by its name
 abbrev pub error_name : ErrKind → List ℕ

@@ -19,7 +19,8 @@ abbrev pub is_explicit : List (Option ℤ) → Bool
 is_explicit ids = list_any is_some ids
 
 -- row,{col:value} or [row,..],{col:[value,..]}: so many rows and these columns are added
-pub record IsAdd (single : Bool) (count : ℕ) (has_row_ids : Bool) (columns : List UserColumn) (rest : Items) : Type 0 where
+pub record IsAdd (single : Bool) (count : ℕ) (has_row_ids : Bool) (columns : List UserColumn)
+    (rest : Items) : Type 0 where
   pub ids : List (Option ℤ)
   pub rows : Data
   pub members : Members
@@ -31,7 +32,8 @@ pub record IsAdd (single : Bool) (count : ℕ) (has_row_ids : Bool) (columns : L
   pub whole : rest ≡ item rows (item (object members) no_items)
 
 -- the same for rows that are there
-pub record IsUpdate (single : Bool) (ids : List ℤ) (columns : List UserColumn) (rest : Items) : Type 0 where
+pub record IsUpdate (single : Bool) (ids : List ℤ) (columns : List UserColumn) (rest : Items)
+    : Type 0 where
   pub rows : Data
   pub members : Members
   pub given : AreGiven IsInt single ids rows

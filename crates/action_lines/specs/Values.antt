@@ -28,11 +28,15 @@ IsDate z d = (seconds : Data) × IsInt z seconds × (d ≡ marked mark.Date (ite
 
 -- ["R",table,row]
 abbrev pub IsRef : RowRef → Data → Type 0
-IsRef r d = (row : Data) × (has_name_length r.table ≡ true) × IsRow r.row row × (d ≡ marked mark.Rec (item (string r.table) (item row no_items)))
+IsRef r d =
+    (row : Data) × (has_name_length r.table ≡ true) × IsRow r.row row
+    × (d ≡ marked mark.Rec (item (string r.table) (item row no_items)))
 
 -- ["r",table,[row,..]]
 abbrev pub IsSet : RowSet → Data → Type 0
-IsSet s d = (rows : Items) × (has_name_length s.table ≡ true) × AreAll IsRow s.rows rows × (d ≡ marked mark.Rows (item (string s.table) (item (array rows) no_items)))
+IsSet s d =
+    (rows : Items) × (has_name_length s.table ≡ true) × AreAll IsRow s.rows rows
+    × (d ≡ marked mark.Rows (item (string s.table) (item (array rows) no_items)))
 
 -- the JSON of an item of a list
 abbrev pub IsItem : CellItem → Data → Type 0

@@ -73,7 +73,8 @@ impl Spelled for UserAction {
 /// Source: docs/PROTOCOL.md, "user actions".
 pub fn read_actions(alloc: Global, value: &Value) -> Result<Option<UserActionList>, AllocError>
     ensures found { IfOk result (λ o. IfSome o (λ actions. AreActions actions (view value.now))) }
-    ensures none { IfOk result (λ o. IfNone o ((actions : List UserAction) → AreActions actions (view value.now) → ⊥)) }
+    ensures none { IfOk result (λ o. IfNone o
+        ((actions : List UserAction) → AreActions actions (view value.now) → ⊥)) }
     ensures exact { IfOk result (λ o. o ≡ actions_from (view value.now)) }
     ensures well_formed { IfOk result (λ o. IfSome o (λ actions. list_all is_well_formed actions ≡ true)) }
 {

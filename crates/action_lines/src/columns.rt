@@ -49,7 +49,8 @@ fn filled_of(
     name: &str,
     value: &Value,
 ) -> Result<Option<UserColumn>, AllocError>
-    ensures { IfOk result (λ o. o ≡ filled_from single count (option_map (λ b. b.now) before.entry) name.now (view value.now)) }
+    ensures { IfOk result (λ o. o ≡ filled_from single count
+        (option_map (λ b. b.now) before.entry) name.now (view value.now)) }
 {
     if !is_after(before, name) {
         return Ok(None);

@@ -38,7 +38,8 @@ impl<'a> Fields<'a> {
 
     /// The value of the next member, where that has this key.
     pub fn take(&mut self, key: &str) -> Option<&'a Value>
-        ensures { option_map (λ v. (view v.now, members_view self.new.left)) result ≡ field key.now (members_view self.old.left) }
+        ensures { option_map (λ v. (view v.now, members_view self.new.left)) result
+            ≡ field key.now (members_view self.old.left) }
     {
         let (name, value) = self.left.next()?;
         if name.as_str() == key {
@@ -50,7 +51,8 @@ impl<'a> Fields<'a> {
 
     /// The text of the next member, where that has this key and is a text.
     pub fn take_text(&mut self, key: &str) -> Option<&'a str>
-        ensures { option_map (λ t. (t.now, members_view self.new.left)) result ≡ field_text key.now (members_view self.old.left) }
+        ensures { option_map (λ t. (t.now, members_view self.new.left)) result
+            ≡ field_text key.now (members_view self.old.left) }
     {
         match self.take(key) {
             Some(value) => value.as_str(),
@@ -60,7 +62,8 @@ impl<'a> Fields<'a> {
 
     /// The value of the next member, where that has this key. Else no member is taken.
     pub fn take_optional(&mut self, key: &str) -> Result<Option<&'a Value>, AllocError>
-        ensures { IfOk result (λ o. (option_map (λ v. view v.now) o, members_view self.new.left) ≡ optional key.now (members_view self.old.left)) }
+        ensures { IfOk result (λ o. (option_map (λ v. view v.now) o, members_view self.new.left)
+            ≡ optional key.now (members_view self.old.left)) }
     {
         let mut ahead = Fields {
             left: self.left.clone()?,

@@ -44,7 +44,8 @@ fn named(
     is_formula: Option<bool>,
     formula: Option<CellText>,
 ) -> Result<Option<UserCol>, AllocError>
-    ensures { IfOk result (λ o. o ≡ Some (record { id = id.now; ty = ty; is_formula = is_formula; formula = formula })) }
+    ensures { IfOk result (λ o. o ≡ Some
+        (record { id = id.now; ty = ty; is_formula = is_formula; formula = formula })) }
 {
     let id = CellText::copy_of(alloc, id)?;
     Ok(Some(UserCol {
@@ -64,7 +65,8 @@ fn col_of(
     is_formula: Option<&Value>,
     ty: Option<&Value>,
 ) -> Result<Option<UserCol>, AllocError>
-    ensures { IfOk result (λ o. o ≡ col_from id.now (option_map (λ v. view v.now) formula.entry) (option_map (λ v. view v.now) is_formula.entry) (option_map (λ v. view v.now) ty.entry)) }
+    ensures { IfOk result (λ o. o ≡ col_from id.now (option_map (λ v. view v.now) formula.entry)
+        (option_map (λ v. view v.now) is_formula.entry) (option_map (λ v. view v.now) ty.entry)) }
 {
     let Some(is_formula) = maybe_bool(is_formula) else {
         return Ok(None);
@@ -86,7 +88,8 @@ fn said_of(
     id: &str,
     mut fields: Fields<'_>,
 ) -> Result<Option<UserCol>, AllocError>
-    ensures { IfOk result (λ o. o ≡ said_from (option_map (λ v. view v.now) formula.entry) id.now (members_view fields.entry.left)) }
+    ensures { IfOk result (λ o. o ≡ said_from (option_map (λ v. view v.now) formula.entry) id.now
+        (members_view fields.entry.left)) }
 {
     let is_formula = fields.take_optional("isFormula")?;
     let ty = fields.take_optional("type")?;

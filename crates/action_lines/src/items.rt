@@ -27,7 +27,8 @@ impl<'a> Items<'a> {
 
     /// The next item.
     pub fn take(&mut self) -> Option<&'a Value>
-        ensures { option_map (λ v. (view v.now, items_view self.new.left.now)) result ≡ first_item (items_view self.old.left.now) }
+        ensures { option_map (λ v. (view v.now, items_view self.new.left.now)) result
+            ≡ first_item (items_view self.old.left.now) }
     {
         match self.left.split_first() {
             Some((value, left)) => {
@@ -40,7 +41,8 @@ impl<'a> Items<'a> {
 
     /// The next item, where it is a text.
     pub fn take_text(&mut self) -> Option<&'a str>
-        ensures { option_map (λ t. (t.now, items_view self.new.left.now)) result ≡ item_text (items_view self.old.left.now) }
+        ensures { option_map (λ t. (t.now, items_view self.new.left.now)) result
+            ≡ item_text (items_view self.old.left.now) }
     {
         match self.take() {
             Some(value) => value.as_str(),
@@ -60,7 +62,8 @@ impl<'a> Items<'a> {
 
     /// The two items that are left, where there are two alone.
     pub fn two(mut self) -> Option<(&'a Value, &'a Value)>
-        ensures { option_map (λ p. (view p.0.now, view p.1.now)) result ≡ two_items (items_view self.entry.left.now) }
+        ensures { option_map (λ p. (view p.0.now, view p.1.now)) result
+            ≡ two_items (items_view self.entry.left.now) }
     {
         match (self.take(), self.take()) {
             (Some(first), Some(second)) if self.is_done() => Some((first, second)),
@@ -82,7 +85,8 @@ impl<'a> Items<'a> {
     /// The two items that are left, where there are two alone and the first is a text.
     #[tactic(auto, unfolding(crate::specs::Items::text_beside))]
     pub(crate) fn text_beside(self) -> Option<(&'a str, &'a Value)>
-        ensures { option_map (λ p. (p.0.now, view p.1.now)) result ≡ text_beside (items_view self.entry.left.now) }
+        ensures { option_map (λ p. (p.0.now, view p.1.now)) result
+            ≡ text_beside (items_view self.entry.left.now) }
     {
         match self.two() {
             Some((first, second)) => match first.as_str() {

@@ -98,7 +98,8 @@ fn table_and_column(
     table: &str,
     items: Items<'_>,
 ) -> Result<Option<(CellText, UserCol)>, AllocError>
-    ensures { IfOk result (λ o. o ≡ option_map (λ c. (table.now, c)) (beside_from (items_view items.entry.left.now))) }
+    ensures { IfOk result (λ o. o ≡ option_map (λ c. (table.now, c))
+        (beside_from (items_view items.entry.left.now))) }
 {
     let table = CellText::copy_of(alloc, table)?;
     match beside_of(alloc, items)? {

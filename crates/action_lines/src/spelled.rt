@@ -24,7 +24,8 @@ pub(crate) fn read_all<T: Spelled>(
     alloc: Global,
     mut items: Items<'_>,
 ) -> Result<Option<Vec<T>>, AllocError>
-    ensures { IfOk result (λ o. option_map (λ v. v.items) o ≡ all_from T.from (items_view items.entry.left.now)) }
+    ensures { IfOk result (λ o. option_map (λ v. v.items) o ≡ all_from T.from
+        (items_view items.entry.left.now)) }
 {
     let mut things = Vec::new(alloc);
     while let Some(value) = items.take() {

@@ -14,15 +14,19 @@ use Rattle.grist_json.specs.Reading.{request_from}
 
 -- {"line":value,"session":name}
 abbrev pub frame_data : Data → List ℕ → Data
-frame_data line session = object (member (codes "line") line (member (codes "session") (string session) no_members))
+frame_data line session =
+    object (member (codes "line") line (member (codes "session") (string session) no_members))
 
 -- what the value of a frame asks for: a request that it spells, or else nothing that can be answered
 abbrev pub Asks : Request → Data → Type 0
-Asks request line = IsRequest request line ⊎ ((request ≡ Bad) × ((other : Request) → IsRequest other line → ⊥))
+Asks request line =
+    IsRequest request line ⊎ ((request ≡ Bad) × ((other : Request) → IsRequest other line → ⊥))
 
 -- the JSON that is a frame
 abbrev pub IsFrame : Frame → Data → Type 0
-IsFrame frame d = (line : Data) × (d ≡ frame_data line frame.session) × (is_name frame.session ≡ true) × Asks frame.request line
+IsFrame frame d =
+    (line : Data) × (d ≡ frame_data line frame.session) × (is_name frame.session ≡ true)
+    × Asks frame.request line
 
 -- the bytes spell the frame
 abbrev pub SpellsFrame : Frame → List ℕ → Type 0
@@ -42,7 +46,8 @@ frame_from d = do
   fields ← as_object d
   line ← field (codes "line") fields
   session ← field_text (codes "session") line.1
-  if is_done session.1 then (if is_name session.0 then Some (frame_of session.0 line.0) else None) else None
+  if is_done session.1
+      then (if is_name session.0 then Some (frame_of session.0 line.0) else None) else None
 
 -- the frame that the bytes spell, as a function
 unfoldable pub frame_at : List ℕ → Option Frame

@@ -18,4 +18,6 @@ pub record OneReading : Type 0 where
 
 -- the compact text of some JSON, in its frame, is the compact text of the frame
 abbrev pub FrameLaw : Type 0
-FrameLaw = (d : Data) (session : List ℕ) → frame_text (compact_text d) session ≡ compact_text (frame_data d session)
+FrameLaw =
+    (d : Data) (session : List ℕ)
+    → frame_text (compact_text d) session ≡ compact_text (frame_data d session)

@@ -14,11 +14,14 @@ open_from d = do
   fields ← as_object d
   method ← field_text (codes "method") fields
   token ← field_text (codes "token") method.1
-  if is_done token.1 then (if bytes_eq method.0 (codes "openDoc") then Some (Open token.0) else None) else None
+  if is_done token.1
+      then (if bytes_eq method.0 (codes "openDoc") then Some (Open token.0) else None) else None
 
 -- a request that is its word alone
 abbrev pub word_from : List ℕ → Option Request
-word_from word = if bytes_eq word (codes "sync") then Some Sync else if bytes_eq word (codes "closeDoc") then Some Close else None
+word_from word =
+    if bytes_eq word (codes "sync") then Some Sync
+    else if bytes_eq word (codes "closeDoc") then Some Close else None
 
 unfoldable pub bare_from : Data → Option Request
 bare_from d = do
@@ -31,7 +34,10 @@ apply_from d = do
   fields ← as_object d
   actions ← field (codes "actions") fields
   method ← field_text (codes "method") actions.1
-  if is_done method.1 then (if bytes_eq method.0 (codes "applyUserActions") then (actions_from actions.0 >>= λ list. Some (Apply list)) else None) else None
+  if is_done method.1
+      then (if bytes_eq method.0 (codes "applyUserActions")
+      then (actions_from actions.0 >>= λ list. Some (Apply list)) else None)
+      else None
 
 -- at most one of the forms fits
 unfoldable pub request_from : Data → Option Request

@@ -11,7 +11,9 @@ use Rattle.grist_json.specs.Reading.{request_from}
 
 -- {"method":"openDoc","token":text}
 abbrev pub open_data : List ℕ → Data
-open_data token = object (member (codes "method") (string (codes "openDoc")) (member (codes "token") (string token) no_members))
+open_data token =
+    object (member (codes "method") (string (codes "openDoc"))
+    (member (codes "token") (string token) no_members))
 
 -- {"method":word}
 abbrev pub bare_data : List ℕ → Data
@@ -19,7 +21,9 @@ bare_data word = object (member (codes "method") (string word) no_members)
 
 -- {"actions":[action,..],"method":"applyUserActions"}
 abbrev pub apply_data : Data → Data
-apply_data actions = object (member (codes "actions") actions (member (codes "method") (string (codes "applyUserActions")) no_members))
+apply_data actions =
+    object (member (codes "actions") actions
+    (member (codes "method") (string (codes "applyUserActions")) no_members))
 
 -- the JSON that spells a request
 abbrev pub IsRequest : Request → Data → Type 0

@@ -13,15 +13,25 @@ use Rattle.action_lines.specs.Numbers.{int_data, is_id, id_from}
 
 -- access and sizes of a good user; owners alone are good so far
 abbrev pub fits : List ℕ → List ℕ → List ℕ → List ℕ → Bool
-fits access email name token = bytes_eq access (codes "owners") && nat_le (length email) 256 && nat_le (length name) 256 && nat_lt 0 (length token) && nat_le (length token) 64
+fits access email name token =
+    bytes_eq access (codes "owners") && nat_le (length email) 256 && nat_le (length name) 256
+    && nat_lt 0 (length token) && nat_le (length token) 64
 
 -- {"user":{"access":a,"email":text,"id":n,"name":text,"token":text}}
 abbrev pub user_data : User → List ℕ → Data
-user_data u access = object (member (codes "user") (object (member (codes "access") (string access) (member (codes "email") (string u.email) (member (codes "id") (int_data u.id) (member (codes "name") (string u.name) (member (codes "token") (string u.token) no_members)))))) no_members)
+user_data u access =
+    object (member (codes "user")
+    (object (member (codes "access") (string access)
+    (member (codes "email") (string u.email)
+    (member (codes "id") (int_data u.id)
+    (member (codes "name") (string u.name)
+    (member (codes "token") (string u.token) no_members)))))) no_members)
 
 -- the JSON that is a user
 abbrev pub IsUser : User → Data → Type 0
-IsUser u d = (access : List ℕ) × (u.access ≡ Some access) × (is_id u.id ≡ true) × (fits access u.email u.name u.token ≡ true) × (d ≡ user_data u access)
+IsUser u d =
+    (access : List ℕ) × (u.access ≡ Some access) × (is_id u.id ≡ true)
+    × (fits access u.email u.name u.token ≡ true) × (d ≡ user_data u access)
 
 -- the bytes spell the user
 abbrev pub SpellsUser : User → List ℕ → Type 0
@@ -51,7 +61,17 @@ user_fields d = do
   id ← field (codes "id") email.1
   name ← field_text (codes "name") id.1
   token ← field_text (codes "token") name.1
-  if is_done token.1 then (id_from id.0 >>= λ n. if fits access.0 email.0 name.0 token.0 then Some (record { token = token.0; access = Some access.0; email = email.0; name = name.0; id = n }) else None) else None
+  if is_done token.1
+      then (id_from id.0 >>= λ n. if fits access.0 email.0 name.0 token.0
+      then Some (record {
+        token = token.0;
+        access = Some access.0;
+        email = email.0;
+        name = name.0;
+        id = n;
+      })
+      else None)
+      else None
 
 unfoldable pub user_from : Data → Option User
 user_from d = do

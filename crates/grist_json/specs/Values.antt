@@ -20,7 +20,8 @@ rows_data rows = array_of row_data rows
 
 -- ["R",table,row]
 abbrev pub ref_data : RowRef → Data
-ref_data r = array (item (string (codes "R")) (item (string r.table) (item (row_data r.row) no_items)))
+ref_data r =
+    array (item (string (codes "R")) (item (string r.table) (item (row_data r.row) no_items)))
 
 -- ["d",seconds]
 abbrev pub date_data : ℤ → Data
@@ -28,7 +29,8 @@ date_data seconds = array (item (string (codes "d")) (item (int_data seconds) no
 
 -- ["r",table,[row,..]]
 abbrev pub set_data : RowSet → Data
-set_data s = array (item (string (codes "r")) (item (string s.table) (item (rows_data s.rows) no_items)))
+set_data s =
+    array (item (string (codes "r")) (item (string s.table) (item (rows_data s.rows) no_items)))
 
 -- an item of a list
 abbrev pub item_data : CellItem → Data

@@ -48,7 +48,8 @@ pub(crate) fn with_member(
     key: &str,
     value: Value,
 ) -> Result<Map<String, Value>, AllocError>
-    ensures { IfOk result (λ m. members_view m.entries ≡ put key.now (view value) (members_view members.entries)) }
+    ensures { IfOk result (λ m. members_view m.entries ≡ put key.now (view value)
+        (members_view members.entries)) }
 {
     let mut members = members;
     serde_json::put(&mut members, alloc, key, value)?;

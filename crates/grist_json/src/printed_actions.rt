@@ -86,7 +86,8 @@ fn columns_value(alloc: Global, columns: &[CellColumn]) -> Result<Value, AllocEr
 
 // What is said of a column: [word,table,column,info].
 fn of_column(alloc: Global, word: &str, table: &Name, column: &ViewCol) -> Result<Value, AllocError>
-    ensures { IfOk result (λ v. view v ≡ action_of word.now table.now (item (string column.now.id) (item (info_data column.now) no_items))) }
+    ensures { IfOk result (λ v. view v ≡ action_of word.now table.now
+        (item (string column.now.id) (item (info_data column.now) no_items))) }
 {
     let head = texts_of_two(alloc, word, table.as_str())?;
     let head = with(head, Value::try_from_str(alloc, column.id.as_str())?)?;
@@ -108,7 +109,8 @@ fn of_cells(
     rows: &RowList,
     columns: &ColumnList,
 ) -> Result<Value, AllocError>
-    ensures { IfOk result (λ v. view v ≡ action_of word.now table.now (item (rows_data rows.now) (item (columns_data columns.now) no_items))) }
+    ensures { IfOk result (λ v. view v ≡ action_of word.now table.now
+        (item (rows_data rows.now) (item (columns_data columns.now) no_items))) }
 {
     let head = texts_of_two(alloc, word, table.as_str())?;
     let head = with(head, rows_value(alloc, rows.as_slice())?)?;

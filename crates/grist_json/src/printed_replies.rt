@@ -139,7 +139,8 @@ fn denied_value(alloc: Global, action: u32, rule: &RuleRef) -> Result<Value, All
 }
 
 fn changes_value(alloc: Global, actions: &[ViewAction]) -> Result<Value, AllocError>
-    ensures { IfOk result (λ v. view v ≡ object (member (codes "actions") (actions_data actions.now) no_members)) }
+    ensures { IfOk result (λ v. view v ≡ object
+        (member (codes "actions") (actions_data actions.now) no_members)) }
 {
     object_of_one(alloc, "actions", actions_value(alloc, actions)?)
 }
@@ -151,7 +152,9 @@ fn undone_value(alloc: Global, number: u64) -> Result<Value, AllocError>
 }
 
 fn bundle_value(alloc: Global, number: u64, values: &[RetValue]) -> Result<Value, AllocError>
-    ensures { IfOk result (λ v. view v ≡ object (member (codes "bundle") (number_data number) (member (codes "retValues") (rets_data values.now) no_members))) }
+    ensures { IfOk result (λ v. view v ≡ object
+        (member (codes "bundle") (number_data number)
+        (member (codes "retValues") (rets_data values.now) no_members))) }
 {
     let values = rets_value(alloc, values)?;
     let members = with_member(alloc, Map::new(alloc), "retValues", values)?;

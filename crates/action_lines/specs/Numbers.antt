@@ -1,4 +1,5 @@
--- Whole numbers in JSON. Digits that do not fit 64 bits with a sign are a float to JSON, and so is `-0`.
+-- Whole numbers in JSON. Digits that do not fit 64 bits with a sign are a float to JSON, and so is
+-- `-0`.
 use Rattle.std.specs.Prelude.{◌≡◌, ◌^◌, ℕ, ℤ, pos, negsuc, Bool, true, false, Option, Some, None, option_map, nat_lt, if◌then◌else◌}
 use Rattle.serde_json.specs.Data.{Num, unsigned, negative, float, Data, null, boolean, number, string, array, object}
 use Rattle.serde_json.specs.Find.{of_integer}

@@ -25,7 +25,8 @@ fn kind_action(
     table: &str,
     items: Items<'_>,
 ) -> Result<Option<UserAction>, AllocError>
-    ensures { IfOk result (λ o. o ≡ kind_action_from kind table.now (items_view items.entry.left.now)) }
+    ensures { IfOk result (λ o.
+        o ≡ kind_action_from kind table.now (items_view items.entry.left.now)) }
 {
     match kind {
         ActionKind::AddRecord => add_of(alloc, true, table, items),
@@ -73,10 +74,11 @@ impl Spelled for UserAction {
 /// Source: docs/PROTOCOL.md, "user actions".
 pub fn read_actions(alloc: Global, value: &Value) -> Result<Option<UserActionList>, AllocError>
     ensures found { IfOk result (λ o. IfSome o (λ actions. AreActions actions (view value.now))) }
-    ensures none { IfOk result (λ o. IfNone o
-        ((actions : List UserAction) → AreActions actions (view value.now) → ⊥)) }
+    ensures none { IfOk result (λ o.
+        IfNone o ((actions : List UserAction) → AreActions actions (view value.now) → ⊥)) }
     ensures exact { IfOk result (λ o. o ≡ actions_from (view value.now)) }
-    ensures well_formed { IfOk result (λ o. IfSome o (λ actions. list_all is_well_formed actions ≡ true)) }
+    ensures well_formed { IfOk result (λ o.
+        IfSome o (λ actions. list_all is_well_formed actions ≡ true)) }
 {
     actions_of(alloc, value)
 }

@@ -44,8 +44,8 @@ fn named(
     is_formula: Option<bool>,
     formula: Option<CellText>,
 ) -> Result<Option<UserCol>, AllocError>
-    ensures { IfOk result (λ o. o ≡ Some
-        (record { id = id.now; ty = ty; is_formula = is_formula; formula = formula })) }
+    ensures { IfOk result (λ o.
+        o ≡ Some (record { id = id.now; ty = ty; is_formula = is_formula; formula = formula })) }
 {
     let id = CellText::copy_of(alloc, id)?;
     Ok(Some(UserCol {

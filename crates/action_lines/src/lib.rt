@@ -3,8 +3,8 @@
 //! Stands on `doc_model` and `cell_types` (what is read) and `serde_json` (JSON that was read of a
 //! text). Used by `grist_json`, which reads whole lines.
 //!
-//! Promises: `read_actions` answers the actions that the JSON stands for, and nothing exactly where it
-//! stands for none; JSON stands for at most one list of actions.
+//! Promises: `read_actions` answers the actions that the JSON stands for, and nothing exactly where
+//! it stands for none; JSON stands for at most one list of actions, and each is well formed.
 //! Not promised: that tables, columns, rows and types are there, or that texts are short.
 //! Read first: actions.rt, then spelled.rt and values.rt.
 #![tactic(auto)]

@@ -25,7 +25,8 @@ fn date_item(items: Items<'_>) -> Option<CellItem>
 
 // A row as an item of a list.
 fn ref_item(alloc: Global, items: Items<'_>) -> Result<Option<CellItem>, AllocError>
-    ensures { IfOk result (λ o. o ≡ option_map CellItem.Rec (ref_from (items_view items.entry.left.now))) }
+    ensures { IfOk result (λ o.
+        o ≡ option_map CellItem.Rec (ref_from (items_view items.entry.left.now))) }
 {
     match ref_of(alloc, items)? {
         Some(row) => Ok(Some(CellItem::Rec(row))),

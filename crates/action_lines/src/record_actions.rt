@@ -109,7 +109,8 @@ pub(crate) fn update_of(
     table: &str,
     items: Items<'_>,
 ) -> Result<Option<UserAction>, AllocError>
-    ensures { IfOk result (λ o. o ≡ update_from single table.now (items_view items.entry.left.now)) }
+    ensures { IfOk result (λ o.
+        o ≡ update_from single table.now (items_view items.entry.left.now)) }
 {
     let Some((rows, members)) = items.two() else {
         return Ok(None);
@@ -147,7 +148,8 @@ pub(crate) fn remove_of(
     table: &str,
     items: Items<'_>,
 ) -> Result<Option<UserAction>, AllocError>
-    ensures { IfOk result (λ o. o ≡ remove_from single table.now (items_view items.entry.left.now)) }
+    ensures { IfOk result (λ o.
+        o ≡ remove_from single table.now (items_view items.entry.left.now)) }
 {
     let Some(rows) = items.only() else {
         return Ok(None);

@@ -98,8 +98,8 @@ fn table_and_column(
     table: &str,
     items: Items<'_>,
 ) -> Result<Option<(CellText, UserCol)>, AllocError>
-    ensures { IfOk result (λ o. o ≡ option_map (λ c. (table.now, c))
-        (beside_from (items_view items.entry.left.now))) }
+    ensures { IfOk result (λ o.
+        o ≡ option_map (λ c. (table.now, c)) (beside_from (items_view items.entry.left.now))) }
 {
     let table = CellText::copy_of(alloc, table)?;
     match beside_of(alloc, items)? {
@@ -130,7 +130,8 @@ pub(crate) fn modify_column_of(
     table: &str,
     items: Items<'_>,
 ) -> Result<Option<UserAction>, AllocError>
-    ensures { IfOk result (λ o. o ≡ modify_column_from table.now (items_view items.entry.left.now)) }
+    ensures { IfOk result (λ o.
+        o ≡ modify_column_from table.now (items_view items.entry.left.now)) }
 {
     match table_and_column(alloc, table, items)? {
         Some((table, column)) => Ok(Some(UserAction::ModifyColumn { table, column })),
@@ -145,7 +146,8 @@ pub(crate) fn remove_column_of(
     table: &str,
     items: Items<'_>,
 ) -> Result<Option<UserAction>, AllocError>
-    ensures { IfOk result (λ o. o ≡ remove_column_from table.now (items_view items.entry.left.now)) }
+    ensures { IfOk result (λ o.
+        o ≡ remove_column_from table.now (items_view items.entry.left.now)) }
 {
     let Some(column) = items.only_text() else {
         return Ok(None);
@@ -174,7 +176,8 @@ pub(crate) fn rename_column_of(
     table: &str,
     items: Items<'_>,
 ) -> Result<Option<UserAction>, AllocError>
-    ensures { IfOk result (λ o. o ≡ rename_column_from table.now (items_view items.entry.left.now)) }
+    ensures { IfOk result (λ o.
+        o ≡ rename_column_from table.now (items_view items.entry.left.now)) }
 {
     let Some((column, new)) = items.text_beside() else {
         return Ok(None);

@@ -24,8 +24,8 @@ pub(crate) fn read_all<T: Spelled>(
     alloc: Global,
     mut items: Items<'_>,
 ) -> Result<Option<Vec<T>>, AllocError>
-    ensures { IfOk result (λ o. option_map (λ v. v.items) o ≡ all_from T.from
-        (items_view items.entry.left.now)) }
+    ensures { IfOk result (λ o.
+        option_map (λ v. v.items) o ≡ all_from T.from (items_view items.entry.left.now)) }
 {
     let mut things = Vec::new(alloc);
     while let Some(value) = items.take() {
@@ -43,7 +43,8 @@ pub(crate) fn read_given<T: Spelled>(
     single: bool,
     value: &Value,
 ) -> Result<Option<Vec<T>>, AllocError>
-    ensures { IfOk result (λ o. option_map (λ v. v.items) o ≡ given_from T.from single (view value.now)) }
+    ensures { IfOk result (λ o.
+        option_map (λ v. v.items) o ≡ given_from T.from single (view value.now)) }
 {
     if single {
         return read_one::<T>(alloc, value);
@@ -55,7 +56,8 @@ pub(crate) fn read_given<T: Spelled>(
 }
 
 fn read_one<T: Spelled>(alloc: Global, value: &Value) -> Result<Option<Vec<T>>, AllocError>
-    ensures { IfOk result (λ o. option_map (λ v. v.items) o ≡ given_from T.from true (view value.now)) }
+    ensures { IfOk result (λ o.
+        option_map (λ v. v.items) o ≡ given_from T.from true (view value.now)) }
 {
     let Some(thing) = T::read(alloc, value)? else {
         return Ok(None);

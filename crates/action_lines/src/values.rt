@@ -26,7 +26,8 @@ fn date_value(items: Items<'_>) -> Option<CellValue>
 
 // A row as a value.
 fn ref_value(alloc: Global, items: Items<'_>) -> Result<Option<CellValue>, AllocError>
-    ensures { IfOk result (λ o. o ≡ option_map CellValue.Rec (ref_from (items_view items.entry.left.now))) }
+    ensures { IfOk result (λ o.
+        o ≡ option_map CellValue.Rec (ref_from (items_view items.entry.left.now))) }
 {
     match ref_of(alloc, items)? {
         Some(row) => Ok(Some(CellValue::Rec(row))),
@@ -36,8 +37,8 @@ fn ref_value(alloc: Global, items: Items<'_>) -> Result<Option<CellValue>, Alloc
 
 // A set of rows as a value.
 fn set_value(alloc: Global, items: Items<'_>) -> Result<Option<CellValue>, AllocError>
-    ensures { IfOk result (λ o. o ≡ option_map CellValue.RecSet
-        (set_from (items_view items.entry.left.now))) }
+    ensures { IfOk result (λ o.
+        o ≡ option_map CellValue.RecSet (set_from (items_view items.entry.left.now))) }
 {
     match set_of(alloc, items)? {
         Some(rows) => Ok(Some(CellValue::RecSet(rows))),
@@ -47,8 +48,8 @@ fn set_value(alloc: Global, items: Items<'_>) -> Result<Option<CellValue>, Alloc
 
 // A list as a value.
 fn list_value(alloc: Global, items: Items<'_>) -> Result<Option<CellValue>, AllocError>
-    ensures { IfOk result (λ o. o ≡ option_map CellValue.List
-        (all_from item_from (items_view items.entry.left.now))) }
+    ensures { IfOk result (λ o.
+        o ≡ option_map CellValue.List (all_from item_from (items_view items.entry.left.now))) }
 {
     match read_all::<CellItem>(alloc, items)? {
         Some(list) => Ok(Some(CellValue::List(CellList::from(list)))),

@@ -69,7 +69,8 @@ describe e =
 abbrev pub all_columns : List Table → List Described
 all_columns [] = []
 all_columns (t ∷ plain) =
-    map (λ (d : ColDef). let e : Described = record { parent = t.row; column = d } in e) t.grid.columns
+    map (λ (d : ColDef).
+    let e : Described = record { parent = t.row; column = d } in e) t.grid.columns
     ++ all_columns plain
 
 -- the column in its place by row, instead of one with its row

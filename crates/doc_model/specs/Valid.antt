@@ -66,9 +66,11 @@ is_new_column g id = not (has_id column_id g.columns id) && is_name id
 
 abbrev pub valid : Document → DocAction → Bool
 valid s (BulkAdd table rows ks) = passes (record_table s table) (λ t.
-    has_no_duplicates rows && from_one rows && none_in rows t.grid.rows && gives_data t.grid rows ks)
+    has_no_duplicates rows && from_one rows && none_in rows t.grid.rows
+    && gives_data t.grid rows ks)
 valid s (BulkUpdate table rows ks) = passes (record_table s table) (λ t.
-    has_no_duplicates rows && from_one rows && all_in rows t.grid.rows && gives_data t.grid rows ks)
+    has_no_duplicates rows && from_one rows && all_in rows t.grid.rows
+    && gives_data t.grid rows ks)
 valid s (BulkRemove table rows) = passes (record_table s table) (λ t.
     has_no_duplicates rows && all_in rows t.grid.rows)
 valid s (AddTable table row columns) =

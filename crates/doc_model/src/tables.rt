@@ -8,8 +8,8 @@ use std::alloc::AllocError;
 
 /// A document, however it is kept: its tables with their base cells.
 ///
-/// Indexes count from 0, in the order of the document: the four metadata tables, and then the others
-/// in the order of their metadata rows; columns in the order of theirs.
+/// Indexes count from 0, in the order of the document: the four metadata tables, and then the
+/// others in the order of their metadata rows; columns in the order of theirs.
 pub trait DocTables: Drop {
     ghost use Rattle.doc_model.specs.Document.{Document};
     ghost use Rattle.doc_model.specs.Valid.{valid};
@@ -32,25 +32,29 @@ pub trait DocTables: Drop {
     ///
     /// Memory: none.
     fn table(&self, index: usize) -> Option<&Name>
-        ensures { MatchOption result (table_at (document self.now) index ≡ None) (λ name. table_at (document self.now) index ≡ Some name.now) };
+        ensures { MatchOption result (table_at (document self.now) index ≡ None)
+            (λ name. table_at (document self.now) index ≡ Some name.now) };
 
     /// The column at an index of a table.
     ///
     /// Memory: none.
     fn column(&self, table: &Name, index: usize) -> Option<&ColDef>
-        ensures { MatchOption result (column_at (document self.now) table.now index ≡ None) (λ column. column_at (document self.now) table.now index ≡ Some column.now) };
+        ensures { MatchOption result (column_at (document self.now) table.now index ≡ None)
+            (λ column. column_at (document self.now) table.now index ≡ Some column.now) };
 
     /// The row ids of a table; they ascend.
     ///
     /// Memory: none.
     fn rows(&self, table: &Name) -> Option<&[u32]>
-        ensures { MatchOption result (rows_at (document self.now) table.now ≡ None) (λ rows. rows_at (document self.now) table.now ≡ Some rows.now) };
+        ensures { MatchOption result (rows_at (document self.now) table.now ≡ None)
+            (λ rows. rows_at (document self.now) table.now ≡ Some rows.now) };
 
     /// The base cell of a table at a column and a row.
     ///
     /// Memory: none.
     fn cell(&self, table: &Name, column: &Name, row: u32) -> Option<&CellValue>
-        ensures { MatchOption result (cell_at (document self.now) table.now column.now row ≡ None) (λ value. cell_at (document self.now) table.now column.now row ≡ Some value.now) };
+        ensures { MatchOption result (cell_at (document self.now) table.now column.now row ≡ None)
+            (λ value. cell_at (document self.now) table.now column.now row ≡ Some value.now) };
 
     /// Applies a valid action.
     ///
@@ -82,23 +86,27 @@ pub trait DocCells {
     ///
     /// Memory: none.
     fn table(&self, index: usize) -> Option<&Name>
-        ensures { MatchOption result (table_at (filled self.now) index ≡ None) (λ name. table_at (filled self.now) index ≡ Some name.now) };
+        ensures { MatchOption result (table_at (filled self.now) index ≡ None)
+            (λ name. table_at (filled self.now) index ≡ Some name.now) };
 
     /// The column at an index of a table.
     ///
     /// Memory: none.
     fn column(&self, table: &Name, index: usize) -> Option<&ColDef>
-        ensures { MatchOption result (column_at (filled self.now) table.now index ≡ None) (λ column. column_at (filled self.now) table.now index ≡ Some column.now) };
+        ensures { MatchOption result (column_at (filled self.now) table.now index ≡ None)
+            (λ column. column_at (filled self.now) table.now index ≡ Some column.now) };
 
     /// The row ids of a table; they ascend.
     ///
     /// Memory: none.
     fn rows(&self, table: &Name) -> Option<&[u32]>
-        ensures { MatchOption result (rows_at (filled self.now) table.now ≡ None) (λ rows. rows_at (filled self.now) table.now ≡ Some rows.now) };
+        ensures { MatchOption result (rows_at (filled self.now) table.now ≡ None)
+            (λ rows. rows_at (filled self.now) table.now ≡ Some rows.now) };
 
     /// The value of a table at a column and a row.
     ///
     /// Memory: none.
     fn value(&self, table: &Name, column: &Name, row: u32) -> Option<&CellValue>
-        ensures { MatchOption result (cell_at (filled self.now) table.now column.now row ≡ None) (λ value. cell_at (filled self.now) table.now column.now row ≡ Some value.now) };
+        ensures { MatchOption result (cell_at (filled self.now) table.now column.now row ≡ None)
+            (λ value. cell_at (filled self.now) table.now column.now row ≡ Some value.now) };
 }

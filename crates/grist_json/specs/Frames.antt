@@ -17,7 +17,8 @@ abbrev pub frame_data : Data → List ℕ → Data
 frame_data line session =
     object (member (codes "line") line (member (codes "session") (string session) no_members))
 
--- what the value of a frame asks for: a request that it spells, or else nothing that can be answered
+-- what the value of a frame asks for: a request that it spells, or else nothing that can be
+-- answered
 abbrev pub Asks : Request → Data → Type 0
 Asks request line =
     IsRequest request line ⊎ ((request ≡ Bad) × ((other : Request) → IsRequest other line → ⊥))

@@ -4,7 +4,8 @@ use Rattle.std.specs.Str.{is_utf8}
 use Rattle.serde_json.specs.Data.{Data}
 use Rattle.serde_json.specs.Read.{read}
 
--- the JSON that the bytes are the text of; of repeated keys the last stands, and nesting goes to 127
+-- the JSON that the bytes are the text of; of repeated keys the last stands, and nesting goes to
+-- 127
 unfoldable pub json_at : List ℕ → Option Data
 json_at bytes = if is_utf8 bytes then read bytes else None
 

@@ -17,7 +17,8 @@ pub(crate) fn with(list: Vec<Value>, value: Value) -> Result<Vec<Value>, AllocEr
 
 // The array of the list with one value more.
 pub(crate) fn array_with(list: Vec<Value>, value: Value) -> Result<Value, AllocError>
-    ensures { IfOk result (λ v. view v ≡ array (items_of (map view list.items ++ view value ∷ []))) }
+    ensures { IfOk result (λ v.
+        view v ≡ array (items_of (map view list.items ++ view value ∷ []))) }
 {
     Ok(Value::Array(with(list, value)?))
 }
@@ -48,8 +49,8 @@ pub(crate) fn with_member(
     key: &str,
     value: Value,
 ) -> Result<Map<String, Value>, AllocError>
-    ensures { IfOk result (λ m. members_view m.entries ≡ put key.now (view value)
-        (members_view members.entries)) }
+    ensures { IfOk result (λ m.
+        members_view m.entries ≡ put key.now (view value) (members_view members.entries)) }
 {
     let mut members = members;
     serde_json::put(&mut members, alloc, key, value)?;

@@ -1,11 +1,14 @@
 //! Lines of JSON: what requests, frames and users they spell, and how replies are printed.
 //!
-//! Stands on `action_lines` (user actions), `doc_model` and `cell_types` (what is read and printed),
-//! `name_rules` (names of sessions) and `serde_json` (the text of JSON). Used by the core and the program.
+//! Stands on `action_lines` (user actions), `doc_model` and `cell_types` (what is read and
+//! printed), `name_rules` (names of sessions) and `serde_json` (the text of JSON). Used by the core
+//! and the program.
 //!
-//! Promises: each reader answers the thing that the bytes spell, and nothing exactly where there is
-//! none; bytes spell at most one thing. Each writer gives the compact text, keys sorted, of the JSON
-//! that stands for its argument, and that text reads back as this JSON.
+//! Promises: each reader answers the request, frame or user that the bytes spell, and nothing
+//! exactly where there is none; bytes spell at most one. What is read asks for well-formed actions
+//! alone. Each writer gives the compact text, keys sorted, of the JSON that stands for its
+//! argument, and that text reads back as this JSON; a printed line in its frame is read back as the
+//! frame.
 //! Not promised: that a line is not too long, which whoever reads lines has to test.
 //! Read first: requests.rt, then frames.rt and printed_replies.rt.
 #![tactic(auto)]

@@ -81,7 +81,8 @@ fn with_action(
     fields: Map<String, Value>,
     action: Option<u32>,
 ) -> Result<Map<String, Value>, AllocError>
-    ensures { IfOk result (λ m. members_view m.entries ≡ put_action action (members_view fields.entries)) }
+    ensures { IfOk result (λ m.
+        members_view m.entries ≡ put_action action (members_view fields.entries)) }
 {
     match action {
         Some(action) => with_member(alloc, fields, "action", Value::from(action)),
@@ -139,14 +140,15 @@ fn denied_value(alloc: Global, action: u32, rule: &RuleRef) -> Result<Value, All
 }
 
 fn changes_value(alloc: Global, actions: &[ViewAction]) -> Result<Value, AllocError>
-    ensures { IfOk result (λ v. view v ≡ object
-        (member (codes "actions") (actions_data actions.now) no_members)) }
+    ensures { IfOk result (λ v.
+        view v ≡ object (member (codes "actions") (actions_data actions.now) no_members)) }
 {
     object_of_one(alloc, "actions", actions_value(alloc, actions)?)
 }
 
 fn undone_value(alloc: Global, number: u64) -> Result<Value, AllocError>
-    ensures { IfOk result (λ v. view v ≡ object (member (codes "bundle") (number_data number) no_members)) }
+    ensures { IfOk result (λ v.
+        view v ≡ object (member (codes "bundle") (number_data number) no_members)) }
 {
     object_of_one(alloc, "bundle", Value::from(number))
 }

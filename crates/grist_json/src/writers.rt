@@ -76,8 +76,10 @@ fn framed(alloc: Global, session: &Name, line: &Line) -> Result<Line, AllocError
 /// Source: docs/PROTOCOL.md, "frames".
 pub fn write_frame(alloc: Global, session: &Name, line: &Line) -> Result<Line, AllocError>
     ensures text { IfOk result (λ l. l ≡ frame_text line.now session.now) }
-    ensures spells { IfOk result (λ l. (d : Data) → IsPrinted line.now d → IsJson l (frame_data d session.now)) }
-    ensures reads_back { IfOk result (λ l. (d : Data) → IsPrinted line.now d → is_name session.now ≡ true
+    ensures spells { IfOk result (λ l.
+        (d : Data) → IsPrinted line.now d → IsJson l (frame_data d session.now)) }
+    ensures reads_back { IfOk result (λ l.
+        (d : Data) → IsPrinted line.now d → is_name session.now ≡ true
         → SpellsFrame (frame_of session.now d) l) }
 {
     framed(alloc, session, line)

@@ -1,6 +1,6 @@
 //! Plan: the action that JSON stands for, in each form (`spelled_actions`), the values in one
-//! (`spelled_values`), and JSON that stands for none (`no_actions`). What is expected is written out by hand
-//! from the protocol, a row a line, as `Debug` shows it; `-` stands for no actions.
+//! (`spelled_values`), and JSON that stands for none (`no_actions`). What is expected is written out
+//! by hand from the protocol, a row a line, as `Debug` shows it; `-` stands for no actions.
 
 use crate::texts::is_text;
 use action_lines::*;

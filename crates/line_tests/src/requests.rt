@@ -1,7 +1,7 @@
-//! Plan: what lines spell (`spelled_requests`, `lines_that_spell_none`, `spelled_frames`, `spelled_users`),
-//! and what is printed (`printed_values`, `printed_columns`, `printed_replies`, `printed_refusals`,
-//! `printed_frame`). The expected texts are those of the stored cases and of the protocol, a row a line;
-//! what is read is shown as `Debug` shows it.
+//! Plan: what lines spell (`spelled_requests`, `lines_that_spell_none`, `spelled_frames`,
+//! `spelled_users`), and what is printed (`printed_values`, `printed_columns`, `printed_replies`,
+//! `printed_refusals`, `printed_frame`). The expected texts are those of the stored cases and of the
+//! protocol, a row a line; what is read is shown as `Debug` shows it.
 
 use crate::texts::{is_line, is_text};
 use cell_types::*;
@@ -199,7 +199,8 @@ fn list(alloc: Global) -> Result<CellValue, AllocError> {
     Ok(CellValue::List(items))
 }
 
-// A value at each index: five that are numbers or texts, and four that name rows or are lists or marks.
+// A value at each index: five that are numbers or texts, and four that name rows or are lists or
+// marks.
 fn value_at(alloc: Global, index: usize) -> Result<CellValue, AllocError> {
     match index {
         0 => Ok(CellValue::Null),

@@ -9,47 +9,47 @@ ghost use Rattle.doc_model.specs.Refusals.{refusal_name, refusal_number};
 #[derive(Clone, Copy)]
 pub enum Refusal {
     /// The line spells no request.
-    BadLine,
-    LineTooLong,
+    BadLine = 1,
+    LineTooLong = 2,
     /// The session is not open.
-    NotOpen,
+    NotOpen = 3,
     /// The session is open.
-    AlreadyOpen,
+    AlreadyOpen = 4,
     /// No user has the token.
-    UnknownToken,
+    UnknownToken = 5,
     /// The table is not in the view.
-    NoSuchTable,
+    NoSuchTable = 6,
     /// A column is not in the view.
-    NoSuchColumn,
+    NoSuchColumn = 7,
     /// A row is not in the view.
-    NoSuchRow,
+    NoSuchRow = 8,
     /// A row stands twice.
-    DuplicateRow,
+    DuplicateRow = 9,
     /// Only the document itself writes that table.
-    MetaTable,
+    MetaTable = 10,
     /// A formula gives the column its values.
-    FormulaColumn,
+    FormulaColumn = 11,
     /// A cell cannot hold the value, or a column cannot be as it is said.
-    BadValue,
+    BadValue = 12,
     /// An access rule cannot be as it is said.
-    BadRule,
+    BadRule = 13,
     /// A new id is no name.
-    BadName,
+    BadName = 14,
     /// A counted quantity would pass its bound.
-    Limit,
-    NoSuchBundle,
+    Limit = 15,
+    NoSuchBundle = 16,
     /// The bundle was undone before.
-    AlreadyUndone,
+    AlreadyUndone = 17,
     /// An action that takes the bundle back is not valid.
-    UndoStale,
+    UndoStale = 18,
     /// The keeper failed.
-    StoreFault,
+    StoreFault = 19,
     /// An access rule denies it.
-    Denied,
+    Denied = 20,
     /// A line of the session could not be made.
-    Lagged,
+    Lagged = 21,
     /// A renaming meets names that it cannot follow.
-    Unresolved,
+    Unresolved = 22,
 }
 
 impl Refusal {
@@ -57,30 +57,7 @@ impl Refusal {
     pub fn number(self) -> u8
         ensures { result ≡ refusal_number self }
     {
-        match self {
-            Refusal::BadLine => 1,
-            Refusal::LineTooLong => 2,
-            Refusal::NotOpen => 3,
-            Refusal::AlreadyOpen => 4,
-            Refusal::UnknownToken => 5,
-            Refusal::NoSuchTable => 6,
-            Refusal::NoSuchColumn => 7,
-            Refusal::NoSuchRow => 8,
-            Refusal::DuplicateRow => 9,
-            Refusal::MetaTable => 10,
-            Refusal::FormulaColumn => 11,
-            Refusal::BadValue => 12,
-            Refusal::BadRule => 13,
-            Refusal::BadName => 14,
-            Refusal::Limit => 15,
-            Refusal::NoSuchBundle => 16,
-            Refusal::AlreadyUndone => 17,
-            Refusal::UndoStale => 18,
-            Refusal::StoreFault => 19,
-            Refusal::Denied => 20,
-            Refusal::Lagged => 21,
-            Refusal::Unresolved => 22,
-        }
+        self as u8
     }
 
     /// The name by which replies tell it.

@@ -11,11 +11,11 @@ ghost use Rattle.doc_model.specs.ViewEdits.{IsShown, shown_id};
 ghost use Rattle.plain_view.specs.Cells.{row_cells, value_in};
 
 use crate::copies::name_copy;
-use crate::makers::{Maker, all_made};
 use crate::named::index_of;
 use crate::rows::row_index;
-use cell_types::{CellValue, Name, Same, copy_of};
+use cell_types::{CellValue, Name, Same, ValueList, copy_of};
 use doc_model::{CellColumn, ViewTable};
+use list_ops::all_made;
 use std::alloc::{AllocError, Global};
 
 /// The cells of a row; none where the row is not there.
@@ -59,30 +59,26 @@ pub(crate) fn is_same_value(left: &CellValue, right: &CellValue) -> bool
     left.same_as(right)
 }
 
-/// The values at an index of rows; Null where there is none.
-#[derive(Drop)]
-struct RowValues<'a> {
-    table: &'a ViewTable,
-    index: Option<usize>,
+// A copy of the value at an index of a row; Null where there is none.
+fn cell_copy(table: &ViewTable, index: Option<usize>, row: u32) -> Result<CellValue, AllocError>
+    requires { IsShown (grid table.now) }
+    ensures { IfOk result (λ v. v ≡ value_in (row_cells (grid table.now) row) index Null) }
+{
+    copy_of(value_in(row_cells(table, row), index, &CellValue::Null))
 }
 
-impl Maker for RowValues<'_> {
-    ghost use Rattle.doc_model.specs.Changes.{grid};
-    ghost use Rattle.doc_model.specs.ViewEdits.{IsShown};
-    ghost use Rattle.cell_types.specs.declared.value.CellValue.TheVariants.{Null};
-    ghost use Rattle.plain_view.specs.Cells.{row_cells, value_in};
-
-    type Of = u32;
-
-    type Made = CellValue;
-
-    ghost made = { λ m r. value_in (row_cells (grid m.table.now) r) m.index Null };
-
-    ghost is_ready = { λ m. IsShown (grid m.table.now) };
-
-    fn make(&self, of: &u32) -> Result<CellValue, AllocError> {
-        copy_of(value_in(row_cells(self.table, *of), self.index, &CellValue::Null))
-    }
+// Such copies of rows.
+fn cell_copies(
+    alloc: Global,
+    table: &ViewTable,
+    index: Option<usize>,
+    rows: &[u32],
+) -> Result<ValueList, AllocError>
+    requires { IsShown (grid table.now) }
+    ensures { IfOk result (λ l. l ≡ map (λ r. value_in (row_cells (grid table.now) r) index Null) rows.now) }
+{
+    let values = all_made(alloc, rows, |row| cell_copy(table, index, *row))?;
+    Ok(ValueList::from(values))
 }
 
 /// The cells of the column of an id in these rows; Null where there is none.
@@ -98,7 +94,7 @@ pub(crate) fn column_of(
     ensures { IfOk result (λ k. k ≡ column_of shown_id (grid table.now) rows.now id.now) }
 {
     let index = index_of(table.columns.as_slice(), id);
-    let values = all_made(alloc, &RowValues { table, index }, rows)?;
+    let values = cell_copies(alloc, table, index, rows)?;
     let id = name_copy(id)?;
     Ok(CellColumn { id, values })
 }

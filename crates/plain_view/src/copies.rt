@@ -2,8 +2,9 @@
 
 ghost use Rattle.std.specs.Prelude.{◌≡◌, IfOk};
 
-use cell_types::{CellValue, Name, RowList, Sequence, copy_of};
+use cell_types::{Name, RowList, ValueList, copy_of};
 use doc_model::{CellRowList, ViewCol, ViewColList, ViewTable};
+use list_ops::all_copied;
 use std::alloc::{AllocError, Global};
 
 /// A copy of a name.
@@ -42,46 +43,49 @@ pub(crate) fn head_copy(table: &ViewTable) -> Result<(Name, ViewColList), AllocE
     Ok((id, columns_copy(&table.columns)?))
 }
 
+// Copies of the cells of a row.
+fn values_copy(alloc: Global, values: &ValueList) -> Result<ValueList, AllocError>
+    ensures { IfOk result (λ l. l ≡ values.now) }
+{
+    let copies = all_copied(alloc, values.as_slice(), |value| copy_of(value))?;
+    Ok(ValueList::from(copies))
+}
+
+// Copies of the cells of rows.
+fn cells_copy(alloc: Global, cells: &CellRowList) -> Result<CellRowList, AllocError>
+    ensures { IfOk result (λ l. l ≡ cells.now) }
+{
+    let rows = all_copied(alloc, cells.as_slice(), |values| {
+        values_copy(alloc, values)
+    })?;
+    Ok(CellRowList::from(rows))
+}
+
 // Copies of a table's rows and cells.
 fn body_copy(alloc: Global, table: &ViewTable) -> Result<(RowList, CellRowList), AllocError>
     ensures { IfOk result (λ b. b ≡ (table.now.rows, table.now.cells)) }
 {
     let rows = rows_copy(&table.rows)?;
-    Ok((rows, table.cells.copied(alloc)?))
+    Ok((rows, cells_copy(alloc, &table.cells)?))
 }
 
-/// What is copied in lists.
-pub(crate) trait Copied: Drop + Sized {
-    /// A copy.
-    fn copied(&self, alloc: Global) -> Result<Self, AllocError>
-        ensures { IfOk result (λ c. c ≡ self.now) };
+/// A copy of a table.
+pub(crate) fn table_copy(alloc: Global, table: &ViewTable) -> Result<ViewTable, AllocError>
+    ensures { IfOk result (λ t. t ≡ table.now) }
+{
+    let (id, columns) = head_copy(table)?;
+    let (rows, cells) = body_copy(alloc, table)?;
+    Ok(ViewTable {
+        id,
+        columns,
+        rows,
+        cells,
+    })
 }
 
-impl Copied for CellValue {
-    fn copied(&self, _alloc: Global) -> Result<CellValue, AllocError> {
-        copy_of(self)
-    }
-}
-
-impl Copied for ViewTable {
-    fn copied(&self, alloc: Global) -> Result<ViewTable, AllocError> {
-        let (id, columns) = head_copy(self)?;
-        let (rows, cells) = body_copy(alloc, self)?;
-        Ok(ViewTable {
-            id,
-            columns,
-            rows,
-            cells,
-        })
-    }
-}
-
-impl<T: Copied> Copied for Sequence<T> {
-    fn copied(&self, alloc: Global) -> Result<Sequence<T>, AllocError> {
-        let mut copies = Vec::with_capacity(alloc, self.len())?;
-        for thing in self.as_slice() {
-            copies.push(thing.copied(alloc)?)?;
-        }
-        Ok(Sequence::from(copies))
-    }
+/// Copies of tables.
+pub(crate) fn tables_copy(alloc: Global, tables: &[ViewTable]) -> Result<Vec<ViewTable>, AllocError>
+    ensures { IfOk result (λ v. v.items ≡ tables.now) }
+{
+    all_copied(alloc, tables, |table| table_copy(alloc, table))
 }

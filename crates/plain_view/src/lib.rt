@@ -20,7 +20,6 @@ mod editing;
 mod fitting;
 mod full;
 mod given;
-mod makers;
 mod named;
 mod patching;
 mod placing;

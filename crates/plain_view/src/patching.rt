@@ -11,7 +11,7 @@ ghost use Rattle.plain_view.specs.Acts.{act, act_fits, fits_there};
 ghost use Rattle.plain_view.specs.Faults.{tells, tells_here};
 ghost use Rattle.plain_view.specs.Given.{IsFull};
 
-use crate::copies::{Copied, name_copy};
+use crate::copies::{name_copy, table_copy, tables_copy};
 use crate::editing::{with_column, with_rows, with_values, without_column, without_rows};
 use crate::fitting::fits;
 use crate::named::index_of;
@@ -54,7 +54,7 @@ pub fn patch(alloc: Global, view: &View, actions: &ViewActionList) -> Result<Vie
     ensures err { IfErr result (λ fault. tells fault (unfit_at view.now.tables actions.now)) }
     ensures kept { IfOk result (λ after. IsView after.tables) }
 {
-    let mut tables = view.tables.copied(alloc)?.into_vec();
+    let mut tables = tables_copy(alloc, view.tables.as_slice())?;
     for (index, action) in actions.as_slice().iter().enumerate() {
         step(alloc, &mut tables, index, action)?;
     }
@@ -162,6 +162,6 @@ fn edited(alloc: Global, table: &ViewTable, action: &ViewAction) -> Result<ViewT
             with_values(alloc, table, rows.as_slice(), columns.as_slice())
         }
         ViewAction::BulkRemove { rows, .. } => without_rows(alloc, table, rows.as_slice()),
-        ViewAction::AddTable { .. } | ViewAction::RemoveTable { .. } => table.copied(alloc),
+        ViewAction::AddTable { .. } | ViewAction::RemoveTable { .. } => table_copy(alloc, table),
     }
 }

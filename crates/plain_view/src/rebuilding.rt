@@ -1,19 +1,23 @@
 //! A table built anew: with other columns and rows, and the values that an action gives.
 
-ghost use Rattle.std.specs.Prelude.{◌≡◌, IfOk};
+ghost use Rattle.std.specs.Prelude.{◌≡◌, IfOk, map};
+ghost use Rattle.std.specs.Bool.{OnTrue};
 ghost use Rattle.doc_model.specs.Changes.{grid, table as table_of};
 ghost use Rattle.doc_model.specs.Grid.{grid_of};
+ghost use Rattle.doc_model.specs.Rows.{IsAscending};
 ghost use Rattle.doc_model.specs.ViewEdits.{IsShown};
-ghost use Rattle.plain_view.specs.Given.{AreFull, new_cell};
+ghost use Rattle.plain_view.specs.Cells.{row_cells};
+ghost use Rattle.plain_view.specs.Given.{AreFull, last_row, new_cell};
+ghost use Rattle.plain_view.specs.Sources.{source_of, sourced_cell};
 
 use crate::cells::{row_cells, value_in};
 use crate::copies::name_copy;
 use crate::given::{column_at, last_index, named_index};
-use crate::makers::{Maker, all_made};
 use crate::named::index_of;
 use crate::rows::is_ascending;
 use cell_types::{CellValue, RowList, ValueList, copy_of, default_of};
 use doc_model::{CellColumn, CellRowList, ViewCol, ViewColList, ViewTable};
+use list_ops::all_made;
 use std::alloc::{AllocError, Global};
 
 /// Where the cells of a column come from: its index before, the index of the column that an action
@@ -25,105 +29,103 @@ struct Source {
     start: CellValue,
 }
 
-/// Where the cells of columns come from.
-#[derive(Drop)]
-struct Sourcing<'a> {
+// Where a column's cells come from.
+fn source_of(
     alloc: Global,
-    before: &'a [ViewCol],
-    given: &'a [CellColumn],
+    before: &[ViewCol],
+    given: &[CellColumn],
+    column: &ViewCol,
+) -> Result<Source, AllocError>
+    ensures { IfOk result (λ s. s ≡ source_of before.now given.now column.now) }
+{
+    Ok(Source {
+        before: index_of(before, &column.id),
+        given: named_index(given, &column.id),
+        start: default_of(alloc, &column.ty),
+    })
 }
 
-impl Maker for Sourcing<'_> {
-    ghost use Rattle.std.specs.Prelude.{⊤};
-    ghost use Rattle.plain_view.specs.Sources.{source_of};
-
-    type Of = ViewCol;
-
-    type Made = Source;
-
-    ghost made = { λ m d. source_of m.before.now m.given.now d };
-
-    ghost is_ready = { λ _. ⊤ };
-
-    fn make(&self, of: &ViewCol) -> Result<Source, AllocError> {
-        Ok(Source {
-            before: index_of(self.before, &of.id),
-            given: named_index(self.given, &of.id),
-            start: default_of(self.alloc, &of.ty),
-        })
-    }
+// The same of columns.
+fn sources_of(
+    alloc: Global,
+    before: &[ViewCol],
+    given: &[CellColumn],
+    columns: &[ViewCol],
+) -> Result<Vec<Source>, AllocError>
+    ensures { IfOk result (λ v. v.items ≡ map (source_of before.now given.now) columns.now) }
+{
+    all_made(
+        alloc,
+        columns,
+        |column| source_of(alloc, before, given, column),
+    )
 }
 
-/// The cells of a row: the values that are given at the index, or what was there, or else the
-/// defaults.
-#[derive(Drop)]
-struct RowCells<'a> {
-    row: &'a [CellValue],
-    given: &'a [CellColumn],
+// A cell of a row: the value that is given at the index, or what was there, or else the default.
+fn sourced_cell(
+    row: &[CellValue],
+    given: &[CellColumn],
     index: Option<usize>,
-}
-
-impl Maker for RowCells<'_> {
-    ghost use Rattle.std.specs.Prelude.{⊤};
-    ghost use Rattle.plain_view.specs.Sources.{sourced_cell};
-
-    type Of = Source;
-
-    type Made = CellValue;
-
-    ghost made = { λ m source. sourced_cell m.row.now m.given.now m.index source };
-
-    ghost is_ready = { λ _. ⊤ };
-
-    fn make(&self, of: &Source) -> Result<CellValue, AllocError> {
-        match (self.index, column_at(self.given, of.given)) {
-            (Some(index), Some(column)) => copy_of(value_in(
-                column.values.as_slice(),
-                Some(index),
-                &CellValue::Null,
-            )),
-            _ => copy_of(value_in(self.row, of.before, &of.start)),
-        }
+    source: &Source,
+) -> Result<CellValue, AllocError>
+    ensures { IfOk result (λ v. v ≡ sourced_cell row.now given.now index source.now) }
+{
+    match (index, column_at(given, source.given)) {
+        (Some(index), Some(column)) => copy_of(value_in(
+            column.values.as_slice(),
+            Some(index),
+            &CellValue::Null,
+        )),
+        _ => copy_of(value_in(row, source.before, &source.start)),
     }
 }
 
-/// The cells of rows.
+// The rows that an action gives, whether they ascend, and its columns.
 #[derive(Drop)]
-struct Rows<'a> {
-    alloc: Global,
-    table: &'a ViewTable,
-    given_rows: &'a [u32],
+struct Given<'a> {
+    rows: &'a [u32],
     is_ascending: bool,
-    given: &'a [CellColumn],
-    sources: &'a [Source],
+    columns: &'a [CellColumn],
 }
 
-impl Maker for Rows<'_> {
-    ghost use Rattle.std.specs.Prelude.{map};
-    ghost use Rattle.std.specs.Bool.{OnTrue};
-    ghost use Rattle.doc_model.specs.Changes.{grid};
-    ghost use Rattle.doc_model.specs.Rows.{IsAscending};
-    ghost use Rattle.doc_model.specs.ViewEdits.{IsShown};
-    ghost use Rattle.plain_view.specs.Cells.{row_cells};
-    ghost use Rattle.plain_view.specs.Given.{last_row};
-    ghost use Rattle.plain_view.specs.Sources.{sourced_cell};
+// The cells of a row.
+fn sourced_row(
+    alloc: Global,
+    table: &ViewTable,
+    given: &Given,
+    sources: &[Source],
+    row: u32,
+) -> Result<ValueList, AllocError>
+    requires table { IsShown (grid table.now) }
+    requires ascending { OnTrue given.now.is_ascending (IsAscending given.now.rows.now) }
+    ensures { IfOk result (λ l. l ≡ map (sourced_cell (row_cells (grid table.now) row) given.now.columns.now (last_row given.now.rows.now row)) sources.now) }
+{
+    let before = row_cells(table, row);
+    let index = last_index(given.rows, given.is_ascending, row);
+    let cells = all_made(alloc, sources, |source| {
+        sourced_cell(before, given.columns, index, source)
+    })?;
+    Ok(ValueList::from(cells))
+}
 
-    type Of = u32;
-
-    type Made = ValueList;
-
-    ghost made = { λ m r. map (sourced_cell (row_cells (grid m.table.now) r) m.given.now (last_row m.given_rows.now r)) m.sources.now };
-
-    ghost is_ready = { λ m. IsShown (grid m.table.now) × OnTrue m.is_ascending (IsAscending m.given_rows.now) };
-
-    fn make(&self, of: &u32) -> Result<ValueList, AllocError> {
-        let cells = RowCells {
-            row: row_cells(self.table, *of),
-            given: self.given,
-            index: last_index(self.given_rows, self.is_ascending, *of),
-        };
-        all_made(self.alloc, &cells, self.sources)
-    }
+// The cells of rows.
+fn sourced_rows(
+    alloc: Global,
+    table: &ViewTable,
+    given: &Given,
+    sources: &[Source],
+    rows: &[u32],
+) -> Result<CellRowList, AllocError>
+    requires table { IsShown (grid table.now) }
+    requires ascending { OnTrue given.now.is_ascending (IsAscending given.now.rows.now) }
+    ensures { IfOk result (λ l. l ≡ map (λ r. map (sourced_cell (row_cells (grid table.now) r) given.now.columns.now (last_row given.now.rows.now r)) sources.now) rows.now) }
+{
+    let cells = all_made(
+        alloc,
+        rows,
+        |row| sourced_row(alloc, table, given, sources, *row),
+    )?;
+    Ok(CellRowList::from(cells))
 }
 
 // The cells of the table in these columns and rows.
@@ -139,22 +141,13 @@ fn cells_of(
     requires given { AreFull given_rows.now given.now }
     ensures { IfOk result (λ l. l ≡ (grid_of columns.now rows.now (new_cell (grid table.now) given_rows.now given.now)).cells) }
 {
-    let before = table.columns.as_slice();
-    let sourcing = Sourcing {
-        alloc,
-        before,
-        given,
-    };
-    let sources = all_made(alloc, &sourcing, columns)?;
-    let made = Rows {
-        alloc,
-        table,
-        given_rows,
+    let sources = sources_of(alloc, table.columns.as_slice(), given, columns)?;
+    let told = Given {
+        rows: given_rows,
         is_ascending: is_ascending(given_rows),
-        given,
-        sources: sources.as_slice(),
+        columns: given,
     };
-    all_made(alloc, &made, rows)
+    sourced_rows(alloc, table, &told, &sources, rows)
 }
 
 /// The table with these columns and rows. Its cells are the values given, or what was there, or

@@ -14,11 +14,11 @@ ghost use Rattle.plain_view.specs.Steps.{is_told, updated_column};
 use crate::actions::add;
 use crate::cells::{column_of, is_same_value, row_cells, value_in};
 use crate::copies::name_copy;
-use crate::makers::{Maker, all_made};
 use crate::named::index_of;
 use crate::rows::{has_row, push_if, rows_without};
 use cell_types::{CellValue, Name, RowList, default_of};
 use doc_model::{CellColumn, ColumnList, ViewAction, ViewCol, ViewTable};
+use list_ops::all_made;
 use std::alloc::{AllocError, Global};
 use std::slice::from_ref;
 
@@ -89,33 +89,6 @@ fn rows_told(
     Ok(RowList::from(rows))
 }
 
-/// The cells of columns in these rows.
-#[derive(Drop)]
-struct Columns<'a> {
-    alloc: Global,
-    table: &'a ViewTable,
-    rows: &'a [u32],
-}
-
-impl Maker for Columns<'_> {
-    ghost use Rattle.doc_model.specs.declared.view.ViewCol.{ViewCol};
-    ghost use Rattle.doc_model.specs.Changes.{grid};
-    ghost use Rattle.doc_model.specs.Records.{column_of};
-    ghost use Rattle.doc_model.specs.ViewEdits.{IsShown, shown_id};
-
-    type Of = ViewCol;
-
-    type Made = CellColumn;
-
-    ghost made = { λ m (d : ViewCol). column_of shown_id (grid m.table.now) m.rows.now d.id };
-
-    ghost is_ready = { λ m. IsShown (grid m.table.now) };
-
-    fn make(&self, of: &ViewCol) -> Result<CellColumn, AllocError> {
-        column_of(self.alloc, self.table, self.rows, &of.id)
-    }
-}
-
 // The table's id, and the cells of columns in these rows.
 fn told_cells(
     alloc: Global,
@@ -126,9 +99,12 @@ fn told_cells(
     requires { IsShown (grid table.now) }
     ensures { IfOk result (λ t. t ≡ (table.now.id, map (λ (d : ViewCol). column_of shown_id (grid table.now) rows.now d.id) columns.now)) }
 {
-    let made = Columns { alloc, table, rows };
-    let columns = all_made(alloc, &made, columns)?;
-    Ok((name_copy(&table.id)?, columns))
+    let told = all_made(
+        alloc,
+        columns,
+        |column| column_of(alloc, table, rows, &column.id),
+    )?;
+    Ok((name_copy(&table.id)?, ColumnList::from(told)))
 }
 
 fn tell_updated(

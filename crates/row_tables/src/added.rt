@@ -12,10 +12,10 @@ ghost use Rattle.row_tables.specs.RowIndexes.{AreNew, AreWithin, given_at, new_i
 use crate::RowTable;
 use crate::given::given_value;
 use crate::in_place::{insert_reserved, remove_at};
-use crate::making::{Maker, all_made};
 use crate::search::search_row;
 use cell_types::{CellValue, ValueList, copy_of, default_of};
 use doc_model::{CellColumn, ColDef};
+use list_ops::all_made;
 use std::alloc::{AllocError, Global};
 
 /// What a new cell of the column holds.
@@ -31,29 +31,36 @@ pub(crate) fn start_of(alloc: Global, column: &ColDef) -> CellValue
     }
 }
 
-// The cells of the new row at this index among the rows of an action.
-#[derive(Drop)]
-struct NewRow<'a> {
+// A cell of the new row at this index among the rows of an action.
+fn new_cell(
     alloc: Global,
-    values: &'a [CellColumn],
+    column: &ColDef,
+    values: &[CellColumn],
     index: usize,
+) -> Result<CellValue, AllocError>
+    ensures { IfOk result (λ v. v ≡ unwrap_or (given_at values.now column.now.id index) (start_of column.now)) }
+{
+    match given_value(values, &column.id, index) {
+        Some(value) => copy_of(value),
+        None => Ok(start_of(alloc, column)),
+    }
 }
 
-impl Maker<ColDef> for NewRow<'_> {
-    ghost use Rattle.std.specs.Prelude.{unwrap_or};
-    ghost use Rattle.doc_model.specs.Column.{start_of};
-    ghost use Rattle.row_tables.specs.RowIndexes.{given_at};
-
-    type Made = CellValue;
-
-    ghost made = { λ a d. unwrap_or (given_at a.values.now d.id a.index) (start_of d) };
-
-    fn make(&self, column: &ColDef) -> Result<CellValue, AllocError> {
-        match given_value(self.values, &column.id, self.index) {
-            Some(value) => copy_of(value),
-            None => Ok(start_of(self.alloc, column)),
-        }
-    }
+// The cells of that row.
+fn new_row(
+    alloc: Global,
+    columns: &[ColDef],
+    values: &[CellColumn],
+    index: usize,
+) -> Result<ValueList, AllocError>
+    ensures { IfOk result (λ l. l ≡ map (λ d. unwrap_or (given_at values.now d.id index) (start_of d)) columns.now) }
+{
+    let cells = all_made(
+        alloc,
+        columns,
+        |column| new_cell(alloc, column, values, index),
+    )?;
+    Ok(ValueList::from(cells))
 }
 
 // The cells of new rows.
@@ -68,12 +75,7 @@ fn cells_of_new(
 {
     let mut lists = Vec::with_capacity(alloc, rows.len())?;
     for (index, _row) in rows.iter().enumerate() {
-        let row = NewRow {
-            alloc,
-            values,
-            index,
-        };
-        lists.push(ValueList::from(all_made(alloc, columns, &row)?))?;
+        lists.push(new_row(alloc, columns, values, index)?)?;
     }
     Ok(lists)
 }

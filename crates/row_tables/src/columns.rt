@@ -1,6 +1,7 @@
 //! What schema actions make of one table.
 
-ghost use Rattle.std.specs.Prelude.{◌≡◌, [], ◌∷◌, ◌++◌, IfOk};
+ghost use Rattle.std.specs.Prelude.{◌≡◌, [], ◌∷◌, ◌++◌, IfOk, cond};
+ghost use Rattle.std.specs.Str.{bytes_eq};
 ghost use Rattle.cell_types.specs.declared.value.CellValue.TheVariants.{Null};
 ghost use Rattle.doc_model.specs.Apply.{add_column, new_table, remove_column, with_column, with_info, with_name};
 ghost use Rattle.doc_model.specs.ByIds.{without_id};
@@ -12,9 +13,9 @@ use crate::RowTable;
 use crate::added::start_of;
 use crate::copies::{copy_of_column, copy_of_name};
 use crate::fill::{CellSource, Kept};
-use crate::making::{Maker, all_made};
 use cell_types::{CellValue, Name};
 use doc_model::{ColDef, ColInfo, index_of_column};
+use list_ops::all_made;
 use std::alloc::{AllocError, Global};
 
 // Puts a column before the first one with a greater row.
@@ -99,28 +100,14 @@ fn told_column(column: &ColDef, told: &Told) -> Result<ColDef, AllocError>
     }
 }
 
-// The columns, and those of this id with what is new.
-#[derive(Drop)]
-struct Changed<'a> {
-    id: &'a Name,
-    told: Told<'a>,
-}
-
-impl Maker<ColDef> for Changed<'_> {
-    ghost use Rattle.std.specs.Prelude.{cond};
-    ghost use Rattle.std.specs.Str.{bytes_eq};
-    ghost use Rattle.row_tables.specs.Told.{told_column};
-
-    type Made = ColDef;
-
-    ghost made = { λ a d. cond (bytes_eq d.id a.id.now) (told_column a.told d) d };
-
-    fn make(&self, column: &ColDef) -> Result<ColDef, AllocError> {
-        if column.id.as_str() == self.id.as_str() {
-            told_column(column, &self.told)
-        } else {
-            copy_of_column(column)
-        }
+// The column, with what is new where it has this id.
+fn changed(column: &ColDef, id: &Name, told: &Told) -> Result<ColDef, AllocError>
+    ensures { IfOk result (λ d. d ≡ cond (bytes_eq column.now.id id.now) (told_column told.now column.now) column.now) }
+{
+    if column.id.as_str() == id.as_str() {
+        told_column(column, told)
+    } else {
+        copy_of_column(column)
     }
 }
 
@@ -197,30 +184,29 @@ impl RowTable {
         self.refilled(left, self.rows_copy()?, &Kept { table: self })
     }
 
-    // The table with changed columns.
-    fn with_changed(&self, changed: &Changed) -> Result<RowTable, AllocError>
-        ensures { IfOk result (λ t. t ≡ on_grid (with_column changed.now.id.now (told_column changed.now.told)) self.now) }
+    // The table with the column of this id changed.
+    fn with_changed(&self, id: &Name, told: &Told) -> Result<RowTable, AllocError>
+        ensures { IfOk result (λ t. t ≡ on_grid (with_column id.now (told_column told.now)) self.now) }
     {
-        self.with_columns(&self.id, all_made(self.alloc(), &self.columns, changed)?)
+        let columns = all_made(
+            self.alloc(),
+            &self.columns,
+            |column| changed(column, id, told),
+        )?;
+        self.with_columns(&self.id, columns)
     }
 
     /// The table with the column of this id under another one.
     pub fn with_column_named(&self, id: &Name, new: &Name) -> Result<RowTable, AllocError>
         ensures { IfOk result (λ t. t ≡ on_grid (with_column id.now (with_name new.now)) self.now) }
     {
-        self.with_changed(&Changed {
-            id,
-            told: Told::Name(new),
-        })
+        self.with_changed(id, &Told::Name(new))
     }
 
     /// The table with the column of this id of another type or formula.
     pub fn with_column_modified(&self, id: &Name, info: &ColInfo) -> Result<RowTable, AllocError>
         ensures { IfOk result (λ t. t ≡ on_grid (with_column id.now (with_info info.now)) self.now) }
     {
-        self.with_changed(&Changed {
-            id,
-            told: Told::Info(info),
-        })
+        self.with_changed(id, &Told::Info(info))
     }
 }

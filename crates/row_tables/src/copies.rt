@@ -2,9 +2,9 @@
 
 ghost use Rattle.std.specs.Prelude.{◌≡◌, IfOk};
 
-use crate::making::{Maker, all_made};
-use cell_types::{CellValue, Name, ValueList, copy_of};
+use cell_types::{Name, ValueList, copy_of};
 use doc_model::ColDef;
+use list_ops::all_copied;
 use std::alloc::{AllocError, Global};
 
 /// A copy of a name.
@@ -21,33 +21,12 @@ pub(crate) fn copy_of_column(column: &ColDef) -> Result<ColDef, AllocError>
     column.clone()
 }
 
-#[derive(Drop)]
-struct ValueCopies;
-
-impl Maker<CellValue> for ValueCopies {
-    type Made = CellValue;
-
-    ghost made = { λ _ v. v };
-
-    fn make(&self, value: &CellValue) -> Result<CellValue, AllocError> {
-        copy_of(value)
-    }
-}
-
-#[derive(Drop)]
-struct RowCopies {
-    alloc: Global,
-}
-
-impl Maker<ValueList> for RowCopies {
-    type Made = ValueList;
-
-    ghost made = { λ _ l. l };
-
-    fn make(&self, values: &ValueList) -> Result<ValueList, AllocError> {
-        let copies = all_made(self.alloc, values.as_slice(), &ValueCopies)?;
-        Ok(ValueList::from(copies))
-    }
+// Copies of the cells of a row.
+fn copy_of_values(alloc: Global, values: &ValueList) -> Result<ValueList, AllocError>
+    ensures { IfOk result (λ l. l ≡ values.now) }
+{
+    let copies = all_copied(alloc, values.as_slice(), |value| copy_of(value))?;
+    Ok(ValueList::from(copies))
 }
 
 /// Copies of the cells of rows.
@@ -57,5 +36,5 @@ pub(crate) fn copy_of_cells(
 ) -> Result<Vec<ValueList>, AllocError>
     ensures { IfOk result (λ v. v.items ≡ cells.now) }
 {
-    all_made(alloc, cells, &RowCopies { alloc })
+    all_copied(alloc, cells, |values| copy_of_values(alloc, values))
 }

@@ -1,12 +1,12 @@
 //! Tables filled cell by cell.
 
-ghost use Rattle.std.specs.Prelude.{◌≡◌, IfOk};
+ghost use Rattle.std.specs.Prelude.{◌≡◌, IfOk, map};
 ghost use Rattle.doc_model.specs.Grid.{grid_of};
 
 use crate::RowTable;
-use crate::making::{Maker, all_made};
 use cell_types::{CellValue, ValueList};
 use doc_model::ColDef;
+use list_ops::all_made;
 use std::alloc::{AllocError, Global};
 
 /// What a table is filled with.
@@ -23,45 +23,17 @@ pub(crate) trait CellSource {
         ensures { IfOk result (λ v. v ≡ value_at self.now column.now row) };
 }
 
-// The cells of a row.
-#[derive(Drop)]
-struct InRow<'a, S> {
-    source: &'a S,
-    row: u32,
-}
-
-impl<S: CellSource> Maker<ColDef> for InRow<'_, S> {
-    type Made = CellValue;
-
-    ghost made = { λ a d. S.value_at a.source.now d a.row };
-
-    fn make(&self, column: &ColDef) -> Result<CellValue, AllocError> {
-        self.source.value(column, self.row)
-    }
-}
-
-// The cells of rows, in these columns.
-#[derive(Drop)]
-struct InRows<'a, S> {
+// The cells of a row, in these columns.
+fn row_filled<S: CellSource>(
     alloc: Global,
-    columns: &'a [ColDef],
-    source: &'a S,
-}
-
-impl<S: CellSource> Maker<u32> for InRows<'_, S> {
-    type Made = ValueList;
-
-    ghost use Rattle.std.specs.Prelude.{map};
-
-    ghost made = { λ a r. map (λ d. S.value_at a.source.now d r) a.columns.now };
-
-    fn make(&self, row: &u32) -> Result<ValueList, AllocError> {
-        let source = InRow {
-            source: self.source,
-            row: *row,
-        };
-        Ok(ValueList::from(all_made(self.alloc, self.columns, &source)?))
-    }
+    columns: &[ColDef],
+    row: u32,
+    source: &S,
+) -> Result<ValueList, AllocError>
+    ensures { IfOk result (λ l. l ≡ map (λ d. S.value_at source.now d row) columns.now) }
+{
+    let cells = all_made(alloc, columns, |column| source.value(column, row))?;
+    Ok(ValueList::from(cells))
 }
 
 /// The cells of these columns and rows, as the source gives them.
@@ -73,12 +45,7 @@ pub(crate) fn filled<S: CellSource>(
 ) -> Result<Vec<ValueList>, AllocError>
     ensures { IfOk result (λ v. v.items ≡ (grid_of columns.now rows.now (S.value_at source.now)).cells) }
 {
-    let filling = InRows {
-        alloc,
-        columns,
-        source,
-    };
-    all_made(alloc, rows, &filling)
+    all_made(alloc, rows, |row| row_filled(alloc, columns, *row, source))
 }
 
 /// A table whose cells stay as they are.

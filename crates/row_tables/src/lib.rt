@@ -28,7 +28,6 @@ mod given;
 mod in_place;
 mod known;
 mod look;
-mod making;
 mod metadata;
 mod plain_change;
 mod put;

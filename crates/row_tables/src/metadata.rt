@@ -1,13 +1,13 @@
 //! The tables that every new document has, and their columns.
 
 ghost use Rattle.std.specs.Prelude.{◌≡◌, IfOk, [], map};
-ghost use Rattle.row_tables.specs.Known.{known_column, known_columns, known_info, known_row, known_table, known_text, known_type};
+ghost use Rattle.row_tables.specs.Known.{empty_table, known_column, known_columns, known_info, known_row, known_table, known_text, known_type};
 
 use crate::RowTable;
 use crate::known::{Known, name_of};
-use crate::making::{Maker, all_made};
 use cell_types::{CellText, ColType, ValueList};
 use doc_model::{ColDef, ColInfo};
+use list_ops::all_made;
 use std::alloc::{AllocError, Global};
 
 /// The type of a column that every new document has.
@@ -81,25 +81,13 @@ fn info_of(alloc: Global, ty: KnownType) -> Result<ColInfo, AllocError>
     })
 }
 
-#[derive(Drop)]
-struct KnownColumns {
-    alloc: Global,
-}
-
-impl Maker<KnownColumn> for KnownColumns {
-    ghost use Rattle.row_tables.specs.Known.{known_column};
-
-    type Made = ColDef;
-
-    ghost made = { λ _ column. known_column column };
-
-    fn make(&self, column: &KnownColumn) -> Result<ColDef, AllocError> {
-        let alloc = self.alloc;
-        let KnownColumn(known, ty, row) = *column;
-        let info = info_of(alloc, ty)?;
-        let id = name_of(alloc, known)?;
-        Ok(ColDef { id, info, row })
-    }
+fn known_column(alloc: Global, column: &KnownColumn) -> Result<ColDef, AllocError>
+    ensures { IfOk result (λ d. d ≡ known_column column.now) }
+{
+    let KnownColumn(known, ty, row) = *column;
+    let info = info_of(alloc, ty)?;
+    let id = name_of(alloc, known)?;
+    Ok(ColDef { id, info, row })
 }
 
 // The row that describes a table.
@@ -118,7 +106,11 @@ pub(crate) fn known_table(
 ) -> Result<RowTable, AllocError>
     ensures { IfOk result (λ t. t ≡ known_table known rows.items cells.items) }
 {
-    let columns = all_made(alloc, columns_told(known), &KnownColumns { alloc })?;
+    let columns = all_made(
+        alloc,
+        columns_told(known),
+        |column| known_column(alloc, column),
+    )?;
     let id = name_of(alloc, known)?;
     Ok(RowTable {
         id,
@@ -129,25 +121,9 @@ pub(crate) fn known_table(
     })
 }
 
-/// Such tables without rows.
-#[derive(Drop)]
-pub(crate) struct EmptyTables {
-    pub(crate) alloc: Global,
-}
-
-impl Maker<Known> for EmptyTables {
-    ghost use Rattle.row_tables.specs.Known.{empty_table};
-
-    type Made = RowTable;
-
-    ghost made = { λ _ known. empty_table known };
-
-    fn make(&self, known: &Known) -> Result<RowTable, AllocError> {
-        known_table(
-            self.alloc,
-            *known,
-            Vec::new(self.alloc),
-            Vec::new(self.alloc),
-        )
-    }
+/// Such a table without rows.
+pub(crate) fn empty_table(alloc: Global, known: Known) -> Result<RowTable, AllocError>
+    ensures { IfOk result (λ t. t ≡ empty_table known) }
+{
+    known_table(alloc, known, Vec::new(alloc), Vec::new(alloc))
 }

@@ -3,17 +3,17 @@
 ghost use Rattle.std.specs.Prelude.{◌≡◌, ◌∷◌, ◌++◌, [], IfOk};
 ghost use Rattle.cell_types.specs.declared.value.CellValue.TheVariants.{Bool, Text};
 ghost use Rattle.doc_model.specs.MetadataIds.{columns_id, tables_id};
-ghost use Rattle.doc_model.specs.Schema.{columns_grid, metadata_table, tables_grid, type_text};
+ghost use Rattle.doc_model.specs.Schema.{columns_grid, describe, metadata_table, tables_grid, type_text};
 ghost use Rattle.row_tables.specs.Back.{with_tables};
 
 use crate::RowTable;
 use crate::described::{Described, columns_in_order};
 use crate::in_place::swap_at;
 use crate::known::Known;
-use crate::making::{Maker, all_made};
 use crate::metadata::known_table;
 use cell_types::{CellText, CellValue, ColType, Name, ValueList};
 use doc_model::ColInfo;
+use list_ops::all_made;
 use std::alloc::{AllocError, Global};
 
 fn add_cell(cells: &mut Vec<CellValue>, value: CellValue) -> Result<(), AllocError>
@@ -37,45 +37,12 @@ fn name_cells(alloc: Global, name: &Name) -> Result<ValueList, AllocError>
     Ok(ValueList::from(cells))
 }
 
-#[derive(Drop)]
-struct TableRows;
-
-impl Maker<RowTable> for TableRows {
-    ghost use Rattle.doc_model.specs.Document.{table_row};
-
-    type Made = u32;
-
-    ghost made = { λ _ table. table_row table };
-
-    fn make(&self, table: &RowTable) -> Result<u32, AllocError> {
-        Ok(table.row())
-    }
-}
-
-#[derive(Drop)]
-struct TableCells {
-    alloc: Global,
-}
-
-impl Maker<RowTable> for TableCells {
-    ghost use Rattle.std.specs.Prelude.{[], ◌∷◌};
-    ghost use Rattle.cell_types.specs.declared.value.CellValue.TheVariants.{Text};
-
-    type Made = ValueList;
-
-    ghost made = { λ _ table. Text table.id ∷ [] };
-
-    fn make(&self, table: &RowTable) -> Result<ValueList, AllocError> {
-        name_cells(self.alloc, table.id())
-    }
-}
-
 // The table of tables that describes these tables.
 fn table_of_tables(alloc: Global, plain: &[RowTable]) -> Result<RowTable, AllocError>
     ensures { IfOk result (λ t. t ≡ metadata_table tables_id (tables_grid plain.now)) }
 {
-    let rows = all_made(alloc, plain, &TableRows)?;
-    let cells = all_made(alloc, plain, &TableCells { alloc })?;
+    let rows = all_made(alloc, plain, |table| Ok(table.row()))?;
+    let cells = all_made(alloc, plain, |table| name_cells(alloc, table.id()))?;
     known_table(alloc, Known::Tables, rows, cells)
 }
 
@@ -111,40 +78,15 @@ fn add_info(alloc: Global, cells: &mut Vec<CellValue>, info: &ColInfo) -> Result
     add_cell(cells, CellValue::Text(info.formula.clone()?))
 }
 
-#[derive(Drop)]
-struct ColumnRows;
-
-impl Maker<Described> for ColumnRows {
-    ghost use Rattle.doc_model.specs.Schema.{described_row};
-
-    type Made = u32;
-
-    ghost made = { λ _ told. described_row told };
-
-    fn make(&self, told: &Described) -> Result<u32, AllocError> {
-        Ok(told.row())
-    }
-}
-
-#[derive(Drop)]
-struct ColumnCells {
-    alloc: Global,
-}
-
-impl Maker<Described> for ColumnCells {
-    ghost use Rattle.doc_model.specs.Schema.{describe};
-
-    type Made = ValueList;
-
-    ghost made = { λ _ told. describe told };
-
-    fn make(&self, told: &Described) -> Result<ValueList, AllocError> {
-        let mut cells = Vec::with_capacity(self.alloc, 5)?;
-        add_cell(&mut cells, CellValue::Int(i64::from(told.parent)))?;
-        add_cell(&mut cells, name_cell(self.alloc, &told.column.id)?)?;
-        add_info(self.alloc, &mut cells, &told.column.info)?;
-        Ok(ValueList::from(cells))
-    }
+// The cells of the row that describes a column.
+fn described_cells(alloc: Global, told: &Described) -> Result<ValueList, AllocError>
+    ensures { IfOk result (λ l. l ≡ describe told.now) }
+{
+    let mut cells = Vec::with_capacity(alloc, 5)?;
+    add_cell(&mut cells, CellValue::Int(i64::from(told.parent)))?;
+    add_cell(&mut cells, name_cell(alloc, &told.column.id)?)?;
+    add_info(alloc, &mut cells, &told.column.info)?;
+    Ok(ValueList::from(cells))
 }
 
 // The table of columns that describes the columns of these tables.
@@ -152,8 +94,8 @@ fn table_of_columns(alloc: Global, plain: &[RowTable]) -> Result<RowTable, Alloc
     ensures { IfOk result (λ t. t ≡ metadata_table columns_id (columns_grid plain.now)) }
 {
     let sorted = columns_in_order(alloc, plain)?;
-    let rows = all_made(alloc, &sorted, &ColumnRows)?;
-    let cells = all_made(alloc, &sorted, &ColumnCells { alloc })?;
+    let rows = all_made(alloc, &sorted, |told| Ok(told.row()))?;
+    let cells = all_made(alloc, &sorted, |told| described_cells(alloc, told))?;
     known_table(alloc, Known::Columns, rows, cells)
 }
 

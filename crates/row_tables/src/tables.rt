@@ -1,19 +1,21 @@
 //! A whole document as plain tables.
 
-ghost use Rattle.std.specs.Prelude.{◌≡◌, IfOk};
+ghost use Rattle.std.specs.Prelude.{◌≡◌, ◌∷◌, [], IfOk, map};
 ghost use Rattle.std.specs.Option.{option_copied};
 ghost use Rattle.doc_model.specs.ByIds.{find_id};
 ghost use Rattle.doc_model.specs.Document.{table_id};
 ghost use Rattle.doc_model.specs.NewDocument.{new_document};
+ghost use Rattle.row_tables.specs.declared.known.Known.TheVariants.{Columns, Resources, Rules, Table1, Tables};
+ghost use Rattle.row_tables.specs.Known.{empty_table};
 
 use crate::RowTable;
 use crate::known::Known;
-use crate::making::all_made;
-use crate::metadata::EmptyTables;
+use crate::metadata::empty_table;
 use crate::put::{Replaced, action_put, put_back};
 use crate::schema::{schema_tables, swap_schema};
 use cell_types::{CellValue, Name};
 use doc_model::{ColDef, DocAction, DocTables};
+use list_ops::all_made;
 use std::alloc::{AllocError, Global};
 use std::marker::Model;
 
@@ -46,11 +48,18 @@ const FIRST_TABLES: [Known; 5] = [
     Known::Table1,
 ];
 
+// Those tables without rows.
+fn empty_tables(alloc: Global) -> Result<Vec<RowTable>, AllocError>
+    ensures { IfOk result (λ v. v.items ≡ map empty_table (Tables ∷ Columns ∷ Resources ∷ Rules ∷ Table1 ∷ [])) }
+{
+    all_made(alloc, &FIRST_TABLES, |known| empty_table(alloc, *known))
+}
+
 // The tables of a new document.
 fn new_tables(alloc: Global) -> Result<Vec<RowTable>, AllocError>
     ensures { IfOk result (λ v. v.items ≡ new_document) }
 {
-    let mut tables = all_made(alloc, &FIRST_TABLES, &EmptyTables { alloc })?;
+    let mut tables = empty_tables(alloc)?;
     let schema = schema_tables(alloc, &tables[4..])?;
     let _without_rows = swap_schema(&mut tables, schema);
     Ok(tables)

@@ -6,7 +6,7 @@ use Rattle.plain_view.proofs.Steps.{each_item}
 use Rattle.plain_view.proofs.patching.patch.Goals as goal
 
 pub loop-index-init : goal.loop-index-init
-loop-index-init c = leads_first c.args.view.now.tables c.into_vec-tables.result.items c.args.actions.now (c.into_vec-tables.ensures ∙ c.in_ok-copied.ensures) c.requires.view
+loop-index-init c = leads_first c.args.view.now.tables c.in_ok-tables.tables.items c.args.actions.now (c.in_ok-tables.ensures ∙ c.as_slice.ensures) c.requires.view
 
 pub step-requires-clause-view : goal.step-requires-clause-view
 step-requires-clause-view c = c.loop-index.invariant.view

@@ -5,10 +5,10 @@ use Rattle.plain_view.specs.declared.patching.PatchFault.TheVariants.{NoMemory, 
 
 -- the index of the first action that does not fit; out of memory tells nothing
 abbrev pub tells : PatchFault → Option ℕ → Type 0
-tells (Unfit index) index = index ≡ Some index
-tells NoMemory index = ⊤
+tells (Unfit index) unfit = unfit ≡ Some index
+tells NoMemory unfit = ⊤
 
 -- this index, where the action does not fit
 abbrev pub tells_here : PatchFault → Bool → ℕ → Type 0
-tells_here (Unfit index) fit index = (fit ≡ false) × (index ≡ index)
-tells_here NoMemory fit index = ⊤
+tells_here (Unfit index) fit here = (fit ≡ false) × (index ≡ here)
+tells_here NoMemory fit here = ⊤

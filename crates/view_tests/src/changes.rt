@@ -147,7 +147,7 @@ static REMOVED_TWICE: [Step; 2] = [Step::Removed(&[2]), Step::Removed(&[2])];
 
 fn is_unfit(patched: &Result<View, PatchFault>, index: u32) -> bool {
     match patched {
-        Err(PatchFault::Unfit { index }) => *index == index,
+        Err(PatchFault::Unfit { index: found }) => *found == index,
         _ => false,
     }
 }

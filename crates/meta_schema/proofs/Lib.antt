@@ -6,3 +6,4 @@ pub mod SaidLemmas
 pub mod SchemaLawLemmas
 pub mod TextLemmas
 pub mod WholeAgrees
+mod AsTold

@@ -125,8 +125,8 @@ fn tables_agree<D: DocTables>(tables: &D, said: &Name, columns: &Name) -> bool
 
 /// Whether a document agrees with its schema, as far as a store tells it.
 ///
-/// No store tells the metadata row of a table: it counts as the one that the table of tables has
-/// for it.
+/// No store tells the metadata row of a table: it is the one that the table of tables has for it.
+/// `told_agrees_law` says that this is agreement for every sound document, as a store tells it.
 ///
 /// Memory: none. Cost: linear in the tables and columns, in cells of the store.
 pub fn agrees<D: DocTables>(tables: &D) -> bool

@@ -4,7 +4,8 @@
 //! Used by the crates that read lines and put actions.
 //!
 //! Promises: `is_name` is the definition in specs/NameRule.antt of `cell_types`, and takes no
-//! memory; what it takes has the length of a name; `name_of` makes it one. `free_name` is the definition in
+//! memory; what it takes has the length of a name; `name_of` makes it one. `free_name` is the
+//! definition in
 //! specs/FreeName.antt: the wanted id where it is free, otherwise the wanted id with the least
 //! number from 2 upwards that makes it free. There is such a number below 102 and 12 more for each
 //! taken name, and what is made of a good name is one; `fresh_law` says so of the definition.

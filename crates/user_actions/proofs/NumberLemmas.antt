@@ -1,7 +1,7 @@
 -- Numbers that stand once.
 use Rattle.std.proofs.Common.{ℕ, ℤ, zero, suc, ◌+◌, ◌-◌, ◌<◌, Bool, true, false, cond, not, ◌&&◌, ◌||◌, List, [], ◌∷◌, drop, length, get_or, ◌≡◌, refl, sym, ap, ◌∙◌, drop-cons, arith}
 use Rattle.std.specs.Ordering.{int_cmp, is_eq}
-use Rattle.user_actions.specs.Objections.{are_once, has_number}
+use Rattle.user_actions.specs.Objections.{have_no_duplicates, has_number}
 
 cond_or : (a b : Bool) → cond a true b ≡ (a || b)
 cond_or true b = refl
@@ -12,11 +12,11 @@ and_false true = refl
 and_false false = refl
 
 -- a list has a repeat where it has one further on
-pub are_once-drop : (k : ℕ) (ns : List ℤ) → are_once (drop k ns) ≡ false → are_once ns ≡ false
-are_once-drop zero ns h = h
-are_once-drop (suc k) [] h = h
-are_once-drop (suc k) (n ∷ ns) h =
-    ap (λ b. not (has_number ns n) && b) (are_once-drop k ns h) ∙ and_false (not (has_number ns n))
+pub have_no_duplicates-drop : (k : ℕ) (ns : List ℤ) → have_no_duplicates (drop k ns) ≡ false → have_no_duplicates ns ≡ false
+have_no_duplicates-drop zero ns h = h
+have_no_duplicates-drop (suc k) [] h = h
+have_no_duplicates-drop (suc k) (n ∷ ns) h =
+    ap (λ b. not (has_number ns n) && b) (have_no_duplicates-drop k ns h) ∙ and_false (not (has_number ns n))
 
 -- the last number but so many, and those behind it
 pub drop_before : (ns : List ℤ) (k : ℕ) (d : ℤ) → k < length ns
@@ -42,11 +42,11 @@ not_true true h = cc
 not_true false h = refl
 
 -- a number that a set had before stands twice
-pub seen_before : (n : ℤ) (all ns : List ℤ) {b : Bool} → all ≡ n ∷ ns → b ≡ has_number ns n → false ≡ not b → are_once all ≡ false
+pub seen_before : (n : ℤ) (all ns : List ℤ) {b : Bool} → all ≡ n ∷ ns → b ≡ has_number ns n → false ≡ not b → have_no_duplicates all ≡ false
 seen_before n all ns {b = b} e h new =
-    ap are_once e ∙ ap (λ t. not t && are_once ns) (sym h ∙ not_false b new)
+    ap have_no_duplicates e ∙ ap (λ t. not t && have_no_duplicates ns) (sym h ∙ not_false b new)
 
 -- a number that a set had not stands once
-pub new_one : (n : ℤ) (all ns : List ℤ) {b : Bool} → all ≡ n ∷ ns → are_once ns ≡ true → b ≡ has_number ns n → true ≡ not b → are_once all ≡ true
+pub new_one : (n : ℤ) (all ns : List ℤ) {b : Bool} → all ≡ n ∷ ns → have_no_duplicates ns ≡ true → b ≡ has_number ns n → true ≡ not b → have_no_duplicates all ≡ true
 new_one n all ns {b = b} e once h new =
-    ap are_once e ∙ ap (λ t. not t && are_once ns) (sym h ∙ not_true b new) ∙ once
+    ap have_no_duplicates e ∙ ap (λ t. not t && have_no_duplicates ns) (sym h ∙ not_true b new) ∙ once

@@ -32,7 +32,7 @@ use Rattle.doc_model.proofs.DocumentParts.{passes_parts}
 use Rattle.doc_model.proofs.TimesLaws.{once_ascending}
 use Rattle.doc_readers.specs.Parts.{grid_at}
 use Rattle.user_actions.specs.Allowed.{may_give, may_name}
-use Rattle.user_actions.specs.Objections.{are_once, has_base, has_number, is_row}
+use Rattle.user_actions.specs.Objections.{have_no_duplicates, has_base, has_number, is_row}
 use Rattle.user_actions.specs.Steps.{all_fitted, fitted, last_row, numbers_after, row_ids, type_in}
 
 -- ---- new rows
@@ -101,10 +101,10 @@ has_ids known (n ∷ ns) r h gone =
     int_itself : (z : ℤ) → int_eq z z ≡ true
     int_itself z = int_eq_equiv.refl z
 
-ids_once : (known : List ℕ) (ns : List ℤ) → are_once ns ≡ true → list_all (is_row known) ns ≡ true → has_no_duplicates (row_ids ns) ≡ true
+ids_once : (known : List ℕ) (ns : List ℤ) → have_no_duplicates ns ≡ true → list_all (is_row known) ns ≡ true → has_no_duplicates (row_ids ns) ≡ true
 ids_once known [] once h = refl
 ids_once known (n ∷ ns) once h =
-    let o : (not (has_number ns n) ≡ true) × (are_once ns ≡ true) = and_parts (not (has_number ns n)) (are_once ns) once in
+    let o : (not (has_number ns n) ≡ true) × (have_no_duplicates ns ≡ true) = and_parts (not (has_number ns n)) (have_no_duplicates ns) once in
     let p : (is_row known n ≡ true) × (list_all (is_row known) ns ≡ true) = and_parts (is_row known n) (list_all (is_row known) ns) h in
     let m : (m : ℕ) × (n ≡ pos m) × (row_number n ≡ Some m) × (has known m ≡ true) = row_of known n p.0 in
     let absent : has_number ns (pos m.0) ≡ false = ap (has_number ns) (sym m.1) ∙ not_true (has_number ns n) o.0 in
@@ -203,7 +203,7 @@ module _ (fits : (ty : ColType) (vs : List CellValue) → list_all is_base vs �
       (λ t found m.
       let g : grid_at s table ≡ t.grid = grid_found s table t found in
       let a : (may_name t.grid.rows rows ≡ true) × (list_all (may_give t.grid) ks ≡ true) = and_parts (may_name t.grid.rows rows) (list_all (may_give t.grid) ks) m in
-      let b : (are_once rows ≡ true) × (list_all (is_row t.grid.rows) rows ≡ true) = and_parts (are_once rows) (list_all (is_row t.grid.rows) rows) a.0 in
+      let b : (have_no_duplicates rows ≡ true) × (list_all (is_row t.grid.rows) rows ≡ true) = and_parts (have_no_duplicates rows) (list_all (is_row t.grid.rows) rows) a.0 in
       let known : all_in (row_ids rows) t.grid.rows ≡ true = ids_in t.grid.rows rows b.1 in
       both_true ((has_no_duplicates (row_ids rows) && from_one (row_ids rows)) && all_in (row_ids rows) t.grid.rows) (gives_data t.grid (row_ids rows) (all_fitted s table ks))
       (both_true (has_no_duplicates (row_ids rows) && from_one (row_ids rows)) (all_in (row_ids rows) t.grid.rows)
@@ -215,5 +215,5 @@ module _ (fits : (ty : ColType) (vs : List CellValue) → list_all is_base vs �
   valid-remove s table rows may =
       plain_records s table (λ t. may_name t.grid.rows rows) (λ t. has_no_duplicates (row_ids rows) && all_in (row_ids rows) t.grid.rows)
       (λ t found m.
-      let b : (are_once rows ≡ true) × (list_all (is_row t.grid.rows) rows ≡ true) = and_parts (are_once rows) (list_all (is_row t.grid.rows) rows) m in
+      let b : (have_no_duplicates rows ≡ true) × (list_all (is_row t.grid.rows) rows ≡ true) = and_parts (have_no_duplicates rows) (list_all (is_row t.grid.rows) rows) m in
       both_true (has_no_duplicates (row_ids rows)) (all_in (row_ids rows) t.grid.rows) (ids_once t.grid.rows rows b.0 b.1) (ids_in t.grid.rows rows b.1)) may

@@ -25,7 +25,7 @@ use Rattle.doc_model.specs.declared.refusal.Refusal.{Refusal}
 use Rattle.doc_model.specs.declared.refusal.Refusal.TheVariants as refusal
 use Rattle.user_actions.specs.Allowed.{may_give, may_name}
 use Rattle.user_actions.specs.Infos.{is_plain}
-use Rattle.user_actions.specs.Objections.{against, are_once, has_base, has_good_id, in_records, in_schema, in_table, is_computed, is_row, is_shown, on_change, on_columns, on_rows, on_values, to_records, to_schema}
+use Rattle.user_actions.specs.Objections.{against, have_no_duplicates, has_base, has_good_id, in_records, in_schema, in_table, is_computed, is_row, is_shown, on_change, on_columns, on_rows, on_values, to_records, to_schema}
 use Rattle.user_actions.specs.Unopposed.{IsColumnOf, IsTableOf, UnopposedLaw}
 
 -- nothing applies
@@ -143,9 +143,9 @@ columns_none s t p ks next base h =
 
 rows_none : (s : Document) (t : ViewTable) (p : IsTableOf s t) (rows : List ℤ) (next : Option Refusal) → on_rows t rows next ≡ None → (may_name p.table.grid.rows rows ≡ true) × (next ≡ None)
 rows_none s t p rows next h =
-    let a : (are_once rows ≡ true) × (against (not (list_all (is_row t.rows) rows)) refusal.NoSuchRow next ≡ None) = needs_none (are_once rows) refusal.DuplicateRow (against (not (list_all (is_row t.rows) rows)) refusal.NoSuchRow next) h in
+    let a : (have_no_duplicates rows ≡ true) × (against (not (list_all (is_row t.rows) rows)) refusal.NoSuchRow next ≡ None) = needs_none (have_no_duplicates rows) refusal.DuplicateRow (against (not (list_all (is_row t.rows) rows)) refusal.NoSuchRow next) h in
     let b : (list_all (is_row t.rows) rows ≡ true) × (next ≡ None) = needs_none (list_all (is_row t.rows) rows) refusal.NoSuchRow next a.1 in
-    (both_true (are_once rows) (list_all (is_row p.table.grid.rows) rows) a.0 (rows_known t.rows p.table.grid.rows p.rows rows b.0), b.1)
+    (both_true (have_no_duplicates rows) (list_all (is_row p.table.grid.rows) rows) a.0 (rows_known t.rows p.table.grid.rows p.rows rows b.0), b.1)
 
 values_none : (ks : List UserColumn) → on_values ks ≡ None → list_all has_base ks ≡ true
 values_none ks h = lone_none (list_all has_base ks) refusal.BadValue h

@@ -12,7 +12,7 @@ use Rattle.doc_model.specs.Document.{Document}
 use Rattle.doc_model.specs.Grid.{Grid}
 use Rattle.doc_model.specs.Valid.{is_data, passes, schema_table}
 use Rattle.user_actions.specs.Infos.{is_plain}
-use Rattle.user_actions.specs.Objections.{are_once, has_base, has_good_id, is_row}
+use Rattle.user_actions.specs.Objections.{have_no_duplicates, has_base, has_good_id, is_row}
 
 abbrev pub has_name : UserColumn → Bool
 has_name k = is_name k.id
@@ -22,7 +22,7 @@ abbrev pub may_give : Grid ColDef → UserColumn → Bool
 may_give g k = is_data g k.id && has_base k
 
 abbrev pub may_name : List ℕ → List ℤ → Bool
-may_name known rows = are_once rows && list_all (is_row known) rows
+may_name known rows = have_no_duplicates rows && list_all (is_row known) rows
 
 -- whether the document has what the action names, and the action gives what may be given
 abbrev pub is_allowed : Document → UserAction → Bool

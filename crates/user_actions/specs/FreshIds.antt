@@ -29,7 +29,7 @@ FreshIdsLaw =
     (s : Document) (a : UserAction) → IsWhole s → is_allowed s a ≡ true → HasFewIds s a
     → HasFresh s a
 
--- each step of an action that a document allows is valid at its place
+-- each step of an action that a document allows is valid at its index
 abbrev pub StepsLaw : Type 0
 StepsLaw =
     (s : Document) (a : UserAction) → IsWhole s → is_allowed s a ≡ true → has_whole_columns a ≡ true

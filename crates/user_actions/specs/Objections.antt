@@ -45,9 +45,9 @@ abbrev pub has_number : List ℤ → ℤ → Bool
 has_number numbers n = list_any (λ m. int_eq m n) numbers
 
 -- whether no number stands twice
-abbrev pub are_once : List ℤ → Bool
-are_once [] = true
-are_once (n ∷ numbers) = not (has_number numbers n) && are_once numbers
+abbrev pub have_no_duplicates : List ℤ → Bool
+have_no_duplicates [] = true
+have_no_duplicates (n ∷ numbers) = not (has_number numbers n) && have_no_duplicates numbers
 
 -- whether the row is one of these
 abbrev pub is_row : List ℕ → ℤ → Bool
@@ -56,7 +56,7 @@ is_row rows n = elim (row_number n) [ None ↦ false | Some r ↦ has rows r ]
 -- rows that are given: each once, and each in the table
 abbrev pub on_rows : ViewTable → List ℤ → Option Refusal → Option Refusal
 on_rows t rows next =
-    against (not (are_once rows)) refusal.DuplicateRow
+    against (not (have_no_duplicates rows)) refusal.DuplicateRow
     (against (not (list_all (is_row t.rows) rows)) refusal.NoSuchRow next)
 
 abbrev pub is_shown : List ViewCol → UserColumn → Bool

@@ -121,14 +121,16 @@ modified table g c =
 -- the document actions of a user action; a rename to the own id is none
 abbrev pub steps_of : Document → UserAction → List Step
 steps_of s (user.Add table single count has_row_ids ks) =
-    direct (action.BulkAdd table (numbers_after (last_row s table) count) (all_fitted s table ks)) ∷ []
+    direct (action.BulkAdd table (numbers_after (last_row s table) count) (all_fitted s table ks))
+    ∷ []
 steps_of s (user.Update table single rows ks) =
     if_any (row_ids rows) (direct (action.BulkUpdate table (row_ids rows) (all_fitted s table ks)))
 steps_of s (user.Remove table single rows) = direct (action.BulkRemove table (row_ids rows)) ∷ []
 steps_of s (user.AddTable table cs) = direct (table_said s table cs) ∷ []
 steps_of s (user.RemoveTable table) = direct (action.RemoveTable table) ∷ []
 steps_of s (user.RenameTable table new) =
-    cond (bytes_eq table new) [] (direct (action.RenameTable table (free_name (table_ids s) new)) ∷ [])
+    cond (bytes_eq table new) []
+    (direct (action.RenameTable table (free_name (table_ids s) new)) ∷ [])
 steps_of s (user.AddColumn table c) = direct (action.AddColumn table (column_said s table c)) ∷ []
 steps_of s (user.RemoveColumn table column) = direct (action.RemoveColumn table column) ∷ []
 steps_of s (user.RenameColumn table column new) =

@@ -54,7 +54,9 @@ fn growing_steps<D: DocTables>(
     requires named { table.now ≡ table_of action.now }
     requires grows { makes_rows action.now ≡ true }
     ensures fresh { IfOk result (λ _. HasFresh (D.document tables.now) action.now) }
-    ensures made { IfOk result (λ o. MatchOption o (4294967295 < last_new_row (D.document tables.now) action.now) (λ l. l ≡ steps_of (D.document tables.now) action.now)) }
+    ensures made { IfOk result
+        (λ o. MatchOption o (4294967295 < last_new_row (D.document tables.now) action.now)
+        (λ l. l ≡ steps_of (D.document tables.now) action.now)) }
 {
     match action {
         UserAction::Add { count, columns, .. } => {
@@ -127,8 +129,12 @@ pub fn steps<D: DocTables>(
     requires whole { IsWhole (D.document tables.now) }
     requires allowed { is_allowed (D.document tables.now) action.now ≡ true }
     requires well_formed { has_whole_columns action.now ≡ true }
-    ensures valid { IfOk result (λ _. all_valid (D.document tables.now) (map action_of (steps_of (D.document tables.now) action.now)) ≡ true) }
-    ensures made { IfOk result (λ o. MatchOption o (4294967295 < last_new_row (D.document tables.now) action.now) (λ l. l ≡ steps_of (D.document tables.now) action.now)) }
+    ensures valid { IfOk result
+        (λ _. all_valid (D.document tables.now)
+        (map action_of (steps_of (D.document tables.now) action.now)) ≡ true) }
+    ensures made { IfOk result
+        (λ o. MatchOption o (4294967295 < last_new_row (D.document tables.now) action.now)
+        (λ l. l ≡ steps_of (D.document tables.now) action.now)) }
 {
     let table = name_of(alloc, table_of(action))?;
     if makes_rows(action) {

@@ -8,7 +8,10 @@ use doc_model::UserCol;
 
 // The type of numbers, truths or dates that a text names.
 fn scalar_type_of(text: &str) -> Option<ColType>
-    ensures { result ≡ named text.now (codes "Int") ColType.Int (named text.now (codes "Bool") ColType.Bool (named text.now (codes "Date") ColType.Date None)) }
+    ensures { result
+        ≡ named text.now (codes "Int") ColType.Int
+        (named text.now (codes "Bool") ColType.Bool
+        (named text.now (codes "Date") ColType.Date None)) }
 {
     if text == "Int" {
         return Some(ColType::Int);

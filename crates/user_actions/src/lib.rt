@@ -6,12 +6,12 @@
 //! Promises: `refuse` answers the first objection of specs/Objections.antt, from the action and the
 //! view alone; `one_table_law` says that the view of the table that the action names is enough.
 //! `steps` gives the document actions of specs/Steps.antt, over any store of a whole document, and
-//! nothing exactly where a new row would pass the last row id; each step is valid at its place. It
+//! nothing exactly where a new row would pass the last row id; each step is valid at its index. It
 //! wants an action that the document allows; `unopposed_law` says that each action is allowed that
 //! is not refused in some view of the document. `steps_law` and `fresh_ids_law` say of the
 //! definitions that steps are valid and new ids free, beside at most 2^60 ids.
 //! Not promised: that memory is found. Formulas, references and the tables of access rules are
-//! refused, since they are not built; what cannot come then has no steps.
+//! refused, since they are not built; what they would bring has no steps.
 //! Read first: specs/Objections.antt and refusing.rt, then specs/Steps.antt and expanding.rt.
 #![tactic(auto)]
 

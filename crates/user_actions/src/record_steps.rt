@@ -75,7 +75,9 @@ fn fit_in<D: DocTables>(
     values: &[CellValue],
 ) -> Result<ValueList, AllocError>
     requires { IsWhole (D.document tables.now) }
-    ensures { IfOk result (λ l. l ≡ map (fit (type_in (grid_at (D.document tables.now) table.now) id.now)) values.now) }
+    ensures { IfOk result
+        (λ l. l ≡ map
+        (fit (type_in (grid_at (D.document tables.now) table.now) id.now)) values.now) }
 {
     match find_column(tables, table, id) {
         Some(known) => fit_values(alloc, &known.info.ty, values),
@@ -140,7 +142,9 @@ fn added<D: DocTables>(
     requires whole { IsWhole (D.document tables.now) }
     requires names { list_all has_name columns.now ≡ true }
     requires fits { last + count ≤ 4294967295 }
-    ensures { IfOk result (λ a. a ≡ BulkAdd table.now (numbers_after last count) (all_fitted (D.document tables.now) table.now columns.now)) }
+    ensures { IfOk result
+        (λ a. a ≡ BulkAdd table.now (numbers_after last count)
+        (all_fitted (D.document tables.now) table.now columns.now)) }
 {
     Ok(DocAction::BulkAdd {
         table: table.clone()?,
@@ -159,7 +163,11 @@ pub(crate) fn add_steps<D: DocTables>(
 ) -> Result<Option<StepList>, AllocError>
     requires whole { IsWhole (D.document tables.now) }
     requires names { list_all has_name columns.now ≡ true }
-    ensures { IfOk result (λ o. MatchOption o (4294967295 < last_row (D.document tables.now) table.now + count) (λ l. l ≡ direct (BulkAdd table.now (numbers_after (last_row (D.document tables.now) table.now) count) (all_fitted (D.document tables.now) table.now columns.now)) ∷ [])) }
+    ensures { IfOk result
+        (λ o. MatchOption o (4294967295 < last_row (D.document tables.now) table.now + count)
+        (λ l. l ≡ direct
+        (BulkAdd table.now (numbers_after (last_row (D.document tables.now) table.now) count)
+        (all_fitted (D.document tables.now) table.now columns.now)) ∷ [])) }
 {
     let last = last_row(tables, table);
     if LAST_ROW_ID < last as u64 + count as u64 {
@@ -180,7 +188,9 @@ fn update<D: DocTables>(
 ) -> Result<DocAction, AllocError>
     requires whole { IsWhole (D.document tables.now) }
     requires names { list_all has_name columns.now ≡ true }
-    ensures { IfOk result (λ a. a ≡ BulkUpdate table.now (row_ids rows.now) (all_fitted (D.document tables.now) table.now columns.now)) }
+    ensures { IfOk result
+        (λ a. a ≡ BulkUpdate table.now (row_ids rows.now)
+        (all_fitted (D.document tables.now) table.now columns.now)) }
 {
     Ok(DocAction::BulkUpdate {
         table: table.clone()?,
@@ -199,7 +209,10 @@ pub(crate) fn update_steps<D: DocTables>(
 ) -> Result<StepList, AllocError>
     requires whole { IsWhole (D.document tables.now) }
     requires names { list_all has_name columns.now ≡ true }
-    ensures { IfOk result (λ l. l ≡ if_any (row_ids rows.now) (direct (BulkUpdate table.now (row_ids rows.now) (all_fitted (D.document tables.now) table.now columns.now)))) }
+    ensures { IfOk result
+        (λ l. l ≡ if_any (row_ids rows.now)
+        (direct (BulkUpdate table.now (row_ids rows.now)
+        (all_fitted (D.document tables.now) table.now columns.now)))) }
 {
     if rows.is_empty() {
         return Ok(StepList::new(alloc));

@@ -13,7 +13,7 @@ ghost use Rattle.user_actions.specs.Kinds.{table_of};
 ghost use Rattle.user_actions.specs.Objections.{against, has_good_id, in_records, in_schema, objection_to, on_change, on_column, on_columns, on_name, on_info, on_rows, on_table, on_values, to_records, to_schema};
 
 use crate::infos::is_plain;
-use crate::rows::{are_once, are_rows};
+use crate::rows::{are_rows, have_no_duplicates};
 use crate::tables::{find_column, find_table, has_column};
 use crate::values::{are_all_base, are_shown, is_any_computed};
 use doc_model::{Refusal, UserAction, UserCol, UserColumn, View, ViewTable};
@@ -24,7 +24,9 @@ use std::alloc::{AllocError, Global};
 // The table of a record action.
 fn records_table<'a>(tables: &'a [ViewTable], id: &str) -> Result<&'a ViewTable, Refusal>
     requires { AllByRecursion (λ t. IsShown (grid t)) tables.now }
-    ensures table { MatchResult result (λ t. (rest : ViewTable → Option Refusal) → in_records tables.now id.now rest ≡ rest t.now) (λ o. (rest : ViewTable → Option Refusal) → in_records tables.now id.now rest ≡ Some o) }
+    ensures table { MatchResult result
+        (λ t. (rest : ViewTable → Option Refusal) → in_records tables.now id.now rest ≡ rest t.now)
+        (λ o. (rest : ViewTable → Option Refusal) → in_records tables.now id.now rest ≡ Some o) }
     ensures ascending { MatchResult result (λ t. IsAscending t.now.rows) (λ _. Unit {0}) }
 {
     if is_schema_id(id) {
@@ -41,7 +43,9 @@ fn records_table<'a>(tables: &'a [ViewTable], id: &str) -> Result<&'a ViewTable,
 
 // The table of a schema action.
 fn schema_table<'a>(tables: &'a [ViewTable], id: &str) -> Result<&'a ViewTable, Refusal>
-    ensures { MatchResult result (λ t. (rest : ViewTable → Option Refusal) → in_schema tables.now id.now rest ≡ rest t.now) (λ o. (rest : ViewTable → Option Refusal) → in_schema tables.now id.now rest ≡ Some o) }
+    ensures { MatchResult result
+        (λ t. (rest : ViewTable → Option Refusal) → in_schema tables.now id.now rest ≡ rest t.now)
+        (λ o. (rest : ViewTable → Option Refusal) → in_schema tables.now id.now rest ≡ Some o) }
 {
     if is_metadata_id(id) {
         return Err(Refusal::MetaTable);
@@ -63,7 +67,8 @@ fn on_values(given: &[UserColumn]) -> Option<Refusal>
 
 // The columns that an action gives values; the next objection is that a row id is given.
 fn on_columns(table: &ViewTable, has_row_ids: bool, given: &[UserColumn]) -> Option<Refusal>
-    ensures { result ≡ on_columns table.now given.now (against has_row_ids BadValue (on_values given.now)) }
+    ensures { result
+        ≡ on_columns table.now given.now (against has_row_ids BadValue (on_values given.now)) }
 {
     let columns = table.columns.as_slice();
     if !are_shown(columns, given) {
@@ -88,7 +93,7 @@ fn on_rows(
     requires { IsAscending table.now.rows }
     ensures { IfOk result (λ o. o ≡ on_rows table.now rows.now next) }
 {
-    if !are_once(alloc, rows)? {
+    if !have_no_duplicates(alloc, rows)? {
         return Ok(Some(Refusal::DuplicateRow));
     }
     if !are_rows(table.rows.as_slice(), rows) {
@@ -250,7 +255,7 @@ fn objection_to(
 /// Why the action is refused, by its user's view alone; nothing where nothing stands against it.
 /// Limits and access rules are not asked here.
 ///
-/// Errors: out of memory. Cost: the tables, the columns of the one that is named times those that
+/// Errors: out of memory. Cost: the tables, the columns of the named table times those that
 /// are given, and the rows and values that are given.
 /// Source: docs/PROTOCOL.md, "refusals".
 pub fn refuse(

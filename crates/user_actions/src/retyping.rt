@@ -49,7 +49,10 @@ fn is_changed<D: DocTables>(
     ty: &ColType,
     row: u32,
 ) -> Result<bool, AllocError>
-    ensures { IfOk result (λ b. b ≡ not (same_value (cell column_id (grid_at (D.document tables.now) table.now) column.now row) (fit ty.now (cell column_id (grid_at (D.document tables.now) table.now) column.now row)))) }
+    ensures { IfOk result
+        (λ b. b ≡ not
+        (same_value (cell column_id (grid_at (D.document tables.now) table.now) column.now row)
+        (fit ty.now (cell column_id (grid_at (D.document tables.now) table.now) column.now row)))) }
 {
     let cell = cell_in(tables, table, column, row)?;
     is_other(alloc, ty, &cell)
@@ -64,7 +67,8 @@ fn rows_changed<D: DocTables>(
     ty: &ColType,
 ) -> Result<RowList, AllocError>
     requires { IsWhole (D.document tables.now) }
-    ensures { IfOk result (λ l. l ≡ rows_changed (grid_at (D.document tables.now) table.now) column.now ty.now) }
+    ensures { IfOk result
+        (λ l. l ≡ rows_changed (grid_at (D.document tables.now) table.now) column.now ty.now) }
 {
     let rows = rows_in(tables, table);
     let mut changed = Vec::new(alloc);
@@ -85,7 +89,9 @@ fn refitted<D: DocTables>(
     ty: &ColType,
     row: u32,
 ) -> Result<CellValue, AllocError>
-    ensures { IfOk result (λ v. v ≡ fit ty.now (cell column_id (grid_at (D.document tables.now) table.now) column.now row)) }
+    ensures { IfOk result
+        (λ v. v ≡ fit ty.now
+        (cell column_id (grid_at (D.document tables.now) table.now) column.now row)) }
 {
     let cell = cell_in(tables, table, column, row)?;
     convert(alloc, ty, &cell)
@@ -100,7 +106,9 @@ fn column_refitted<D: DocTables>(
     ty: &ColType,
     rows: &[u32],
 ) -> Result<CellColumn, AllocError>
-    ensures { IfOk result (λ k. k ≡ column_refitted (grid_at (D.document tables.now) table.now) column.now ty.now rows.now) }
+    ensures { IfOk result
+        (λ k. k ≡ column_refitted
+        (grid_at (D.document tables.now) table.now) column.now ty.now rows.now) }
 {
     let mut values = Vec::with_capacity(alloc, rows.len())?;
     for row in rows {
@@ -120,7 +128,11 @@ fn update_changed<D: DocTables>(
     ty: &ColType,
     rows: RowList,
 ) -> Result<Step, AllocError>
-    ensures { IfOk result (λ s. s ≡ indirect (BulkUpdate table.now rows (column_refitted (grid_at (D.document tables.now) table.now) column.now ty.now rows ∷ []))) }
+    ensures { IfOk result
+        (λ s. s ≡ indirect
+        (BulkUpdate table.now rows
+        (column_refitted (grid_at (D.document tables.now) table.now) column.now ty.now rows
+        ∷ []))) }
 {
     let cells = column_refitted(alloc, tables, table, column, ty, rows.as_slice())?;
     let mut columns = ColumnList::new(alloc);
@@ -143,7 +155,8 @@ fn modify(
     known: &ColDef,
     column: &UserCol,
 ) -> Result<DocAction, AllocError>
-    ensures { IfOk result (λ a. a ≡ ModifyColumn table.now known.now.id (info_said known.now.info.ty column.now)) }
+    ensures { IfOk result
+        (λ a. a ≡ ModifyColumn table.now known.now.id (info_said known.now.info.ty column.now)) }
 {
     Ok(DocAction::ModifyColumn {
         table: table.clone()?,
@@ -159,7 +172,9 @@ fn modified_alone(
     known: &ColDef,
     column: &UserCol,
 ) -> Result<StepList, AllocError>
-    ensures { IfOk result (λ l. l ≡ direct (ModifyColumn table.now known.now.id (info_said known.now.info.ty column.now)) ∷ []) }
+    ensures { IfOk result
+        (λ l. l ≡ direct
+        (ModifyColumn table.now known.now.id (info_said known.now.info.ty column.now)) ∷ []) }
 {
     let action = modify(alloc, table, known, column)?;
     direct(alloc, action)
@@ -175,7 +190,15 @@ fn add_update<D: DocTables>(
     steps: &mut StepList,
 ) -> Result<(), AllocError>
     requires { IsWhole (D.document tables.now) }
-    ensures { IfOk result (λ _. steps.new ≡ steps.old ++ if_any (rows_changed (grid_at (D.document tables.now) table.now) column.now ty.now) (indirect (BulkUpdate table.now (rows_changed (grid_at (D.document tables.now) table.now) column.now ty.now) (column_refitted (grid_at (D.document tables.now) table.now) column.now ty.now (rows_changed (grid_at (D.document tables.now) table.now) column.now ty.now) ∷ [])))) }
+    ensures { IfOk result
+        (λ _. steps.new
+        ≡ steps.old ++ if_any
+        (rows_changed (grid_at (D.document tables.now) table.now) column.now ty.now)
+        (indirect
+        (BulkUpdate table.now
+        (rows_changed (grid_at (D.document tables.now) table.now) column.now ty.now)
+        (column_refitted (grid_at (D.document tables.now) table.now) column.now ty.now
+        (rows_changed (grid_at (D.document tables.now) table.now) column.now ty.now) ∷ [])))) }
 {
     let rows = rows_changed(alloc, tables, table, column, ty)?;
     if rows.is_empty() {
@@ -198,7 +221,9 @@ fn retyped<D: DocTables>(
 ) -> Result<StepList, AllocError>
     requires whole { IsWhole (D.document tables.now) }
     requires said { ty.now ≡ (info_said known.now.info.ty column.now).ty }
-    ensures { IfOk result (λ l. l ≡ retyped table.now (grid_at (D.document tables.now) table.now) known.now (info_said known.now.info.ty column.now)) }
+    ensures { IfOk result
+        (λ l. l ≡ retyped table.now (grid_at (D.document tables.now) table.now) known.now
+        (info_said known.now.info.ty column.now)) }
 {
     if is_same_type(&known.info.ty, ty) {
         return Ok(StepList::new(alloc));
@@ -217,7 +242,9 @@ fn modify_known<D: DocTables>(
     column: &UserCol,
 ) -> Result<StepList, AllocError>
     requires { IsWhole (D.document tables.now) }
-    ensures { IfOk result (λ l. l ≡ retyped table.now (grid_at (D.document tables.now) table.now) known.now (info_said known.now.info.ty column.now)) }
+    ensures { IfOk result
+        (λ l. l ≡ retyped table.now (grid_at (D.document tables.now) table.now) known.now
+        (info_said known.now.info.ty column.now)) }
 {
     let ty = type_said(&known.info.ty, column)?;
     retyped(alloc, tables, table, known, &ty, column)
@@ -232,7 +259,8 @@ pub(crate) fn modify_steps<D: DocTables>(
 ) -> Result<StepList, AllocError>
     requires whole { IsWhole (D.document tables.now) }
     requires name { is_name column.now.id ≡ true }
-    ensures { IfOk result (λ l. l ≡ modified table.now (grid_at (D.document tables.now) table.now) column.now) }
+    ensures { IfOk result
+        (λ l. l ≡ modified table.now (grid_at (D.document tables.now) table.now) column.now) }
 {
     let id = name_of(alloc, column.id.as_str())?;
     match find_column(tables, table, &id) {

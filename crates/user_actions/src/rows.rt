@@ -6,7 +6,7 @@ ghost use Rattle.std.specs.Ordering.{int_cmp, is_eq};
 ghost use Rattle.std.specs.List.{list_all};
 ghost use Rattle.cell_types.specs.Reference.{row_number};
 ghost use Rattle.doc_model.specs.Rows.{IsAscending};
-ghost use Rattle.user_actions.specs.Objections.{are_once, is_row};
+ghost use Rattle.user_actions.specs.Objections.{have_no_duplicates, is_row};
 
 use doc_readers::holds_row;
 use std::alloc::{AllocError, Global};
@@ -15,7 +15,8 @@ use std::collections::BTreeSet;
 // Notes a number, and answers whether it is new.
 fn note(seen: &mut BTreeSet<i64>, number: &i64) -> Result<bool, AllocError>
     ensures new { IfOk result (λ new. new ≡ not (contains_by (int_cmp number.now) seen.old)) }
-    ensures noted { OnOk result ((q : ℤ) → contains_by (int_cmp q) seen.new ≡ cond (is_eq (int_cmp number.now q)) true (contains_by (int_cmp q) seen.old)) }
+    ensures noted { OnOk result ((q : ℤ) → contains_by (int_cmp q) seen.new
+        ≡ cond (is_eq (int_cmp number.now q)) true (contains_by (int_cmp q) seen.old)) }
 {
     Ok(seen.insert(*number)?)
 }
@@ -23,7 +24,8 @@ fn note(seen: &mut BTreeSet<i64>, number: &i64) -> Result<bool, AllocError>
 // The number that stands so many indexes before the end.
 fn number_before(numbers: &[i64], taken: usize) -> &i64
     requires { taken < length numbers.now }
-    ensures { drop (length numbers.now - (taken + 1)) numbers.now ≡ result.now ∷ drop (length numbers.now - taken) numbers.now }
+    ensures { drop (length numbers.now - (taken + 1)) numbers.now ≡ result.now
+        ∷ drop (length numbers.now - taken) numbers.now }
 {
     &numbers[numbers.len() - 1 - taken]
 }
@@ -31,8 +33,8 @@ fn number_before(numbers: &[i64], taken: usize) -> &i64
 /// Whether no number stands twice.
 ///
 /// Memory: a sorted copy. Cost: that of a sorted set.
-pub(crate) fn are_once(alloc: Global, numbers: &[i64]) -> Result<bool, AllocError>
-    ensures { IfOk result (λ once. once ≡ are_once numbers.now) }
+pub(crate) fn have_no_duplicates(alloc: Global, numbers: &[i64]) -> Result<bool, AllocError>
+    ensures { IfOk result (λ once. once ≡ have_no_duplicates numbers.now) }
 {
     let mut later = BTreeSet::new(alloc);
     for taken in 0..numbers.len() {

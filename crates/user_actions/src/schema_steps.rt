@@ -55,8 +55,10 @@ fn new_column_id<D: DocTables>(
 ) -> Result<Name, AllocError>
     requires whole { IsWhole (D.document tables.now) }
     requires name { is_name wanted.now ≡ true }
-    ensures made { IfOk result (λ n. n ≡ free_name (column_ids (D.document tables.now) table.now) wanted.now) }
-    ensures fresh { IfOk result (λ _. IsFresh (column_ids (D.document tables.now) table.now) wanted.now) }
+    ensures made { IfOk result
+        (λ n. n ≡ free_name (column_ids (D.document tables.now) table.now) wanted.now) }
+    ensures fresh { IfOk result
+        (λ _. IsFresh (column_ids (D.document tables.now) table.now) wanted.now) }
 {
     let known = column_ids(alloc, tables, table)?;
     let id = free_id(alloc, &known, wanted)?;
@@ -126,8 +128,10 @@ fn add_column(
     column: &UserCol,
 ) -> Result<(), AllocError>
     requires { has_good_id column.now ≡ true }
-    ensures made { IfOk result (λ _. made.new.items ≡ made.old.items ++ new_column taken.old.items row column.now ∷ []) }
-    ensures taken { IfOk result (λ _. taken.new.items ≡ taken.old.items ++ free_name taken.old.items column.now.id ∷ []) }
+    ensures made { IfOk result
+        (λ _. made.new.items ≡ made.old.items ++ new_column taken.old.items row column.now ∷ []) }
+    ensures taken { IfOk result
+        (λ _. taken.new.items ≡ taken.old.items ++ free_name taken.old.items column.now.id ∷ []) }
     ensures fresh { IfOk result (λ _. IsFresh taken.old.items column.now.id) }
 {
     let column = new_column(alloc, taken, row, column)?;
@@ -140,7 +144,8 @@ fn add_column(
 // any case, so that the action is known for a valid one.
 fn new_columns(alloc: Global, last: u32, columns: &[UserCol]) -> Result<ColDefList, AllocError>
     requires { list_all has_good_id columns.now ≡ true }
-    ensures made { IfOk result (λ l. last + length columns.now ≤ 4294967295 → l ≡ new_columns [] last columns.now) }
+    ensures made { IfOk result
+        (λ l. last + length columns.now ≤ 4294967295 → l ≡ new_columns [] last columns.now) }
     ensures fresh { IfOk result (λ _. AreFresh [] columns.now) }
 {
     let mut taken = Vec::new(alloc);
@@ -165,8 +170,12 @@ fn table_said<D: DocTables>(
     requires whole { IsWhole (D.document tables.now) }
     requires name { is_name table.now ≡ true }
     requires names { list_all has_good_id columns.now ≡ true }
-    ensures made { IfOk result (λ a. last + length columns.now ≤ 4294967295 → a ≡ AddTable (free_name (table_ids (D.document tables.now)) table.now) row (new_columns [] last columns.now)) }
-    ensures fresh { IfOk result (λ _. IsFresh (table_ids (D.document tables.now)) table.now × AreFresh [] columns.now) }
+    ensures made { IfOk result
+        (λ a. last + length columns.now ≤ 4294967295 → a
+        ≡ AddTable (free_name (table_ids (D.document tables.now)) table.now) row
+        (new_columns [] last columns.now)) }
+    ensures fresh { IfOk result
+        (λ _. IsFresh (table_ids (D.document tables.now)) table.now × AreFresh [] columns.now) }
 {
     let table = new_table_id(alloc, tables, table)?;
     let columns = new_columns(alloc, last, columns)?;
@@ -187,8 +196,10 @@ fn column_beside<D: DocTables>(
 ) -> Result<ColDef, AllocError>
     requires whole { IsWhole (D.document tables.now) }
     requires name { has_good_id column.now ≡ true }
-    ensures made { IfOk result (λ d. d ≡ new_column (column_ids (D.document tables.now) table.now) row column.now) }
-    ensures fresh { IfOk result (λ _. IsFresh (column_ids (D.document tables.now) table.now) column.now.id) }
+    ensures made { IfOk result
+        (λ d. d ≡ new_column (column_ids (D.document tables.now) table.now) row column.now) }
+    ensures fresh { IfOk result
+        (λ _. IsFresh (column_ids (D.document tables.now) table.now) column.now.id) }
 {
     let known = column_ids(alloc, tables, table)?;
     let made = new_column(alloc, &known, row, column)?;
@@ -205,8 +216,11 @@ fn column_said<D: DocTables>(
 ) -> Result<DocAction, AllocError>
     requires whole { IsWhole (D.document tables.now) }
     requires name { has_good_id column.now ≡ true }
-    ensures made { IfOk result (λ a. a ≡ AddColumn table.now (new_column (column_ids (D.document tables.now) table.now) row column.now)) }
-    ensures fresh { IfOk result (λ _. IsFresh (column_ids (D.document tables.now) table.now) column.now.id) }
+    ensures made { IfOk result
+        (λ a. a ≡ AddColumn table.now
+        (new_column (column_ids (D.document tables.now) table.now) row column.now)) }
+    ensures fresh { IfOk result
+        (λ _. IsFresh (column_ids (D.document tables.now) table.now) column.now.id) }
 {
     let column = column_beside(alloc, tables, table, row, column)?;
     let table = table.clone()?;
@@ -216,7 +230,8 @@ fn column_said<D: DocTables>(
 // The steps; nothing where the greatest of their rows would pass the last row id. They are made
 // before that is asked, since an action that is dropped alone has by far the dearer proof.
 fn unless_past(greatest: u64, steps: StepList) -> Option<StepList>
-    ensures { MatchOption result (4294967295 < greatest) (λ l. (greatest ≤ 4294967295) × (l ≡ steps)) }
+    ensures { MatchOption result (4294967295 < greatest)
+        (λ l. (greatest ≤ 4294967295) × (l ≡ steps)) }
 {
     if LAST_ROW_ID < greatest {
         return None;
@@ -240,8 +255,13 @@ pub(crate) fn rename_table_steps<D: DocTables>(
 ) -> Result<StepList, AllocError>
     requires whole { IsWhole (D.document tables.now) }
     requires name { is_name new.now ≡ true }
-    ensures fresh { IfOk result (λ _. bytes_eq table.now new.now ≡ false → IsFresh (table_ids (D.document tables.now)) new.now) }
-    ensures made { IfOk result (λ l. l ≡ cond (bytes_eq table.now new.now) [] (direct (RenameTable table.now (free_name (table_ids (D.document tables.now)) new.now)) ∷ [])) }
+    ensures fresh { IfOk result
+        (λ _. bytes_eq table.now new.now ≡ false
+        → IsFresh (table_ids (D.document tables.now)) new.now) }
+    ensures made { IfOk result
+        (λ l. l ≡ cond (bytes_eq table.now new.now) []
+        (direct (RenameTable table.now (free_name (table_ids (D.document tables.now)) new.now))
+        ∷ [])) }
 {
     if table.as_str() == new {
         return Ok(StepList::new(alloc));
@@ -276,8 +296,13 @@ pub(crate) fn rename_column_steps<D: DocTables>(
     requires whole { IsWhole (D.document tables.now) }
     requires old { is_name column.now ≡ true }
     requires name { is_name new.now ≡ true }
-    ensures fresh { IfOk result (λ _. bytes_eq column.now new.now ≡ false → IsFresh (column_ids (D.document tables.now) table.now) new.now) }
-    ensures made { IfOk result (λ l. l ≡ cond (bytes_eq column.now new.now) [] (direct (RenameColumn table.now column.now (free_name (column_ids (D.document tables.now) table.now) new.now)) ∷ [])) }
+    ensures fresh { IfOk result
+        (λ _. bytes_eq column.now new.now ≡ false
+        → IsFresh (column_ids (D.document tables.now) table.now) new.now) }
+    ensures made { IfOk result
+        (λ l. l ≡ cond (bytes_eq column.now new.now) []
+        (direct (RenameColumn table.now column.now
+        (free_name (column_ids (D.document tables.now) table.now) new.now)) ∷ [])) }
 {
     if column == new {
         return Ok(StepList::new(alloc));
@@ -297,8 +322,14 @@ pub(crate) fn add_table_steps<D: DocTables>(
     requires whole { IsWhole (D.document tables.now) }
     requires name { is_name table.now ≡ true }
     requires names { list_all has_good_id columns.now ≡ true }
-    ensures fresh { IfOk result (λ _. IsFresh (table_ids (D.document tables.now)) table.now × AreFresh [] columns.now) }
-    ensures made { IfOk result (λ o. MatchOption o (4294967295 < max (last_row (D.document tables.now) tables_id + 1) (last_row (D.document tables.now) columns_id + length columns.now)) (λ l. l ≡ direct (table_said (D.document tables.now) table.now columns.now) ∷ [])) }
+    ensures fresh { IfOk result
+        (λ _. IsFresh (table_ids (D.document tables.now)) table.now × AreFresh [] columns.now) }
+    ensures made { IfOk result
+        (λ o. MatchOption o
+        (4294967295
+        < max (last_row (D.document tables.now) tables_id + 1)
+        (last_row (D.document tables.now) columns_id + length columns.now))
+        (λ l. l ≡ direct (table_said (D.document tables.now) table.now columns.now) ∷ [])) }
 {
     let row = last_row(tables, tables_table(tables));
     let last = last_row(tables, columns_table(tables));
@@ -317,8 +348,12 @@ pub(crate) fn add_column_steps<D: DocTables>(
 ) -> Result<Option<StepList>, AllocError>
     requires whole { IsWhole (D.document tables.now) }
     requires name { has_good_id column.now ≡ true }
-    ensures fresh { IfOk result (λ _. IsFresh (column_ids (D.document tables.now) table.now) column.now.id) }
-    ensures made { IfOk result (λ o. MatchOption o (4294967295 < last_row (D.document tables.now) columns_id + 1) (λ l. l ≡ direct (AddColumn table.now (column_said (D.document tables.now) table.now column.now)) ∷ [])) }
+    ensures fresh { IfOk result
+        (λ _. IsFresh (column_ids (D.document tables.now) table.now) column.now.id) }
+    ensures made { IfOk result
+        (λ o. MatchOption o (4294967295 < last_row (D.document tables.now) columns_id + 1)
+        (λ l. l ≡ direct
+        (AddColumn table.now (column_said (D.document tables.now) table.now column.now)) ∷ [])) }
 {
     let last = last_row(tables, columns_table(tables));
     let action = column_said(alloc, tables, table, last.saturating_add(1), column)?;

@@ -13,7 +13,7 @@ use Rattle.doc_model.specs.Rows.{has}
 use Rattle.doc_model.proofs.RowsLaws.{number_itself, has-filter}
 use Rattle.doc_model.specs.declared.refusal.Refusal.{Refusal}
 use Rattle.doc_model.specs.declared.refusal.Refusal.TheVariants as refusal
-use Rattle.user_actions.specs.Objections.{against, are_once, in_table, in_records, in_schema, is_row, objection_to, on_columns, on_rows, on_values, to_records, to_schema}
+use Rattle.user_actions.specs.Objections.{against, have_no_duplicates, in_table, in_records, in_schema, is_row, objection_to, on_columns, on_rows, on_values, to_records, to_schema}
 use Rattle.user_actions.specs.Steps.{row_ids}
 use Rattle.view_parts.specs.Parts.{passing, rows_asked}
 use Rattle.view_parts.proofs.ViewLemmas.{find-mapped}
@@ -36,7 +36,7 @@ rows_kept test rows (n ∷ ns) named =
 
 on_rows-passing : (t : ViewTable) (ns : List ℤ) (next : Option Refusal) → on_rows (passing (has (row_ids ns)) t) ns next ≡ on_rows t ns next
 on_rows-passing t ns next =
-    ap (λ b. against (not (are_once ns)) refusal.DuplicateRow (against (not b) refusal.NoSuchRow next)) (rows_kept (has (row_ids ns)) t.rows ns (λ r here. here))
+    ap (λ b. against (not (have_no_duplicates ns)) refusal.DuplicateRow (against (not b) refusal.NoSuchRow next)) (rows_kept (has (row_ids ns)) t.rows ns (λ r here. here))
 
 -- ---- the table that it names
 

@@ -1,12 +1,12 @@
 use Rattle.std.proofs.Common.{◌≡◌, ◌∙◌, ◌+◌, ◌-◌, sym, ap, false, length}
 use Rattle.user_actions.specs.Objections.{has_number}
-use Rattle.user_actions.proofs.NumberLemmas.{are_once-drop, seen_more, seen_before, new_one}
-use Rattle.user_actions.proofs.rows.are_once.Goals as goal
+use Rattle.user_actions.proofs.NumberLemmas.{have_no_duplicates-drop, seen_more, seen_before, new_one}
+use Rattle.user_actions.proofs.rows.have_no_duplicates.Goals as goal
 
 pub returns-then-not-branch : goal.returns-then-not-branch
 returns-then-not-branch c =
     let e : c.in_ok-note.field-0 ≡ false = c.if-not-branch.true in
-    sym (are_once-drop (length c.args.numbers.now - (c.loop-taken.taken + 1)) c.args.numbers.now
+    sym (have_no_duplicates-drop (length c.args.numbers.now - (c.loop-taken.taken + 1)) c.args.numbers.now
     (seen_before _ _ _ c.number_before.ensures (c.loop-taken.invariant.seen c.number_before.result.now) (sym e ∙ (c.in_ok-note.ensures).new)))
 
 pub loop-taken-preserved : goal.loop-taken-preserved

@@ -1,5 +1,5 @@
 -- Sums and maxima after the steps of a user action, and what it comes to by them.
-use Rattle.std.proofs.Common.{ℕ, Bool, true, false, cond, ◌&&◌, ◌+◌, ◌-◌, ◌^◌, ◌<◌, ◌≤◌, List, [], ◌∷◌, map, length, ◌≡◌, refl, sym, ap, ◌∙◌, Option, Some, None, arith, ltb}
+use Rattle.std.proofs.Common.{ℕ, Bool, true, false, cond, ◌&&◌, ◌+◌, ◌-◌, ◌^◌, ◌<◌, ◌≤◌, List, [], ◌∷◌, map, length, ◌≡◌, refl, sym, ap, ◌∙◌, Option, Some, None, Result, Ok, Err, arith, ltb}
 use Rattle.std.specs.Prelude.{nat_le}
 use Rattle.std.proofs.lemmas.Bool.{and_parts, false≢true, true≢false, le-ltb, ltb-false}
 use Rattle.std.specs.List.{list_all}
@@ -23,11 +23,11 @@ use Rattle.action_limits.specs.declared.expansion.Expansion.{Expansion}
 use Rattle.action_limits.specs.declared.limits.CountedMaxima.{CountedMaxima}
 use Rattle.action_limits.specs.declared.moves.Moved.{Moved}
 use Rattle.action_limits.specs.declared.tally.Tally.{Tally}
-use Rattle.action_limits.specs.Capped.{AreTaken, all_moved, both_noted, capped, has_named, is_there, moved_by, maxima_noted, settled}
+use Rattle.action_limits.specs.Capped.{AreTaken, all_moved, both_noted, capped, has_named, is_there, moved_by, maxima_noted, settled, tally_or_limit}
 use Rattle.action_limits.specs.Left.{TellsMaxima}
 use Rattle.user_actions.specs.StepLaws.{action_of}
 use Rattle.user_actions.specs.Steps.{steps_of}
-use Rattle.action_limits.specs.Tallies.{IsExpansion, IsTally, after, are_within}
+use Rattle.action_limits.specs.Tallies.{IsExpansion, IsTally, IsTallyOrLimit, after, are_within}
 use Rattle.action_limits.proofs.SumMoves.{WasThere, sum_moved, was_there}
 
 -- ---- an action that is valid has its table
@@ -175,29 +175,37 @@ within_under : (c : Counts) → IsUnder c → true ≡ are_within c
 within_under c u = sym (both_true (nat_le c.columns 1024) (nat_le c.rows 1000000 && nat_le c.row_id 4294967295) (le_true 1024 c.columns u.columns)
     (both_true (nat_le c.rows 1000000) (nat_le c.row_id 4294967295) (le_true 1000000 c.rows u.rows) (le_true 4294967295 c.row_id u.row_id)))
 
-pub settled_is : (s : Document) (a : UserAction) (m : Moved) (e : CountedMaxima) → all_valid s (map action_of (steps_of s a)) ≡ true → TellsSums m (after s a) → TellsMaxima e (after s a) → IsExpansion s a (settled (steps_of s a) m e)
-settled_is s a m e v sums most =
-    let same : first_passed (both_noted m e) ≡ over (after s a) = both_told (after s a) m e sums most in
-    elim (first_passed (both_noted m e)) as (λ o. first_passed (both_noted m e) ≡ o → IsExpansion s a (elim o as (λ _. Expansion) [
-      | None ↦ Rattle.action_limits.specs.declared.expansion.Expansion.TheVariants.Steps (steps_of s a) (record { tables = m.tables; cells = m.cells; weight = m.weight; within = true })
-      | Some kind ↦ Rattle.action_limits.specs.declared.expansion.Expansion.TheVariants.Limit kind
+pub tally_is : (s : Document) (m : Moved) (e : CountedMaxima) → TellsSums m s → TellsMaxima e s → IsTallyOrLimit s (tally_or_limit m e)
+tally_is s m e sums most =
+    let same : first_passed (both_noted m e) ≡ over s = both_told s m e sums most in
+    elim (first_passed (both_noted m e)) as (λ o. first_passed (both_noted m e) ≡ o → IsTallyOrLimit s (elim o as (λ _. Result Tally LimitKind) [
+      | None ↦ Ok (record { tables = m.tables; cells = m.cells; weight = m.weight; within = true })
+      | Some kind ↦ Err kind
     ])) [
       | None ↦ λ is.
-          let room : over (after s a) ≡ None = sym same ∙ is in
-          let u : IsUnder (counts (after s a)) = under (counts (after s a)) room in
+          let room : over s ≡ None = sym same ∙ is in
+          let u : IsUnder (counts s) = under (counts s) room in
           record {
-            made = refl;
-            valid = v;
             room = room;
             tally = record {
-              tables = sums.tables ∙ capped_under 2048 (counts (after s a)).tables (omega arith) u.tables;
-              cells = sums.cells ∙ capped_under 4000000 (counts (after s a)).cells (omega arith) u.cells;
-              weight = sums.weight ∙ capped_under 268435456 (counts (after s a)).weight (omega arith) u.weight;
-              within = within_under (counts (after s a)) u;
+              tables = sums.tables ∙ capped_under 2048 (counts s).tables (omega arith) u.tables;
+              cells = sums.cells ∙ capped_under 4000000 (counts s).cells (omega arith) u.cells;
+              weight = sums.weight ∙ capped_under 268435456 (counts s).weight (omega arith) u.weight;
+              within = within_under (counts s) u;
             };
           }
       | Some kind ↦ λ is. sym same ∙ is
     ] refl
+
+pub settled_is : (s : Document) (a : UserAction) (m : Moved) (e : CountedMaxima) → all_valid s (map action_of (steps_of s a)) ≡ true → TellsSums m (after s a) → TellsMaxima e (after s a) → IsExpansion s a (settled (steps_of s a) m e)
+settled_is s a m e v sums most =
+    elim (tally_or_limit m e) as (λ r. IsTallyOrLimit (after s a) r → IsExpansion s a (elim r as (λ _. Expansion) [
+      | Ok tally ↦ Rattle.action_limits.specs.declared.expansion.Expansion.TheVariants.Steps (steps_of s a) tally
+      | Err kind ↦ Rattle.action_limits.specs.declared.expansion.Expansion.TheVariants.Limit kind
+    ])) [
+      | Ok tally ↦ λ told. record { made = refl; valid = v; room = told.room; tally = told.tally }
+      | Err kind ↦ λ told. told
+    ] (tally_is (after s a) m e sums most)
 
 -- ---- the tally as sums
 

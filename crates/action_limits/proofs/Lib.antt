@@ -8,3 +8,4 @@ mod ExpansionLemmas
 mod StepMoves
 mod AddMoves
 mod SchemaGrowth
+mod Bringing

@@ -1,5 +1,5 @@
 -- The most columns and rows and the greatest row id after an action, against their bounds.
-use Rattle.std.proofs.Common.{ℕ, Bool, true, false, cond, not, ◌&&◌, ◌+◌, ◌≤◌, max, List, [], ◌∷◌, ◌++◌, map, filter, length, length-append, ◌≡◌, refl, sym, ap, subst, ◌∙◌, arith}
+use Rattle.std.proofs.Common.{ℕ, Bool, true, false, cond, not, ◌+◌, ◌≤◌, max, List, [], ◌∷◌, ◌++◌, map, filter, length, length-append, ◌≡◌, refl, sym, ap, subst, ◌∙◌, arith}
 use Rattle.std.proofs.lemmas.Bool.{and_parts, true≢false}
 use Rattle.std.specs.List.{AllByRecursion}
 use Rattle.std.specs.Str.{bytes_eq}
@@ -16,6 +16,7 @@ use Rattle.doc_model.specs.Valid.{valid}
 use Rattle.doc_model.proofs.Choices.{each_weaker, map-map, not_true}
 use Rattle.doc_model.proofs.MaximaSums.{without-none}
 use Rattle.doc_model.proofs.SchemaMaxima.{maxima-apply}
+use Rattle.action_limits.specs.Left.{is_growing, is_quiet, takes_away}
 use Rattle.action_limits.proofs.SumLemmas.{greatest-append, greatest-cons, map-append}
 
 -- ---- the greatest of a list and a bound
@@ -59,12 +60,6 @@ greatest_more h k more (x ∷ xs) =
     grind arith
 
 -- ---- actions after which no table has more
-
-abbrev pub is_growing : DocAction → Bool
-is_growing (BulkAdd table rows ks) = true
-is_growing (AddTable table row columns) = true
-is_growing (AddColumn table d) = true
-is_growing _ = false
 
 pub no_new_table : (a : DocAction) → is_growing a ≡ false → new_maxima a ≡ []
 no_new_table (BulkAdd table rows ks) h = refl
@@ -165,19 +160,13 @@ stays-below s a c r i whole v shrinks below =
 
 -- ---- actions after which no table has less
 
-abbrev pub is_taking : DocAction → Bool
-is_taking (BulkRemove table rows) = true
-is_taking (RemoveTable table) = true
-is_taking (RemoveColumn table column) = true
-is_taking _ = false
-
 -- every table stays, with its rows and its columns
 record AreKept (s : Document) (a : DocAction) : Type 0 where
   rows : (id : List ℕ) → rows_out s a id ≡ []
   tables : staying a s ≡ s
   columns : (t : Table) → length t.grid.columns ≤ columns_then a t
 
-are_kept : (s : Document) (a : DocAction) → is_taking a ≡ false → AreKept s a
+are_kept : (s : Document) (a : DocAction) → takes_away a ≡ false → AreKept s a
 are_kept s (BulkAdd table rows ks) h = record { rows = λ id. refl; tables = refl; columns = λ t. omega arith }
 are_kept s (BulkUpdate table rows ks) h = record { rows = λ id. refl; tables = refl; columns = λ t. omega arith }
 are_kept s (BulkRemove table rows) h = absurd (true≢false h)
@@ -212,7 +201,7 @@ no_lesser ins rows =
     grind arith
 
 -- the maxima of the document are no greater than those after the action
-pub never-less : (s : Document) (a : DocAction) → IsWhole s → valid s a ≡ true → is_taking a ≡ false → IsBelow s (counts (apply s a)).columns (counts (apply s a)).rows (counts (apply s a)).row_id
+pub never-less : (s : Document) (a : DocAction) → IsWhole s → valid s a ≡ true → takes_away a ≡ false → IsBelow s (counts (apply s a)).columns (counts (apply s a)).rows (counts (apply s a)).row_id
 never-less s a whole v keeps =
     let told : AreGreatest (counts (apply s a)) (maxima_after s a) = maxima-apply s a whole v in
     let kept : AreKept s a = are_kept s a keeps in
@@ -226,10 +215,7 @@ never-less s a whole v keeps =
 
 -- ---- actions after which all is as before
 
-abbrev pub is_quiet : DocAction → Bool
-is_quiet a = not (is_growing a) && not (is_taking a)
-
-pub record SamePeaks (s s' : Document) : Type 0 where
+pub record SameMaxima (s s' : Document) : Type 0 where
   pub columns : (counts s').columns ≡ (counts s).columns
   pub rows : (counts s').rows ≡ (counts s).rows
   pub row_id : (counts s').row_id ≡ (counts s).row_id
@@ -237,12 +223,12 @@ pub record SamePeaks (s s' : Document) : Type 0 where
 as_great : (m n : ℕ) → m ≤ n → n ≤ m → m ≡ n
 as_great m n a b = omega arith
 
-pub maxima-quiet : (s : Document) (a : DocAction) → IsWhole s → valid s a ≡ true → is_quiet a ≡ true → SamePeaks s (apply s a)
+pub maxima-quiet : (s : Document) (a : DocAction) → IsWhole s → valid s a ≡ true → is_quiet a ≡ true → SameMaxima s (apply s a)
 maxima-quiet s a whole v quiet =
-    let both : (not (is_growing a) ≡ true) × (not (is_taking a) ≡ true) = and_parts (not (is_growing a)) (not (is_taking a)) quiet in
+    let both : (not (is_growing a) ≡ true) × (not (takes_away a) ≡ true) = and_parts (not (is_growing a)) (not (takes_away a)) quiet in
     let up : IsBelow (apply s a) (counts s).columns (counts s).rows (counts s).row_id
     = stays-below s a (counts s).columns (counts s).rows (counts s).row_id whole v (not_true (is_growing a) both.0) (record { columns = omega arith; rows = omega arith; row_id = omega arith }) in
-    let low : IsBelow s (counts (apply s a)).columns (counts (apply s a)).rows (counts (apply s a)).row_id = never-less s a whole v (not_true (is_taking a) both.1) in
+    let low : IsBelow s (counts (apply s a)).columns (counts (apply s a)).rows (counts (apply s a)).row_id = never-less s a whole v (not_true (takes_away a) both.1) in
     record {
       columns = as_great (counts (apply s a)).columns (counts s).columns up.columns low.columns;
       rows = as_great (counts (apply s a)).rows (counts s).rows up.rows low.rows;

@@ -1,4 +1,4 @@
--- Peaks after an action that brings columns or rows, from those before it.
+-- Maxima after an action that brings columns or rows, from those before it.
 use Rattle.std.proofs.Common.{ℕ, true, false, ◌<◌, ◌≤◌, max, ◌≡◌, refl, sym, ◌∙◌, arith, ltb}
 use Rattle.std.proofs.lemmas.Bool.{lt-ltb, le-ltb, ltb-true, ltb-false}
 use Rattle.doc_model.specs.Counts.{counts}
@@ -20,6 +20,18 @@ pub record TellsMore (e : CountedMaxima) (s s' : Document) : Type 0 where
   pub rows : (counts s).rows ≤ 1000000 → ltb 1000000 e.rows ≡ ltb 1000000 (counts s').rows
   pub row_id : (counts s).row_id ≤ 4294967295 → ltb 4294967295 e.row_id ≡ ltb 4294967295 (counts s').row_id
   pub less : IsBelow s (counts s').columns (counts s').rows (counts s').row_id
+
+-- the same of an action that takes nothing away or nothing was above the bounds before
+pub record TellsBrought (e : CountedMaxima) (s s' : Document) : Type 0 where
+  pub columns : (counts s).columns ≤ 1024 → ltb 1024 e.columns ≡ ltb 1024 (counts s').columns
+  pub rows : (counts s).rows ≤ 1000000 → ltb 1000000 e.rows ≡ ltb 1000000 (counts s').rows
+  pub row_id : (counts s).row_id ≤ 4294967295 → ltb 4294967295 e.row_id ≡ ltb 4294967295 (counts s').row_id
+
+pub more_told : (s s' : Document) (e : CountedMaxima) → TellsBrought e s s' → IsBelow s (counts s').columns (counts s').rows (counts s').row_id → TellsMore e s s'
+more_told s s' e told less = record { columns = told.columns; rows = told.rows; row_id = told.row_id; less = less }
+
+pub within_told : (s s' : Document) (e : CountedMaxima) → TellsBrought e s s' → IsBelow s 1024 1000000 4294967295 → TellsMaxima e s'
+within_told s s' e told below = record { columns = told.columns below.columns; rows = told.rows below.rows; row_id = told.row_id below.row_id }
 
 -- the greater one of what was and what comes
 side_of_both : (b before e was most now : ℕ) → ltb b before ≡ ltb b was → was ≤ now → (was ≤ b → ltb b e ≡ ltb b now) → most ≡ max before e → ltb b most ≡ ltb b now

@@ -31,10 +31,11 @@ use Rattle.doc_model.proofs.SchemaMaxima.{maxima-apply}
 use Rattle.doc_model.proofs.WholeLaws.{tables_columns_apart}
 use Rattle.doc_readers.specs.Parts.{grid_at}
 use Rattle.action_limits.specs.declared.limits.CountedMaxima.{CountedMaxima}
+use Rattle.action_limits.specs.Brought.{rows_described}
 use Rattle.action_limits.specs.Capped.{capped}
 use Rattle.action_limits.specs.Grown.{AreMaximaDescribed, AreMaximaGrown, grows_schema, new_tables}
 use Rattle.user_actions.specs.StepLaws.{action_of}
-use Rattle.user_actions.specs.Steps.{column_said, last_new_row, last_row, new_columns, steps_of, table_said}
+use Rattle.user_actions.specs.Steps.{column_said, last_new_row, last_row, new_columns, steps_of, table_ids, table_said}
 use Rattle.action_limits.specs.Tallies.{after}
 use Rattle.action_limits.proofs.AddMoves.{found_below, grids_found, known_below, mapped_below, table_there}
 use Rattle.action_limits.proofs.CountedLemmas.{capped_above, grid_found}
@@ -195,83 +196,114 @@ greatest-new_columns b taken row (c ∷ cs) =
 
 -- ---- the two actions
 
+module _ (s : Document) (whole : IsWhole s) (table : List ℕ) (row : ℕ) (ds : List ColDef) (v : valid s (action.AddTable table row ds) ≡ true) where
+  abbrev added : DocAction
+  added = action.AddTable table row ds
+
+  most : AreGreatest (counts (apply s added)) (maxima_after s added)
+  most = maxima-apply s added whole v
+
+  pub table_columns : (counts s).columns ≤ 1024 → ltb 1024 (length ds) ≡ ltb 1024 (counts (apply s added)).columns
+  table_columns le =
+      let gc : ℕ = greatest (map (λ (p : Maxima). p.columns) (map (maxima_then s added) s)) in
+      let told : (counts (apply s added)).columns ≡ max (length ds) gc = most.columns ∙ greatest-cons (length ds) (map (λ (p : Maxima). p.columns) (map (maxima_then s added) s)) in
+      let old_wide : gc ≤ 1024 = mapped_below (λ (p : Maxima). p.columns) (maxima_then s added) 1024 s (known_below s (λ (t : Table). length t.grid.columns) 1024 le) in
+      same_side 1024 (length ds) (counts (apply s added)).columns (grind arith) (grind arith)
+
+  pub table_rows : (counts s).rows ≤ 1000000 → ltb 1000000 (rows_described s 1 (length ds)) ≡ ltb 1000000 (counts (apply s added)).rows
+  table_rows le =
+      let gr : ℕ = greatest (map (λ (p : Maxima). p.rows) (map (maxima_then s added) s)) in
+      let told : (counts (apply s added)).rows ≡ gr = most.rows ∙ greatest-cons 0 (map (λ (p : Maxima). p.rows) (map (maxima_then s added) s)) ∙ max_zero gr in
+      ap (ltb 1000000) (capped_max (length (grid_at s tables_id).rows + 1) (length (grid_at s columns_id).rows + length ds))
+      ∙ capped_above 1000000 (max (length (grid_at s tables_id).rows + 1) (length (grid_at s columns_id).rows + length ds)) (omega arith)
+      ∙ ap (λ n. ltb 1000000 (max (length (grid_at s tables_id).rows + 1) (length (grid_at s columns_id).rows + n))) (sym (length-rows ds))
+      ∙ rows_side s whole (row ∷ []) (map column_row ds) (maxima_then s added) (λ t. refl) (λ t. refl) 1000000 (counts (apply s added)).rows le told
+
+  pub table_row_ids : (n : ℕ) → (counts s).row_id ≤ 4294967295 → row ≤ n → greatest (map column_row ds) ≤ n → n ≤ max 4294967295 (max row (greatest (map column_row ds))) → ltb 4294967295 n ≡ ltb 4294967295 (counts (apply s added)).row_id
+  table_row_ids n le first second from =
+      let gi : ℕ = greatest (map (λ (p : Maxima). p.row_id) (map (maxima_then s added) s)) in
+      let told : (counts (apply s added)).row_id ≡ gi = most.row_id ∙ greatest-cons 0 (map (λ (p : Maxima). p.row_id) (map (maxima_then s added) s)) ∙ max_zero gi in
+      let single : greatest (row ∷ []) ≡ max row 0 = greatest-cons row [] in
+      ids_side s whole (row ∷ []) (map column_row ds) (maxima_then s added) (λ t. refl) (λ t. refl) 4294967295 n (counts (apply s added)).row_id le told (grind arith) second (grind arith)
+
+module _ (s : Document) (whole : IsWhole s) (table : List ℕ) (d : ColDef) (v : valid s (action.AddColumn table d) ≡ true) where
+  abbrev beside : DocAction
+  beside = action.AddColumn table d
+
+  most_beside : AreGreatest (counts (apply s beside)) (maxima_after s beside)
+  most_beside = maxima-apply s beside whole v
+
+  columns_one : (t : Table) → length t.grid.columns ≤ 1024 → (bytes_eq t.id table ≡ true → grid_at s table ≡ t.grid)
+      → length t.grid.columns + cond (bytes_eq t.id table) 1 0 ≤ max 1024 (length (grid_at s table).columns + 1)
+  columns_one t small own = elim (bytes_eq t.id table) as (λ c. bytes_eq t.id table ≡ c → length t.grid.columns + cond c 1 0 ≤ max 1024 (length (grid_at s table).columns + 1)) [
+    | true ↦ λ is. let e : length (grid_at s table).columns ≡ length t.grid.columns = ap (λ (g : Grid ColDef). length g.columns) (own is) in grind arith
+    | false ↦ λ _. grind arith
+  ] refl
+
+  pub column_columns : (counts s).columns ≤ 1024 → ltb 1024 (capped (length (grid_at s table).columns + 1)) ≡ ltb 1024 (counts (apply s beside)).columns
+  column_columns le =
+      let n : ℕ = length (grid_at s table).columns + 1 in
+      let mine : (t : Table) × (find_id table_id table s ≡ Some t) = table_there s table (has_named-valid s beside v) in
+      let here : length mine.0.grid.columns + cond (bytes_eq mine.0.id table) 1 0 ≤ (counts (apply s beside)).columns
+      = subst (λ k. length mine.0.grid.columns + cond (bytes_eq mine.0.id table) 1 0 ≤ k) (sym most_beside.columns) (found_below (λ (p : Maxima). p.columns) (maxima_then s beside) s table mine.0 mine.1) in
+      let is : ◌≡◌ {A = ℕ} (cond (bytes_eq mine.0.id table) 1 0) 1 = ap (λ c. let k : ℕ = cond c 1 0 in k) (ap (λ n. bytes_eq n table) (found_id table_id table s mine.0 mine.1) ∙ bytes_itself table) in
+      let own : length (grid_at s table).columns ≡ length mine.0.grid.columns = ap (λ (g : Grid ColDef). length g.columns) (grid_found s table mine.0 mine.1) in
+      let low : n ≤ (counts (apply s beside)).columns = omega (arith, here, is, own) in
+      let up : (counts (apply s beside)).columns ≤ max 1024 n = subst (λ k. k ≤ max 1024 n) (sym most_beside.columns) (mapped_below (λ (p : Maxima). p.columns) (maxima_then s beside) (max 1024 n) s
+      (each_weaker (λ t. (length t.grid.columns ≤ 1024) × (bytes_eq t.id table ≡ true → grid_at s table ≡ t.grid)) (λ t. length t.grid.columns + cond (bytes_eq t.id table) 1 0 ≤ max 1024 n) (λ t k. columns_one t k.0 k.1) s
+      (each_both (λ t. length t.grid.columns ≤ 1024) (λ t. bytes_eq t.id table ≡ true → grid_at s table ≡ t.grid) s (known_below s (λ (t : Table). length t.grid.columns) 1024 le) (grids_found s whole table)))) in
+      capped_above 1024 n (omega arith) ∙ same_side 1024 n (counts (apply s beside)).columns up (grind arith)
+
+  pub column_rows : (counts s).rows ≤ 1000000 → ltb 1000000 (rows_described s 0 1) ≡ ltb 1000000 (counts (apply s beside)).rows
+  column_rows le =
+      ap (ltb 1000000) (capped_max (length (grid_at s tables_id).rows + 0) (length (grid_at s columns_id).rows + 1))
+      ∙ capped_above 1000000 (max (length (grid_at s tables_id).rows + 0) (length (grid_at s columns_id).rows + 1)) (omega arith)
+      ∙ rows_side s whole [] (d.row ∷ []) (maxima_then s beside) (λ t. refl) (λ t. refl) 1000000 (counts (apply s beside)).rows le most_beside.rows
+
+  pub column_ids : (counts s).row_id ≤ 4294967295 → ltb 4294967295 d.row ≡ ltb 4294967295 (counts (apply s beside)).row_id
+  column_ids le =
+      let single : greatest (d.row ∷ []) ≡ max d.row 0 = greatest-cons d.row [] in
+      ids_side s whole [] (d.row ∷ []) (maxima_then s beside) (λ t. refl) (λ t. refl) 4294967295 d.row (counts (apply s beside)).row_id le most_beside.row_id (omega arith) (grind arith) (grind arith)
+
+-- ---- user actions
+
 table_maxima : (s : Document) (table : List ℕ) (cs : List UserCol) (e : CountedMaxima) → IsWhole s → valid s (table_said s table cs) ≡ true → AreMaximaDescribed s (length cs) 1 (length cs) e → TellsMore e s (apply s (table_said s table cs))
 table_maxima s table cs e whole v told =
-    let act : DocAction = table_said s table cs in
+    let id : List ℕ = Rattle.name_rules.specs.FreeName.free_name (table_ids s) table in
+    let row : ℕ = last_row s tables_id + 1 in
     let ds : List ColDef = new_columns [] (last_row s columns_id) cs in
-    let xs : List ℕ = (last_row s tables_id + 1) ∷ [] in
-    let ys : List ℕ = map column_row ds in
-    let most : AreGreatest (counts (apply s act)) (maxima_after s act) = maxima-apply s act whole v in
     let wide : length ds ≡ length cs = length-new_columns [] (last_row s columns_id) cs in
-    let many : length ys ≡ length cs = length-rows ds ∙ wide in
-    let gc : ℕ = greatest (map (λ (p : Maxima). p.columns) (map (maxima_then s act) s)) in
-    let gr : ℕ = greatest (map (λ (p : Maxima). p.rows) (map (maxima_then s act) s)) in
-    let gi : ℕ = greatest (map (λ (p : Maxima). p.row_id) (map (maxima_then s act) s)) in
-    let columns_told : (counts (apply s act)).columns ≡ max (length ds) gc = most.columns ∙ greatest-cons (length ds) (map (λ (p : Maxima). p.columns) (map (maxima_then s act) s)) in
-    let rows_told : (counts (apply s act)).rows ≡ gr = most.rows ∙ greatest-cons 0 (map (λ (p : Maxima). p.rows) (map (maxima_then s act) s)) ∙ max_zero gr in
-    let ids_told : (counts (apply s act)).row_id ≡ gi = most.row_id ∙ greatest-cons 0 (map (λ (p : Maxima). p.row_id) (map (maxima_then s act) s)) ∙ max_zero gi in
     let one : (t : Table) × (find_id table_id columns_id s ≡ Some t) = columns_found s whole in
-    let facts : (greatest ys ≤ last_row s columns_id + length cs) × (last_row s columns_id ≤ 4294967295 → last_row s columns_id + length cs ≤ max 4294967295 (greatest ys)) = greatest-new_columns 4294967295 [] (last_row s columns_id) cs in
-    let up : greatest ys ≤ last_row s columns_id + length cs = facts.0 in
-    let single : greatest xs ≡ max (last_row s tables_id + 1) 0 = greatest-cons (last_row s tables_id + 1) [] in
-    let last : ℕ = max (last_row s tables_id + 1) (last_row s columns_id + length cs) in
+    let facts : (greatest (map column_row ds) ≤ last_row s columns_id + length cs) × (last_row s columns_id ≤ 4294967295 → last_row s columns_id + length cs ≤ max 4294967295 (greatest (map column_row ds))) = greatest-new_columns 4294967295 [] (last_row s columns_id) cs in
+    let up : greatest (map column_row ds) ≤ last_row s columns_id + length cs = facts.0 in
+    let last : ℕ = max row (last_row s columns_id + length cs) in
     record {
-      columns = λ le.
-          let old_wide : gc ≤ 1024 = mapped_below (λ (p : Maxima). p.columns) (maxima_then s act) 1024 s (known_below s (λ (t : Table). length t.grid.columns) 1024 le) in
-          ap (ltb 1024) told.columns ∙ same_side 1024 (length cs) (counts (apply s act)).columns (grind arith) (grind arith);
-      rows = λ le. ap (ltb 1000000) (told.rows ∙ capped_max (length (grid_at s tables_id).rows + 1) (length (grid_at s columns_id).rows + length cs))
-          ∙ capped_above 1000000 (max (length (grid_at s tables_id).rows + 1) (length (grid_at s columns_id).rows + length cs)) (omega arith)
-          ∙ ap (λ n. ltb 1000000 (max (length (grid_at s tables_id).rows + 1) (length (grid_at s columns_id).rows + n))) (sym many)
-          ∙ rows_side s whole xs ys (maxima_then s act) (λ t. refl) (λ t. refl) 1000000 (counts (apply s act)).rows le rows_told;
+      columns = λ le. ap (ltb 1024) (told.columns ∙ sym wide) ∙ table_columns s whole id row ds v le;
+      rows = λ le. ap (ltb 1000000) (told.rows ∙ ap (rows_described s 1) (sym wide)) ∙ table_rows s whole id row ds v le;
       row_id = λ le.
-          let low : last_row s columns_id + length cs ≤ max 4294967295 (greatest ys) = facts.1 (last_below s columns_id one.0 one.1 4294967295 le) in
-          ap (ltb 4294967295) (told.row_id ∙ capped_max (last_row s tables_id + 1) (last_row s columns_id + length cs))
+          let low : last_row s columns_id + length cs ≤ max 4294967295 (greatest (map column_row ds)) = facts.1 (last_below s columns_id one.0 one.1 4294967295 le) in
+          ap (ltb 4294967295) (told.row_id ∙ capped_max row (last_row s columns_id + length cs))
           ∙ capped_above 4294967295 last (omega arith)
-          ∙ ids_side s whole xs ys (maxima_then s act) (λ t. refl) (λ t. refl) 4294967295 last (counts (apply s act)).row_id le ids_told (grind arith) (grind arith) (grind arith);
-      less = never-less s act whole v refl;
+          ∙ table_row_ids s whole id row ds v last le (grind arith) (grind arith) (grind arith);
+      less = never-less s (table_said s table cs) whole v refl;
     }
 
 column_maxima : (s : Document) (table : List ℕ) (d : ColDef) (e : CountedMaxima) → IsWhole s → valid s (action.AddColumn table d) ≡ true → d.row ≡ last_row s columns_id + 1
     → AreMaximaDescribed s (capped (length (grid_at s table).columns + 1)) 0 1 e → TellsMore e s (apply s (action.AddColumn table d))
 column_maxima s table d e whole v row told =
-    let act : DocAction = action.AddColumn table d in
-    let ys : List ℕ = d.row ∷ [] in
-    let most : AreGreatest (counts (apply s act)) (maxima_after s act) = maxima-apply s act whole v in
-    let mine : (t : Table) × (find_id table_id table s ≡ Some t) = table_there s table (has_named-valid s act v) in
-    let n : ℕ = length (grid_at s table).columns + 1 in
     let one : (t : Table) × (find_id table_id tables_id s ≡ Some t) = tables_found s whole in
-    let here : length mine.0.grid.columns + cond (bytes_eq mine.0.id table) 1 0 ≤ (counts (apply s act)).columns
-    = subst (λ k. length mine.0.grid.columns + cond (bytes_eq mine.0.id table) 1 0 ≤ k) (sym most.columns) (found_below (λ (p : Maxima). p.columns) (maxima_then s act) s table mine.0 mine.1) in
-    let is : ◌≡◌ {A = ℕ} (cond (bytes_eq mine.0.id table) 1 0) 1 = ap (λ c. let k : ℕ = cond c 1 0 in k) (ap (λ n. bytes_eq n table) (found_id table_id table s mine.0 mine.1) ∙ bytes_itself table) in
-    let own : length (grid_at s table).columns ≡ length mine.0.grid.columns = ap (λ (g : Grid ColDef). length g.columns) (grid_found s table mine.0 mine.1) in
-    let low : n ≤ (counts (apply s act)).columns = omega (arith, here, is, own) in
-    let single : greatest ys ≡ max d.row 0 = greatest-cons d.row [] in
     let last : ℕ = max (last_row s tables_id + 0) (last_row s columns_id + 1) in
     record {
-      columns = λ le.
-          let up : (counts (apply s act)).columns ≤ max 1024 n = subst (λ k. k ≤ max 1024 n) (sym most.columns) (mapped_below (λ (p : Maxima). p.columns) (maxima_then s act) (max 1024 n) s
-          (each_weaker (λ t. (length t.grid.columns ≤ 1024) × (bytes_eq t.id table ≡ true → grid_at s table ≡ t.grid)) (λ t. length t.grid.columns + cond (bytes_eq t.id table) 1 0 ≤ max 1024 n) (λ t k. columns_one s table t k.0 k.1) s
-          (each_both (λ t. length t.grid.columns ≤ 1024) (λ t. bytes_eq t.id table ≡ true → grid_at s table ≡ t.grid) s (known_below s (λ (t : Table). length t.grid.columns) 1024 le) (grids_found s whole table)))) in
-          ap (ltb 1024) told.columns ∙ capped_above 1024 n (omega arith) ∙ same_side 1024 n (counts (apply s act)).columns up (grind arith);
-      rows = λ le. ap (ltb 1000000) (told.rows ∙ capped_max (length (grid_at s tables_id).rows + 0) (length (grid_at s columns_id).rows + 1))
-          ∙ capped_above 1000000 (max (length (grid_at s tables_id).rows + 0) (length (grid_at s columns_id).rows + 1)) (omega arith)
-          ∙ rows_side s whole [] ys (maxima_then s act) (λ t. refl) (λ t. refl) 1000000 (counts (apply s act)).rows le most.rows;
+      columns = λ le. ap (ltb 1024) told.columns ∙ column_columns s whole table d v le;
+      rows = λ le. ap (ltb 1000000) told.rows ∙ column_rows s whole table d v le;
       row_id = λ le.
           let first : last_row s tables_id ≤ 4294967295 = last_below s tables_id one.0 one.1 4294967295 le in
-          let mid : ltb 4294967295 last ≡ ltb 4294967295 (last_row s columns_id + 1) = same_side 4294967295 last (last_row s columns_id + 1) (grind arith) (grind arith) in
           ap (ltb 4294967295) (told.row_id ∙ capped_max (last_row s tables_id + 0) (last_row s columns_id + 1))
           ∙ capped_above 4294967295 last (omega arith)
-          ∙ mid
-          ∙ ids_side s whole [] ys (maxima_then s act) (λ t. refl) (λ t. refl) 4294967295 (last_row s columns_id + 1) (counts (apply s act)).row_id le most.row_id (omega arith) (grind arith) (grind arith);
-      less = never-less s act whole v refl;
+          ∙ same_side 4294967295 last d.row (grind arith) (grind arith)
+          ∙ column_ids s whole table d v le;
+      less = never-less s (action.AddColumn table d) whole v refl;
     }
-  where
-    columns_one : (s : Document) (table : List ℕ) (t : Table) → length t.grid.columns ≤ 1024 → (bytes_eq t.id table ≡ true → grid_at s table ≡ t.grid)
-        → length t.grid.columns + cond (bytes_eq t.id table) 1 0 ≤ max 1024 (length (grid_at s table).columns + 1)
-    columns_one s table t small own = elim (bytes_eq t.id table) as (λ c. bytes_eq t.id table ≡ c → length t.grid.columns + cond c 1 0 ≤ max 1024 (length (grid_at s table).columns + 1)) [
-      | true ↦ λ is. let e : length (grid_at s table).columns ≡ length t.grid.columns = ap (λ (g : Grid ColDef). length g.columns) (own is) in grind arith
-      | false ↦ λ _. grind arith
-    ] refl
 
 pub grown_maxima : (s : Document) (a : UserAction) (e : CountedMaxima) → IsWhole s → grows_schema a ≡ true → all_valid s (map action_of (steps_of s a)) ≡ true → AreMaximaGrown s a e → TellsMore e s (after s a)
 grown_maxima s (AddTable table cs) e whole grows v told = table_maxima s table cs e whole (and_parts (valid s (table_said s table cs)) true v).0 told

@@ -1,5 +1,5 @@
 -- Sums and maxima after the steps of an action that makes no rows.
-use Rattle.std.proofs.Common.{ℕ, Bool, true, false, cond, not, ◌&&◌, ◌||◌, ◌+◌, ◌-◌, ◌^◌, ◌<◌, ◌≤◌, List, [], ◌∷◌, map, length, ◌≡◌, refl, sym, ap, subst, ◌∙◌, Option, Some, None, arith, ltb}
+use Rattle.std.proofs.Common.{ℕ, Bool, true, false, cond, not, ◌&&◌, ◌||◌, ◌+◌, ◌-◌, ◌^◌, ◌<◌, ◌≤◌, List, [], ◌∷◌, map, length, get_or, ◌≡◌, refl, sym, ap, subst, ◌∙◌, Option, Some, None, arith, ltb}
 use Rattle.std.proofs.lemmas.Bool.{and_parts, false≢true, true≢false, le-ltb}
 use Rattle.std.specs.List.{list_all}
 use Rattle.std.specs.Option.{option_map}
@@ -26,7 +26,7 @@ use Rattle.doc_model.specs.Valid.{all_null, schema_table, valid}
 use Rattle.doc_model.specs.ViewEdits.{if_any}
 use Rattle.doc_model.proofs.ByIdsLaws.{bytes_itself}
 use Rattle.doc_model.proofs.ByRowLaws.{find-with_id}
-use Rattle.doc_model.proofs.Choices.{both_true, cond_true, not_true}
+use Rattle.doc_model.proofs.Choices.{both_true, cond_true}
 use Rattle.doc_model.proofs.ColumnsKept.{cell-with_info}
 use Rattle.doc_model.proofs.DocumentParts.{applied, find_plain, passes_parts, schema_table_parts}
 use Rattle.doc_model.proofs.InverseLaws.{IsWhole-apply}
@@ -36,14 +36,14 @@ use Rattle.doc_model.proofs.WholeLaws.{IsPlain}
 use Rattle.doc_readers.specs.Parts.{grid_at}
 use Rattle.action_limits.specs.declared.limits.CountedMaxima.{CountedMaxima}
 use Rattle.action_limits.specs.declared.moves.Moved.{Moved}
-use Rattle.action_limits.specs.Capped.{all_moved, capped, has_named, is_there, moved_by, no_more}
-use Rattle.action_limits.specs.Left.{TellsMaxima, takes_away}
+use Rattle.action_limits.specs.Capped.{all_moved, all_moved_at, capped, has_named, is_there, moved_by}
+use Rattle.action_limits.specs.Left.{IsOneOrQuiet, TellsMaxima, is_quiet}
 use Rattle.user_actions.specs.Kinds.{makes_rows}
 use Rattle.user_actions.specs.StepLaws.{action_of}
 use Rattle.user_actions.specs.Steps.{all_fitted, column_refitted, direct, indirect, info_said, retyped, row_ids, rows_changed, steps_of}
 use Rattle.action_limits.specs.Tallies.{after}
 use Rattle.action_limits.proofs.ExpansionLemmas.{IsExact, TellsSums, any_there, any_told, has_named-valid, none_told, one_told}
-use Rattle.action_limits.proofs.MaximaMoves.{IsBelow, SamePeaks, is_growing, is_quiet, is_taking, maxima-quiet, stays-below}
+use Rattle.action_limits.proofs.MaximaMoves.{IsBelow, SameMaxima, maxima-quiet}
 
 -- ---- a column of another info, and then its cells
 
@@ -117,41 +117,59 @@ module _ (s : Document) (m : Moved) (whole : IsWhole s) (exact : IsExact m s) (t
         small_weight = w;
       }
 
-  pub two_told : valid s first ≡ true → valid (apply s first) second ≡ true → TellsSums (moved_by s (moved_by s m first) second) (apply (apply s first) second)
-  two_told v next =
+  -- the second takes at the first document what it takes behind the first
+  alike_two : valid s first ≡ true → moved_by s (moved_by s m first) second ≡ moved_by (apply s first) (moved_by s m first) second
+  alike_two v =
       let between : Moved = moved_by s m first in
-      subst (λ (g : Sums). TellsSums (record {
+      ap (λ (g : Sums). let after : Moved = record {
         tables = capped (between.tables - capped g.tables + capped (come s second).tables);
         cells = capped (between.cells - capped g.cells + capped (come s second).cells);
         weight = capped (between.weight - capped g.weight + capped (come s second).weight);
-      }) (apply (apply s first) second)) (gone-modified s whole table column info rows ks v)
-      (one_told (apply s first) second between (IsWhole-apply s first whole v) next (exact_between v))
+      } in after) (sym (gone-modified s whole table column info rows ks v))
 
-abbrev TellsSteps : Document → Moved → List Step → Type 0
-TellsSteps s m steps = (list_all (is_there s) steps ≡ true) × TellsSums (all_moved s m steps) (apply_all s (map action_of steps))
+  two_told : valid s first ≡ true → valid (apply s first) second ≡ true → TellsSums (moved_by (apply s first) (moved_by s m first) second) (apply (apply s first) second)
+  two_told v next = one_told (apply s first) second (moved_by s m first) (IsWhole-apply s first whole v) next (exact_between v)
+
+-- the sums after steps, each taken at the document before it or at the first one
+pub record TellsSteps (s : Document) (m : Moved) (steps : List Step) : Type 0 where
+  pub there : list_all (is_there s) steps ≡ true
+  pub alike : all_moved_at s m steps ≡ all_moved s m steps
+  pub sums : TellsSums (all_moved s m steps) (apply_all s (map action_of steps))
+
+pub few_alike : (s : Document) (m : Moved) (steps : List Step) → length steps ≤ 1 → all_moved_at s m steps ≡ all_moved s m steps
+few_alike s m [] few = refl
+few_alike s m (x ∷ []) few = refl
+few_alike s m (x ∷ y ∷ steps) few = absurd (omega arith)
+
+-- no step or one
+pub any_steps : (s : Document) (m : Moved) (steps : List Step) → length steps ≤ 1 → IsWhole s → IsExact m s → all_valid s (map action_of steps) ≡ true → TellsSteps s m steps
+any_steps s m steps few whole exact v = record {
+  there = any_there s steps few v;
+  alike = few_alike s m steps few;
+  sums = any_told s m steps few whole v exact;
+}
 
 pair_told : (s : Document) (m : Moved) → IsWhole s → IsExact m s → (table column : List ℕ) (info : ColInfo) → info.formula ≡ [] → (rows : List ℕ) (ks : List CellColumn) (some : List ℕ)
     → all_valid s (map action_of (direct (action.ModifyColumn table column info) ∷ if_any some (indirect (action.BulkUpdate table rows ks)))) ≡ true
     → TellsSteps s m (direct (action.ModifyColumn table column info) ∷ if_any some (indirect (action.BulkUpdate table rows ks)))
-pair_told s m whole exact table column info none rows ks [] v =
-    let steps : List Step = direct (action.ModifyColumn table column info) ∷ [] in
-    (any_there s steps (omega arith) v, any_told s m steps (omega arith) whole v exact)
+pair_told s m whole exact table column info none rows ks [] v = any_steps s m (direct (action.ModifyColumn table column info) ∷ []) (omega arith) whole exact v
 pair_told s m whole exact table column info none rows ks (q ∷ some) v =
     let a : DocAction = action.ModifyColumn table column info in
     let b : DocAction = action.BulkUpdate table rows ks in
     let parts : (valid s a ≡ true) × ((valid (apply s a) b && true) ≡ true) = and_parts (valid s a) (valid (apply s a) b && true) v in
     let next : valid (apply s a) b ≡ true = (and_parts (valid (apply s a) b) true parts.1).0 in
     let there : has_named s a ≡ true = has_named-valid s a parts.0 in
-    (both_true (has_named s a) (has_named s b && true) there (both_true (has_named s b) true there refl), two_told s m whole exact table column info none rows ks parts.0 next)
+    record {
+      there = both_true (has_named s a) (has_named s b && true) there (both_true (has_named s b) true there refl);
+      alike = alike_two s m whole exact table column info none rows ks parts.0;
+      sums = two_told s m whole exact table column info none rows ks parts.0 next;
+    }
 
 unless_told : (s : Document) (m : Moved) → IsExact m s → (b : Bool) (steps : List Step) → (all_valid s (map action_of steps) ≡ true → TellsSteps s m steps) → all_valid s (map action_of (cond b [] steps)) ≡ true → TellsSteps s m (cond b [] steps)
-unless_told s m exact true steps h v = (refl, none_told s m exact)
+unless_told s m exact true steps h v = record { there = refl; alike = refl; sums = none_told s m exact }
 unless_told s m exact false steps h v = h v
 
 -- ---- the steps of an action
-
-any_steps : (s : Document) (m : Moved) (steps : List Step) → length steps ≤ 1 → IsWhole s → IsExact m s → all_valid s (map action_of steps) ≡ true → TellsSteps s m steps
-any_steps s m steps few whole exact v = (any_there s steps few v, any_told s m steps few whole v exact)
 
 few_if_any : (rows : List ℕ) (x : Step) → length (if_any rows x) ≤ 1
 few_if_any [] x = omega arith
@@ -175,84 +193,76 @@ other_told s (ModifyColumn table c) m whole other exact v =
     let g : Grid ColDef = grid_at s table in
     elim (find_id column_id c.id g.columns) as (λ (o : Option ColDef). let steps : List Step = elim o as (λ _. List Step) [ None ↦ [] | Some d ↦ retyped table g d (info_said d.info.ty c) ] in
     all_valid s (map action_of steps) ≡ true → TellsSteps s m steps) [
-      | None ↦ λ _. (refl, none_told s m exact)
+      | None ↦ λ _. record { there = refl; alike = refl; sums = none_told s m exact }
       | Some d ↦ unless_told s m exact (same_type d.info.ty (info_said d.info.ty c).ty) _
           (pair_told s m whole exact table d.id (info_said d.info.ty c) refl (rows_changed g d.id (info_said d.info.ty c).ty) (column_refitted g d.id (info_said d.info.ty c).ty (rows_changed g d.id (info_said d.info.ty c).ty) ∷ []) (rows_changed g d.id (info_said d.info.ty c).ty))
     ] v
 
 -- ---- and the maxima
 
-pub none_past : (s : Document) → IsBelow s 1024 1000000 4294967295 → TellsMaxima no_more s
-none_past s below = record {
-  columns = sym (le-ltb 1024 (counts s).columns below.columns);
-  rows = sym (le-ltb 1000000 (counts s).rows below.rows);
-  row_id = sym (le-ltb 4294967295 (counts s).row_id below.row_id);
-}
-
--- the steps that an action that makes no rows may have, by whether it takes something away
-abbrev fits_kind : Bool → Step → Bool
-fits_kind true step = not (is_growing step.action)
-fits_kind false step = is_quiet step.action
-
-shrinking : (takes : Bool) (step : Step) → fits_kind takes step ≡ true → is_growing step.action ≡ false
-shrinking true step h = not_true (is_growing step.action) h
-shrinking false step h = not_true (is_growing step.action) (and_parts (not (is_growing step.action)) (not (is_taking step.action)) h).0
-
-below_all : (takes : Bool) (s : Document) (steps : List Step) (c r i : ℕ) → IsWhole s → all_valid s (map action_of steps) ≡ true → list_all (fits_kind takes) steps ≡ true → IsBelow s c r i → IsBelow (apply_all s (map action_of steps)) c r i
-below_all takes s [] c r i whole v fit below = below
-below_all takes s (x ∷ steps) c r i whole v fit below =
-    let parts : (valid s x.action ≡ true) × (all_valid (apply s x.action) (map action_of steps) ≡ true) = and_parts (valid s x.action) (all_valid (apply s x.action) (map action_of steps)) v in
-    let each : (fits_kind takes x ≡ true) × (list_all (fits_kind takes) steps ≡ true) = and_parts (fits_kind takes x) (list_all (fits_kind takes) steps) fit in
-    below_all takes (apply s x.action) steps c r i (IsWhole-apply s x.action whole parts.0) parts.1 each.1
-    (stays-below s x.action c r i whole parts.0 (shrinking takes x each.0) below)
-
-same_all : (s : Document) (steps : List Step) → IsWhole s → all_valid s (map action_of steps) ≡ true → list_all (fits_kind false) steps ≡ true → SamePeaks s (apply_all s (map action_of steps))
+same_all : (s : Document) (steps : List Step) → IsWhole s → all_valid s (map action_of steps) ≡ true → list_all (λ (x : Step). is_quiet x.action) steps ≡ true → SameMaxima s (apply_all s (map action_of steps))
 same_all s [] whole v fit = record { columns = refl; rows = refl; row_id = refl }
 same_all s (x ∷ steps) whole v fit =
     let parts : (valid s x.action ≡ true) × (all_valid (apply s x.action) (map action_of steps) ≡ true) = and_parts (valid s x.action) (all_valid (apply s x.action) (map action_of steps)) v in
-    let each : (is_quiet x.action ≡ true) × (list_all (fits_kind false) steps ≡ true) = and_parts (is_quiet x.action) (list_all (fits_kind false) steps) fit in
-    let one : SamePeaks s (apply s x.action) = maxima-quiet s x.action whole parts.0 each.0 in
-    let others : SamePeaks (apply s x.action) (apply_all (apply s x.action) (map action_of steps)) = same_all (apply s x.action) steps (IsWhole-apply s x.action whole parts.0) parts.1 each.1 in
+    let each : (is_quiet x.action ≡ true) × (list_all (λ (x : Step). is_quiet x.action) steps ≡ true) = and_parts (is_quiet x.action) (list_all (λ (x : Step). is_quiet x.action) steps) fit in
+    let one : SameMaxima s (apply s x.action) = maxima-quiet s x.action whole parts.0 each.0 in
+    let others : SameMaxima (apply s x.action) (apply_all (apply s x.action) (map action_of steps)) = same_all (apply s x.action) steps (IsWhole-apply s x.action whole parts.0) parts.1 each.1 in
     record { columns = others.columns ∙ one.columns; rows = others.rows ∙ one.rows; row_id = others.row_id ∙ one.row_id }
 
-fit_if_any : (p : Step → Bool) (rows : List ℕ) (x : Step) → p x ≡ true → list_all p (if_any rows x) ≡ true
-fit_if_any p [] x h = refl
-fit_if_any p (r ∷ rows) x h = both_true (p x) true h refl
+all_quiet : (steps : List Step) → IsOneOrQuiet steps → (length steps ≡ 1 → ⊥) → list_all (λ (x : Step). is_quiet x.action) steps ≡ true
+all_quiet [] quiet other = refl
+all_quiet (x ∷ []) quiet other = absurd (other refl)
+all_quiet (x ∷ y ∷ steps) quiet other = quiet
 
-fit_unless : (p : Step → Bool) (b : Bool) (steps : List Step) → list_all p steps ≡ true → list_all p (cond b [] steps) ≡ true
-fit_unless p true steps h = refl
-fit_unless p false steps h = h
-
-other_fits : (s : Document) (a : UserAction) → makes_rows a ≡ false → list_all (fits_kind (takes_away a)) (steps_of s a) ≡ true
-other_fits s (Add table single count has_row_ids ks) other = absurd (true≢false other)
-other_fits s (Update table single rows ks) other = fit_if_any (fits_kind false) (row_ids rows) (direct (action.BulkUpdate table (row_ids rows) (all_fitted s table ks))) refl
-other_fits s (Remove table single rows) other = refl
-other_fits s (AddTable table cs) other = absurd (true≢false other)
-other_fits s (RemoveTable table) other = refl
-other_fits s (RenameTable table new) other = fit_unless (fits_kind false) (bytes_eq table new) _ refl
-other_fits s (AddColumn table c) other = absurd (true≢false other)
-other_fits s (RemoveColumn table column) other = refl
-other_fits s (RenameColumn table column new) other = fit_unless (fits_kind false) (bytes_eq column new) _ refl
-other_fits s (ModifyColumn table c) other =
-    let g : Grid ColDef = grid_at s table in
-    elim (find_id column_id c.id g.columns) as (λ (o : Option ColDef). list_all (fits_kind false) (elim o as (λ _. List Step) [ None ↦ [] | Some d ↦ retyped table g d (info_said d.info.ty c) ]) ≡ true) [
-      | None ↦ refl
-      | Some d ↦ fit_unless (fits_kind false) (same_type d.info.ty (info_said d.info.ty c).ty) _ (fit_if_any (fits_kind false) (rows_changed g d.id (info_said d.info.ty c).ty) _ refl)
-    ]
-
--- where no table is above its bounds, none is after an action that makes no rows
-pub other_maxima : (s : Document) (a : UserAction) → IsWhole s → makes_rows a ≡ false → all_valid s (map action_of (steps_of s a)) ≡ true → IsBelow s 1024 1000000 4294967295 → TellsMaxima no_more (after s a)
-other_maxima s a whole other v below = none_past (after s a) (below_all (takes_away a) s (steps_of s a) 1024 1000000 4294967295 whole v (other_fits s a other) below)
-
--- an action that makes no rows and takes nothing away keeps the maxima
-pub kept_maxima : (s : Document) (a : UserAction) (e : CountedMaxima) → IsWhole s → makes_rows a ≡ false → takes_away a ≡ false → all_valid s (map action_of (steps_of s a)) ≡ true → TellsMaxima e s → TellsMaxima e (after s a)
-kept_maxima s a e whole other keeps v told =
-    let same : SamePeaks s (after s a) = same_all s (steps_of s a) whole v (subst (λ b. list_all (fits_kind b) (steps_of s a) ≡ true) keeps (other_fits s a other)) in
+-- steps that are not one keep the maxima
+pub kept_maxima : (s : Document) (steps : List Step) (e : CountedMaxima) → IsWhole s → all_valid s (map action_of steps) ≡ true → IsOneOrQuiet steps → (length steps ≡ 1 → ⊥) → TellsMaxima e s → TellsMaxima e (apply_all s (map action_of steps))
+kept_maxima s steps e whole v quiet other told =
+    let same : SameMaxima s (apply_all s (map action_of steps)) = same_all s steps whole v (all_quiet steps quiet other) in
     record {
       columns = told.columns ∙ ap (ltb 1024) (sym same.columns);
       rows = told.rows ∙ ap (ltb 1000000) (sym same.rows);
       row_id = told.row_id ∙ ap (ltb 4294967295) (sym same.row_id);
     }
+
+pub one_valid : (s : Document) (steps : List Step) (x : Step) → steps ≡ x ∷ [] → all_valid s (map action_of steps) ≡ true → valid s x.action ≡ true
+one_valid s steps x is v = (and_parts (valid s x.action) true (subst (λ l. all_valid s (map action_of l) ≡ true) is v)).0
+
+pub only_one : (steps : List Step) (x : Step) → length steps ≡ 1 → x ≡ get_or steps 0 x → steps ≡ x ∷ []
+only_one [] x one is = absurd (omega (arith, one))
+only_one (y ∷ []) x one is = ap (λ z. z ∷ []) (sym is)
+only_one (y ∷ z ∷ steps) x one is = absurd (omega (arith, one))
+
+-- ---- the steps of an action that makes no rows are one, or none moves the maxima
+
+one_if_any : (rows : List ℕ) (x : Step) → IsOneOrQuiet (if_any rows x)
+one_if_any [] x = refl
+one_if_any (r ∷ rows) x = tt
+
+one_unless : (b : Bool) (x : Step) → IsOneOrQuiet (cond b [] (x ∷ []))
+one_unless true x = refl
+one_unless false x = tt
+
+two_quiet : (b : Bool) (rows : List ℕ) (x y : Step) → is_quiet x.action ≡ true → is_quiet y.action ≡ true → IsOneOrQuiet (cond b [] (x ∷ if_any rows y))
+two_quiet true rows x y h k = refl
+two_quiet false [] x y h k = tt
+two_quiet false (r ∷ rows) x y h k = both_true (is_quiet x.action) (is_quiet y.action && true) h (both_true (is_quiet y.action) true k refl)
+
+pub other_quiet : (s : Document) (a : UserAction) → makes_rows a ≡ false → IsOneOrQuiet (steps_of s a)
+other_quiet s (Add table single count has_row_ids ks) other = absurd (true≢false other)
+other_quiet s (Update table single rows ks) other = one_if_any (row_ids rows) (direct (action.BulkUpdate table (row_ids rows) (all_fitted s table ks)))
+other_quiet s (Remove table single rows) other = tt
+other_quiet s (AddTable table cs) other = absurd (true≢false other)
+other_quiet s (RemoveTable table) other = tt
+other_quiet s (RenameTable table new) other = one_unless (bytes_eq table new) _
+other_quiet s (AddColumn table c) other = absurd (true≢false other)
+other_quiet s (RemoveColumn table column) other = tt
+other_quiet s (RenameColumn table column new) other = one_unless (bytes_eq column new) _
+other_quiet s (ModifyColumn table c) other =
+    let g : Grid ColDef = grid_at s table in
+    elim (find_id column_id c.id g.columns) as (λ (o : Option ColDef). IsOneOrQuiet (elim o as (λ _. List Step) [ None ↦ [] | Some d ↦ retyped table g d (info_said d.info.ty c) ])) [
+      | None ↦ refl
+      | Some d ↦ two_quiet (same_type d.info.ty (info_said d.info.ty c).ty) (rows_changed g d.id (info_said d.info.ty c).ty) _ _ refl refl
+    ]
 
 pub below_within : (s : Document) → Rattle.action_limits.specs.Tallies.are_within (counts s) ≡ true → IsBelow s 1024 1000000 4294967295
 below_within s h =

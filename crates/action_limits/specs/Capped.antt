@@ -1,10 +1,12 @@
 -- Counts as far as 64 bits can tell them.
-use Rattle.std.specs.Prelude.{ℕ, Bool, true, ◌+◌, ◌^◌, ◌-◌, ◌≡◌, min, cond, List, [], ◌∷◌, get_or, length, Some, None}
+use Rattle.std.specs.Prelude.{ℕ, Bool, true, ◌+◌, ◌^◌, ◌-◌, ◌≡◌, min, cond, List, [], ◌∷◌, get_or, length, Some, None, Result, Ok, Err}
 use Rattle.doc_model.specs.declared.action.DocAction.{DocAction}
 use Rattle.doc_model.specs.declared.action.DocAction.TheVariants.{BulkAdd, BulkUpdate, BulkRemove, AddTable, RemoveTable, RenameTable, AddColumn, RemoveColumn, RenameColumn, ModifyColumn}
 use Rattle.doc_model.specs.declared.action.Step.{Step}
+use Rattle.doc_model.specs.declared.limit.LimitKind.{LimitKind}
 use Rattle.doc_model.specs.declared.user_action.UserAction.{UserAction}
 use Rattle.doc_model.specs.declared.user_action.UserAction.TheVariants.{Add}
+use Rattle.doc_model.specs.Apply.{apply}
 use Rattle.doc_model.specs.ByIds.{find_id}
 use Rattle.doc_model.specs.CountLaws.{Sums, come, gone}
 use Rattle.doc_model.specs.Counts.{grid_cells, grid_weight, Counts, counts, first_passed}
@@ -75,10 +77,15 @@ moved_by s m a = record {
   weight = capped (m.weight - capped (gone s a).weight + capped (come s a).weight);
 }
 
--- and after steps
+-- and after steps, each taken at the document before it
 abbrev pub all_moved : Document → Moved → List Step → Moved
 all_moved s m [] = m
-all_moved s m (step ∷ steps) = all_moved s (moved_by s m step.action) steps
+all_moved s m (step ∷ steps) = all_moved (apply s step.action) (moved_by s m step.action) steps
+
+-- the same where each is taken at one document
+abbrev pub all_moved_at : Document → Moved → List Step → Moved
+all_moved_at s m [] = m
+all_moved_at s m (step ∷ steps) = all_moved_at s (moved_by s m step.action) steps
 
 -- whether the document has the table that an action is about
 abbrev pub has_named : Document → DocAction → Bool
@@ -107,11 +114,18 @@ both_noted m e = record {
   weight = m.weight;
 }
 
+-- the tally of these sums where they and the maxima pass no limit, or else the first limit
+abbrev pub tally_or_limit : Moved → CountedMaxima → Result Tally LimitKind
+tally_or_limit m e = elim (first_passed (both_noted m e)) [
+  | None ↦ Ok (record { tables = m.tables; cells = m.cells; weight = m.weight; within = true })
+  | Some kind ↦ Err kind
+]
+
 -- what steps come to, by the counts after them
 abbrev pub settled : List Step → Moved → CountedMaxima → Expansion
-settled steps m e = elim (first_passed (both_noted m e)) [
-  | None ↦ expansion.Steps steps (record { tables = m.tables; cells = m.cells; weight = m.weight; within = true })
-  | Some kind ↦ expansion.Limit kind
+settled steps m e = elim (tally_or_limit m e) [
+  | Ok tally ↦ expansion.Steps steps tally
+  | Err kind ↦ expansion.Limit kind
 ]
 
 abbrev pub no_more : CountedMaxima

@@ -6,14 +6,14 @@ use Rattle.doc_model.specs.Document.{Document}
 use Rattle.doc_model.specs.MetadataIds.{columns_id, tables_id}
 use Rattle.doc_readers.specs.Parts.{grid_at}
 use Rattle.action_limits.specs.declared.limits.CountedMaxima.{CountedMaxima}
+use Rattle.action_limits.specs.Brought.{rows_described}
 use Rattle.action_limits.specs.Capped.{capped}
 use Rattle.user_actions.specs.Steps.{last_row}
 
 -- so many columns of a table, and the rows where so many tables and columns are described
 pub record AreMaximaDescribed (s : Document) (wide new_tables new_columns : ℕ) (e : CountedMaxima) : Type 0 where
   pub columns : e.columns ≡ wide
-  pub rows : e.rows
-      ≡ max (capped (length (grid_at s tables_id).rows + new_tables)) (capped (length (grid_at s columns_id).rows + new_columns))
+  pub rows : e.rows ≡ rows_described s new_tables new_columns
   pub row_id : e.row_id
       ≡ max (capped (last_row s tables_id + new_tables)) (capped (last_row s columns_id + new_columns))
 

@@ -1,4 +1,5 @@
 pub mod Tallies
 pub mod Capped
+pub mod Brought
 pub mod Grown
 pub mod Left

@@ -1,24 +1,27 @@
 //! What a user action comes to, limits included.
 
-ghost use Rattle.std.specs.Prelude.{◌≡◌, ◌+◌, true, false, IfOk};
-ghost use Rattle.doc_model.specs.Counts.{first_passed};
+ghost use Rattle.std.specs.Prelude.{◌≡◌, ◌+◌, map, true, false, IfOk};
+ghost use Rattle.doc_model.specs.Apply.{all_valid, apply_all};
+ghost use Rattle.doc_model.specs.Counts.{counts, first_passed};
 ghost use Rattle.doc_model.specs.DocumentLaws.{IsWhole};
 ghost use Rattle.doc_model.specs.WellFormed.{has_whole_columns};
 ghost use Rattle.user_actions.specs.Allowed.{is_allowed};
-ghost use Rattle.action_limits.specs.Capped.{AddsSo, AreTaken, AreMaximaAdded, capped, maxima_noted, settled};
+ghost use Rattle.action_limits.specs.Capped.{AddsSo, AreMaximaAdded, capped, maxima_noted, settled};
 ghost use Rattle.user_actions.specs.Kinds.{makes_rows};
 ghost use Rattle.action_limits.specs.Grown.{AreMaximaDescribed, AreMaximaGrown, grows_schema, new_tables};
 ghost use Rattle.user_actions.specs.Kinds.{table_of};
-ghost use Rattle.action_limits.specs.Tallies.{IsExpansion, IsTally};
+ghost use Rattle.action_limits.specs.Left.{IsOneOrQuiet, TellsMaxima};
+ghost use Rattle.user_actions.specs.StepLaws.{action_of};
+ghost use Rattle.action_limits.specs.Tallies.{IsExpansion, IsTally, are_within};
 
 use crate::Tally;
 use crate::limits::{Counted, CountedMaxima, first_passed, wider};
-use crate::maxima::{maxima_after, maxima_before};
+use crate::maxima::{columns_with_one, maxima_after, maxima_before, rows_described, rows_with};
 use crate::moves::{Moved, after_steps};
-use crate::weighing::column_count;
+use crate::tally::{sums_of, tally_or_limit};
 use cell_types::Name;
-use doc_model::{DocTables, LimitKind, StepList, UserAction};
-use doc_readers::{columns_table, rows_in, tables_table};
+use doc_model::{DocTables, LimitKind, Step, StepList, UserAction};
+use doc_readers::{columns_table, tables_table};
 use name_rules::name_of;
 use std::alloc::{AllocError, Global};
 use user_actions::{last_row, steps, table_of};
@@ -32,40 +35,28 @@ pub enum Expansion {
     Limit(LimitKind),
 }
 
-fn sums_of(tally: Tally) -> Moved
-    ensures { AreTaken tally result }
-{
-    Moved {
-        tables: tally.tables,
-        cells: tally.cells,
-        weight: tally.weight,
-    }
-}
-
 // What steps come to, by the sums and the maxima after them.
 fn settled(steps: StepList, sums: Moved, most: CountedMaxima) -> Expansion
     ensures { result ≡ settled steps sums most }
 {
-    let counts = Counted {
-        tables: sums.tables,
-        columns: most.columns,
-        rows: most.rows,
-        row_id: most.row_id,
-        cells: sums.cells,
-        weight: sums.weight,
-    };
-    match first_passed(counts) {
-        Some(kind) => Expansion::Limit(kind),
-        None => Expansion::Steps {
-            steps,
-            tally: Tally {
-                tables: sums.tables,
-                cells: sums.cells,
-                weight: sums.weight,
-                within: true,
-            },
-        },
+    match tally_or_limit(sums, most) {
+        Ok(tally) => Expansion::Steps { steps, tally },
+        Err(kind) => Expansion::Limit(kind),
     }
+}
+
+// The maxima after the steps of an action that makes no rows: of two steps neither moves them.
+fn maxima_after_steps<D: DocTables>(tables: &D, within: bool, steps: &[Step]) -> CountedMaxima
+    requires whole { IsWhole (D.document tables.now) }
+    requires within { within ≡ are_within (counts (D.document tables.now)) }
+    requires valid { all_valid (D.document tables.now) (map action_of steps.now) ≡ true }
+    requires quiet { IsOneOrQuiet steps.now }
+    ensures { TellsMaxima result (apply_all (D.document tables.now) (map action_of steps.now)) }
+{
+    if steps.len() == 1 {
+        return maxima_after(tables, within, &steps[0].action);
+    }
+    maxima_before(tables, within)
 }
 
 // What an action comes to that makes no rows.
@@ -86,7 +77,7 @@ fn other_expansion<D: DocTables>(
         unreachable!()
     };
     let sums = after_steps(tables, sums_of(tally), steps.as_slice());
-    let most = maxima_after(alloc, tables, tally.within, action)?;
+    let most = maxima_after_steps(tables, tally.within, steps.as_slice());
     Ok(settled(steps, sums, most))
 }
 
@@ -97,7 +88,7 @@ fn maxima_added<D: DocTables>(tables: &D, table: &Name, count: u32) -> CountedMa
 {
     CountedMaxima {
         columns: 0,
-        rows: (rows_in(tables, table).len() as u64).saturating_add(count as u64),
+        rows: rows_with(tables, table, count as u64),
         row_id: last_row(tables, table) as u64 + count as u64,
     }
 }
@@ -157,17 +148,11 @@ fn maxima_described<D: DocTables>(
     requires { IsWhole (D.document tables.now) }
     ensures { AreMaximaDescribed (D.document tables.now) columns new_tables new_columns result }
 {
-    let of_tables = tables_table(tables);
-    let of_columns = columns_table(tables);
-    let tables_rows = rows_in(tables, of_tables).len() as u64;
-    let columns_rows = rows_in(tables, of_columns).len() as u64;
-    let last_table = last_row(tables, of_tables) as u64;
-    let last_column = last_row(tables, of_columns) as u64;
+    let last_table = last_row(tables, tables_table(tables)) as u64;
+    let last_column = last_row(tables, columns_table(tables)) as u64;
     CountedMaxima {
         columns,
-        rows: tables_rows
-            .saturating_add(new_tables)
-            .max(columns_rows.saturating_add(new_columns)),
+        rows: rows_described(tables, new_tables, new_columns),
         row_id: last_table
             .saturating_add(new_tables)
             .max(last_column.saturating_add(new_columns)),
@@ -184,10 +169,7 @@ fn maxima_grown<D: DocTables>(tables: &D, table: &Name, action: &UserAction) -> 
             let count = columns.len() as u64;
             maxima_described(tables, count, 1, count)
         }
-        _ => {
-            let columns = (column_count(tables, table) as u64).saturating_add(1);
-            maxima_described(tables, columns, 0, 1)
-        }
+        _ => maxima_described(tables, columns_with_one(tables, table), 0, 1),
     }
 }
 

@@ -6,7 +6,8 @@
 //!
 //! Promises: `over` tells the first limit that a document passes. `expand` gives the steps of an
 //! action, or the first limit that would be passed after them, by a `Tally` that is kept from one
-//! action to the next (specs/Tallies.antt).
+//! action to the next (specs/Tallies.antt). `Tally::after` gives the tally after one document action,
+//! or the first limit that is passed then, from the document before it and without its cells.
 //! Not promised: that memory is found.
 //! Read first: specs/Tallies.antt, then expansion.rt and maxima.rt.
 #![tactic(auto)]

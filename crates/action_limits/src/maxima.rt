@@ -1,26 +1,22 @@
-//! The most columns, the most rows and the greatest row id before a user action, and after one that
-//! makes no rows.
+//! The most columns, the most rows and the greatest row id before an action and after it.
 
-ghost use Rattle.std.specs.Prelude.{◌≡◌, ◌<◌, ◌≤◌, IfOk, false, length, map, true};
-ghost use Rattle.doc_model.specs.Apply.{all_valid};
-ghost use Rattle.doc_model.specs.Counts.{counts};
+ghost use Rattle.std.specs.Prelude.{◌≡◌, ◌<◌, ◌≤◌, ◌+◌, length, map, max, true};
+ghost use Rattle.doc_model.specs.Apply.{apply};
+ghost use Rattle.doc_model.specs.Column.{column_row};
+ghost use Rattle.doc_model.specs.Counts.{counts, greatest};
 ghost use Rattle.doc_model.specs.DocumentLaws.{IsWhole};
-ghost use Rattle.user_actions.specs.Allowed.{is_allowed};
-ghost use Rattle.user_actions.specs.Kinds.{makes_rows, table_of};
-ghost use Rattle.user_actions.specs.StepLaws.{action_of};
-ghost use Rattle.user_actions.specs.Steps.{steps_of};
-ghost use Rattle.action_limits.specs.Capped.{no_more, table_in};
-ghost use Rattle.action_limits.specs.Left.{TellsMaxima, columns_gone, columns_left, goes, number_at, rows_gone, rows_left, takes_away};
-ghost use Rattle.action_limits.specs.Tallies.{after, are_within};
+ghost use Rattle.doc_model.specs.Valid.{valid};
+ghost use Rattle.doc_readers.specs.Parts.{grid_at};
+ghost use Rattle.action_limits.specs.Brought.{maxima_brought, rows_described};
+ghost use Rattle.action_limits.specs.Capped.{capped, no_more, table_in};
+ghost use Rattle.action_limits.specs.Left.{TellsMaxima, columns_removed, columns_left, goes, number_at, rows_removed, rows_left, takes_away};
+ghost use Rattle.action_limits.specs.Tallies.{are_within};
 
 use crate::limits::{CountedMaxima, greatest_maxima, table_count, table_id, wider};
 use crate::weighing::column_count;
 use cell_types::Name;
-use doc_model::{DocTables, UserAction};
+use doc_model::{ColDef, DocAction, DocTables};
 use doc_readers::{columns_table, rows_in, tables_table};
-use name_rules::name_of;
-use std::alloc::{AllocError, Global};
-use user_actions::table_of;
 
 /// No columns and no rows.
 pub(crate) fn no_more() -> CountedMaxima
@@ -45,29 +41,104 @@ pub(crate) fn maxima_before<D: DocTables>(tables: &D, within: bool) -> CountedMa
     greatest_maxima(tables)
 }
 
-fn takes_away(action: &UserAction) -> bool
+/// How many rows a table has with so many more.
+pub(crate) fn rows_with<D: DocTables>(tables: &D, table: &Name, added: u64) -> u64
+    requires { IsWhole (D.document tables.now) }
+    ensures { result ≡ capped (length (grid_at (D.document tables.now) table.now).rows + added) }
+{
+    (rows_in(tables, table).len() as u64).saturating_add(added)
+}
+
+/// How many columns a table has with one more.
+pub(crate) fn columns_with_one<D: DocTables>(tables: &D, table: &Name) -> u64
+    requires { IsWhole (D.document tables.now) }
+    ensures { result ≡ capped (length (grid_at (D.document tables.now) table.now).columns + 1) }
+{
+    (column_count(tables, table) as u64).saturating_add(1)
+}
+
+/// The most rows of the schema tables where so many tables and columns are described.
+pub(crate) fn rows_described<D: DocTables>(tables: &D, new_tables: u64, new_columns: u64) -> u64
+    requires { IsWhole (D.document tables.now) }
+    ensures { result ≡ rows_described (D.document tables.now) new_tables new_columns }
+{
+    rows_with(tables, tables_table(tables), new_tables).max(rows_with(
+        tables,
+        columns_table(tables),
+        new_columns,
+    ))
+}
+
+fn greatest(rows: &[u32]) -> u64
+    ensures value { result ≡ greatest rows.now }
+{
+    let mut most = 0u64;
+    for row in rows {
+        most = most.max(*row as u64);
+    }
+    most
+}
+
+fn greatest_row(columns: &[ColDef]) -> u64
+    ensures { result ≡ greatest (map column_row columns.now) }
+{
+    let mut most = 0u64;
+    for column in columns {
+        most = most.max(column.row as u64);
+    }
+    most
+}
+
+// What an action brings: of the tables that get more, how much they have then.
+fn maxima_brought<D: DocTables>(tables: &D, action: &DocAction) -> CountedMaxima
+    requires { IsWhole (D.document tables.now) }
+    ensures { result ≡ maxima_brought (D.document tables.now) action.now }
+{
+    match action {
+        DocAction::BulkAdd { table, rows, .. } => CountedMaxima {
+            columns: 0,
+            rows: rows_with(tables, table, rows.len() as u64),
+            row_id: greatest(rows.as_slice()),
+        },
+        DocAction::AddTable { row, columns, .. } => CountedMaxima {
+            columns: columns.len() as u64,
+            rows: rows_described(tables, 1, columns.len() as u64),
+            row_id: (*row as u64).max(greatest_row(columns.as_slice())),
+        },
+        DocAction::AddColumn { table, column } => CountedMaxima {
+            columns: columns_with_one(tables, table),
+            rows: rows_described(tables, 0, 1),
+            row_id: column.row as u64,
+        },
+        _ => no_more(),
+    }
+}
+
+fn takes_away(action: &DocAction) -> bool
     ensures { result ≡ takes_away action.now }
 {
     matches!(
         action,
-        UserAction::Remove { .. } | UserAction::RemoveTable { .. } | UserAction::RemoveColumn { .. }
+        DocAction::BulkRemove { .. }
+            | DocAction::RemoveTable { .. }
+            | DocAction::RemoveColumn { .. }
     )
 }
 
-fn goes(action: &UserAction, id: &Name) -> bool
+fn goes(action: &DocAction, id: &Name) -> bool
     ensures { result ≡ goes action.now id.now }
 {
     match action {
-        UserAction::RemoveTable { table } => id.as_str() == table.as_str(),
+        DocAction::RemoveTable { table } => id.as_str() == table.as_str(),
         _ => false,
     }
 }
 
-fn columns_gone(action: &UserAction, id: &Name) -> u64
-    ensures { result ≡ columns_gone action.now id.now }
+fn columns_removed(action: &DocAction, id: &Name) -> u64
+    ensures { result ≡ columns_removed action.now id.now }
 {
     match action {
-        UserAction::RemoveColumn { table, .. } => (id.as_str() == table.as_str()) as u64,
+        DocAction::RemoveColumn { table, .. } => (id.as_str() == table.as_str()) as u64,
         _ => 0,
     }
 }
@@ -86,40 +157,35 @@ fn number_at<D: DocTables>(tables: &D, id: &Name, of_tables: u64, of_columns: u6
     }
 }
 
-// How many rows of the table of an id go by an action on a table.
-fn rows_gone<D: DocTables>(tables: &D, table: &Name, action: &UserAction, id: &Name) -> u64
-    requires whole { IsWhole (D.document tables.now) }
-    requires named { table.now ≡ table_of action.now }
-    ensures { result ≡ rows_gone (D.document tables.now) action.now id.now }
+// How many rows of the table of an id an action removes.
+fn rows_removed<D: DocTables>(tables: &D, action: &DocAction, id: &Name) -> u64
+    requires { IsWhole (D.document tables.now) }
+    ensures { result ≡ rows_removed (D.document tables.now) action.now id.now }
 {
     match action {
-        UserAction::Remove { table, rows, .. } => {
+        DocAction::BulkRemove { table, rows } => {
             if id.as_str() == table.as_str() {
                 rows.len() as u64
             } else {
                 0
             }
         }
-        UserAction::RemoveTable { .. } => {
+        DocAction::RemoveTable { table } => {
             number_at(tables, id, 1, column_count(tables, table) as u64)
         }
-        UserAction::RemoveColumn { .. } => number_at(tables, id, 0, 1),
+        DocAction::RemoveColumn { .. } => number_at(tables, id, 0, 1),
         _ => 0,
     }
 }
 
 // What is left of the table at an index.
-fn table_left<D: DocTables>(
-    tables: &D,
-    table: &Name,
-    action: &UserAction,
-    index: usize,
-) -> CountedMaxima
+fn table_left<D: DocTables>(tables: &D, action: &DocAction, index: usize) -> CountedMaxima
     requires whole { IsWhole (D.document tables.now) }
-    requires named { table.now ≡ table_of action.now }
     requires there { index < length (D.document tables.now) }
-    ensures columns { result.columns ≡ columns_left action.now (table_in (D.document tables.now) index) }
-    ensures rows { result.rows ≡ rows_left (D.document tables.now) action.now (table_in (D.document tables.now) index) }
+    ensures columns { result.columns
+        ≡ columns_left action.now (table_in (D.document tables.now) index) }
+    ensures rows { result.rows
+        ≡ rows_left (D.document tables.now) action.now (table_in (D.document tables.now) index) }
     ensures row_id { result.row_id ≡ 0 }
 {
     let id = table_id(tables, index);
@@ -129,51 +195,44 @@ fn table_left<D: DocTables>(
     let columns = column_count(tables, id) as u64;
     let rows = rows_in(tables, id).len() as u64;
     CountedMaxima {
-        columns: columns.saturating_sub(columns_gone(action, id)),
-        rows: rows.saturating_sub(rows_gone(tables, table, action, id)),
+        columns: columns.saturating_sub(columns_removed(action, id)),
+        rows: rows.saturating_sub(rows_removed(tables, action, id)),
         row_id: 0,
     }
 }
 
 // What is left of the maxima. No row id is told: what goes brings no greater one.
-fn maxima_left<D: DocTables>(tables: &D, table: &Name, action: &UserAction) -> CountedMaxima
+fn maxima_left<D: DocTables>(tables: &D, action: &DocAction) -> CountedMaxima
     requires whole { IsWhole (D.document tables.now) }
-    requires named { table.now ≡ table_of action.now }
     requires takes { takes_away action.now ≡ true }
-    requires valid { all_valid (D.document tables.now) (map action_of (steps_of (D.document tables.now) action.now)) ≡ true }
+    requires valid { valid (D.document tables.now) action.now ≡ true }
     requires small { (counts (D.document tables.now)).row_id ≤ 4294967295 }
-    ensures { TellsMaxima result (after (D.document tables.now) action.now) }
+    ensures { TellsMaxima result (apply (D.document tables.now) action.now) }
 {
     let mut most = no_more();
     for index in 0..table_count(tables) {
-        most = wider(most, table_left(tables, table, action, index));
+        most = wider(most, table_left(tables, action, index));
     }
     most
 }
 
-/// The maxima after an action that makes no rows. Tables are walked only where one was past a bound.
-///
-/// Errors: out of memory.
+/// The maxima after a valid action. Tables are walked only where one was past a bound before it.
 pub(crate) fn maxima_after<D: DocTables>(
-    alloc: Global,
     tables: &D,
     within: bool,
-    action: &UserAction,
-) -> Result<CountedMaxima, AllocError>
+    action: &DocAction,
+) -> CountedMaxima
     requires whole { IsWhole (D.document tables.now) }
-    requires allowed { is_allowed (D.document tables.now) action.now ≡ true }
     requires within { within ≡ are_within (counts (D.document tables.now)) }
-    requires other { makes_rows action.now ≡ false }
-    requires valid { all_valid (D.document tables.now) (map action_of (steps_of (D.document tables.now) action.now)) ≡ true }
-    ensures { IfOk result (λ e. TellsMaxima e (after (D.document tables.now) action.now)) }
+    requires valid { valid (D.document tables.now) action.now ≡ true }
+    ensures { TellsMaxima result (apply (D.document tables.now) action.now) }
 {
     if within {
-        return Ok(no_more());
+        return maxima_brought(tables, action);
     }
     let before = greatest_maxima(tables);
-    if !takes_away(action) {
-        return Ok(before);
+    if takes_away(action) {
+        return maxima_left(tables, action);
     }
-    let table = name_of(alloc, table_of(action))?;
-    Ok(maxima_left(tables, &table, action))
+    wider(before, maxima_brought(tables, action))
 }

@@ -7,7 +7,7 @@ ghost use Rattle.doc_model.specs.Counts.{formula_bytes, total};
 ghost use Rattle.doc_model.specs.DocumentLaws.{IsWhole};
 ghost use Rattle.doc_model.specs.declared.column.CellColumn.{CellColumn};
 ghost use Rattle.doc_readers.specs.Parts.{grid_at};
-ghost use Rattle.action_limits.specs.Capped.{IsCapped, all_moved, capped, has_named, is_there, moved_by};
+ghost use Rattle.action_limits.specs.Capped.{IsCapped, all_moved, all_moved_at, capped, has_named, is_there, moved_by};
 
 use crate::weighing::{
     column_count, column_weight, rows_weight, table_cells, table_weight, values_weight,
@@ -177,7 +177,8 @@ fn sum_after(before: u64, gone: u64, come: u64) -> u64
     before.saturating_sub(gone).saturating_add(come)
 }
 
-fn after_step<D: DocTables>(tables: &D, before: Moved, action: &DocAction) -> Moved
+/// The sums after an action, from those before it.
+pub(crate) fn after_action<D: DocTables>(tables: &D, before: Moved, action: &DocAction) -> Moved
     requires whole { IsWhole (D.document tables.now) }
     requires there { has_named (D.document tables.now) action.now ≡ true }
     ensures { result ≡ moved_by (D.document tables.now) before action.now }
@@ -191,15 +192,18 @@ fn after_step<D: DocTables>(tables: &D, before: Moved, action: &DocAction) -> Mo
     }
 }
 
-/// The sums after steps, from those before them.
+/// The sums after steps, from those before them. A store tells the first document alone: each step
+/// takes there what it takes at its own index.
 pub(crate) fn after_steps<D: DocTables>(tables: &D, before: Moved, steps: &[Step]) -> Moved
     requires whole { IsWhole (D.document tables.now) }
     requires there { list_all (is_there (D.document tables.now)) steps.now ≡ true }
+    requires alike { all_moved_at (D.document tables.now) before steps.now
+        ≡ all_moved (D.document tables.now) before steps.now }
     ensures { result ≡ all_moved (D.document tables.now) before steps.now }
 {
     let mut sums = before;
     for step in steps {
-        sums = after_step(tables, sums, &step.action);
+        sums = after_action(tables, sums, &step.action);
     }
     sums
 }

@@ -1,13 +1,18 @@
 //! What is counted of a document from one action to the next.
 
-ghost use Rattle.std.specs.Prelude.{◌≡◌, ◌≤◌, MatchOption, max};
+ghost use Rattle.std.specs.Prelude.{◌≡◌, ◌≤◌, MatchOption, max, true};
+ghost use Rattle.doc_model.specs.Apply.{apply};
 ghost use Rattle.doc_model.specs.Counts.{counts};
 ghost use Rattle.doc_model.specs.DocumentLaws.{IsWhole};
 ghost use Rattle.doc_model.specs.NewDocument.{new_document};
-ghost use Rattle.action_limits.specs.Tallies.{IsTally};
+ghost use Rattle.doc_model.specs.Valid.{valid};
+ghost use Rattle.action_limits.specs.Capped.{AreTaken, tally_or_limit};
+ghost use Rattle.action_limits.specs.Tallies.{IsTally, IsTallyOrLimit};
 
-use crate::limits::{are_within, counts_of};
-use doc_model::DocTables;
+use crate::limits::{Counted, CountedMaxima, are_within, counts_of, first_passed};
+use crate::maxima::maxima_after;
+use crate::moves::{Moved, after_action};
+use doc_model::{DocAction, DocTables, LimitKind};
 
 /// The counted sums of a document, kept from one action to the next: its tables, its cells and their
 /// weight in bytes; and whether no table has too many columns or rows, or too great a row id.
@@ -51,5 +56,55 @@ impl Tally {
             weight: counts.weight,
             within: are_within(counts),
         })
+    }
+
+    /// That after a valid action, or the first limit that is passed then, from the document before
+    /// the action.
+    ///
+    /// Memory: none. Cost: the rows and values that the action gives, writes or removes; where a
+    /// table was above its bounds before, a walk over all tables and columns.
+    /// Source: docs/DEFINITIONS.md, "action_limits".
+    pub fn after<D: DocTables>(self, tables: &D, action: &DocAction) -> Result<Tally, LimitKind>
+        requires whole { IsWhole (D.document tables.now) }
+        requires tally { IsTally (D.document tables.now) self }
+        requires valid { valid (D.document tables.now) action.now ≡ true }
+        ensures { IsTallyOrLimit (apply (D.document tables.now) action.now) result }
+    {
+        let sums = after_action(tables, sums_of(self), action);
+        tally_or_limit(sums, maxima_after(tables, self.within, action))
+    }
+}
+
+/// The sums of a tally.
+pub(crate) fn sums_of(tally: Tally) -> Moved
+    ensures { AreTaken tally result }
+{
+    Moved {
+        tables: tally.tables,
+        cells: tally.cells,
+        weight: tally.weight,
+    }
+}
+
+/// The tally of these sums where they and the maxima pass no limit, or else the first limit.
+pub(crate) fn tally_or_limit(sums: Moved, most: CountedMaxima) -> Result<Tally, LimitKind>
+    ensures { result ≡ tally_or_limit sums most }
+{
+    let counts = Counted {
+        tables: sums.tables,
+        columns: most.columns,
+        rows: most.rows,
+        row_id: most.row_id,
+        cells: sums.cells,
+        weight: sums.weight,
+    };
+    match first_passed(counts) {
+        Some(kind) => Err(kind),
+        None => Ok(Tally {
+            tables: sums.tables,
+            cells: sums.cells,
+            weight: sums.weight,
+            within: true,
+        }),
     }
 }

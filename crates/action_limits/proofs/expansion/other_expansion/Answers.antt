@@ -1,33 +1,48 @@
 use Rattle.std.proofs.Common.{◌≡◌, ◌∙◌, ap, map, sym, subst, true}
 use Rattle.std.specs.List.{list_all}
-use Rattle.doc_model.specs.Apply.{all_valid}
-use Rattle.action_limits.specs.Capped.{all_moved, is_there, settled}
+use Rattle.doc_model.specs.Apply.{all_valid, apply_all}
+use Rattle.action_limits.specs.Capped.{all_moved, all_moved_at, is_there, settled}
+use Rattle.action_limits.specs.Left.{IsOneOrQuiet, TellsMaxima}
 use Rattle.user_actions.specs.StepLaws.{action_of}
 use Rattle.user_actions.specs.Steps.{steps_of}
 use Rattle.action_limits.specs.Tallies.{IsExpansion}
-use Rattle.action_limits.proofs.ExpansionLemmas.{IsExact, exact_from, settled_is}
-use Rattle.action_limits.proofs.StepMoves.{other_told}
+use Rattle.action_limits.proofs.ExpansionLemmas.{exact_from, settled_is}
+use Rattle.action_limits.proofs.StepMoves.{TellsSteps, other_quiet, other_told}
 use Rattle.action_limits.proofs.expansion.other_expansion.Goals as goal
 
-pub after_steps-sums-requires-clause-there : goal.after_steps-sums-requires-clause-there
-after_steps-sums-requires-clause-there g c =
+pub after_steps-sums-requires : goal.after_steps-sums-requires
+after_steps-sums-requires g c =
     let s = g.D.DocTables.document c.args.tables.now in
     let a = c.args.action.now in
-    let made : c.in-Some.steps ≡ steps_of s a = rw c.in-Some.is at c.in_ok-steps.ensures.made in
-    let valid_all : all_valid s (map action_of (steps_of s a)) ≡ true = c.in_ok-steps.ensures.valid in
-    let exact : IsExact c.sums_of.result s = exact_from s c.args.tally c.sums_of.result c.requires.tally c.sums_of.ensures in
-    ap (list_all (is_there s)) (c.as_slice.ensures ∙ made) ∙ (other_told s a c.sums_of.result c.requires.whole c.requires.other exact valid_all).0
+    let made : c.as_slice.result.now ≡ steps_of s a = c.as_slice.ensures ∙ rw c.in-Some.is at c.in_ok-steps.ensures.made in
+    let told : TellsSteps s c.sums_of.result (steps_of s a) = other_told s a c.sums_of.result c.requires.whole c.requires.other (exact_from s c.args.tally c.sums_of.result c.requires.tally c.sums_of.ensures) c.in_ok-steps.ensures.valid in
+    record {
+      whole = c.requires.whole;
+      there = ap (list_all (is_there s)) made ∙ told.there;
+      alike = subst (λ l. all_moved_at s c.sums_of.result l ≡ all_moved s c.sums_of.result l) (sym made) told.alike;
+    }
+
+pub maxima_after_steps-most-requires : goal.maxima_after_steps-most-requires
+maxima_after_steps-most-requires g c =
+    let s = g.D.DocTables.document c.args.tables.now in
+    let a = c.args.action.now in
+    let made : c.as_slice-2.result.now ≡ steps_of s a = c.as_slice-2.ensures ∙ rw c.in-Some.is at c.in_ok-steps.ensures.made in
+    record {
+      whole = c.requires.whole;
+      within = c.requires.tally.within;
+      valid = subst (λ l. all_valid s (map action_of l) ≡ true) (sym made) c.in_ok-steps.ensures.valid;
+      quiet = subst IsOneOrQuiet (sym made) (other_quiet s a c.requires.other);
+    }
 
 pub returns : goal.returns
 returns g c =
     let s = g.D.DocTables.document c.args.tables.now in
     let a = c.args.action.now in
     let made : c.in-Some.steps ≡ steps_of s a = rw c.in-Some.is at c.in_ok-steps.ensures.made in
-    let valid_all : all_valid s (map action_of (steps_of s a)) ≡ true = c.in_ok-steps.ensures.valid in
-    let exact : IsExact c.sums_of.result s = exact_from s c.args.tally c.sums_of.result c.requires.tally c.sums_of.ensures in
-    let told = other_told s a c.sums_of.result c.requires.whole c.requires.other exact valid_all in
+    let told : TellsSteps s c.sums_of.result (steps_of s a) = other_told s a c.sums_of.result c.requires.whole c.requires.other (exact_from s c.args.tally c.sums_of.result c.requires.tally c.sums_of.ensures) c.in_ok-steps.ensures.valid in
+    let most : TellsMaxima c.maxima_after_steps-most.result (apply_all s (map action_of (steps_of s a))) = subst (λ l. TellsMaxima c.maxima_after_steps-most.result (apply_all s (map action_of l))) (c.as_slice-2.ensures ∙ made) c.maxima_after_steps-most.ensures in
     subst (IsExpansion s a)
     (sym (c.settled.ensures
-    ∙ ap (λ l. settled l c.after_steps-sums.result c.in_ok-most.most) made
-    ∙ ap (λ m. settled (steps_of s a) m c.in_ok-most.most) (c.after_steps-sums.ensures ∙ ap (all_moved s c.sums_of.result) (c.as_slice.ensures ∙ made))))
-    (settled_is s a (all_moved s c.sums_of.result (steps_of s a)) c.in_ok-most.most valid_all told.1 c.in_ok-most.ensures)
+    ∙ ap (λ l. settled l c.after_steps-sums.result c.maxima_after_steps-most.result) made
+    ∙ ap (λ m. settled (steps_of s a) m c.maxima_after_steps-most.result) (c.after_steps-sums.ensures ∙ ap (all_moved s c.sums_of.result) (c.as_slice.ensures ∙ made))))
+    (settled_is s a (all_moved s c.sums_of.result (steps_of s a)) c.maxima_after_steps-most.result c.in_ok-steps.ensures.valid told.sums most)

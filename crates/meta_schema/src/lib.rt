@@ -8,9 +8,9 @@
 //! holds; rows of the schema tables that say no table or no column are passed over. `agrees` is the
 //! test in specs/Agreement.antt, and takes no memory. The laws in laws.rt say what both mean: of a
 //! whole document the schema is the list of its plain tables, with their ids, rows and columns; and
-//! a sound document, as a store tells it, agrees with its schema exactly where it passes the test. As
-//! a store tells it, a table has the metadata row that the table of tables has for it; `agrees_law`
-//! says the same of documents, with that row as a premise.
+//! a sound document, as a store tells it, agrees with its schema exactly where it passes the test.
+//! As a store tells it, a table has the metadata row that the table of tables has for it;
+//! `agrees_law` says the same of documents, with that row as a premise.
 //! Not promised: speed. The columns of each table are found by a walk over all that are described.
 //! Read first: specs/Decoding.antt and reading.rt, then specs/Agreement.antt and agreement.rt.
 #![tactic(auto)]

@@ -40,7 +40,8 @@ fn table_names(alloc: Global) -> Result<(Name, Name), AllocError>
 // The ids of the table of columns, and of its columns of tables and ids.
 #[tactic(auto, unfolding(doc_model::specs::MetadataIds::columns_id))]
 fn column_names(alloc: Global) -> Result<(Name, Name, Name), AllocError>
-    ensures { IfOk result (λ n. (n.0 ≡ columns_id) × ((n.1 ≡ codes "parentId") × (n.2 ≡ codes "colId"))) }
+    ensures { IfOk result
+        (λ n. (n.0 ≡ columns_id) × ((n.1 ≡ codes "parentId") × (n.2 ≡ codes "colId"))) }
 {
     let columns = name_of(alloc, "_grist_Tables_column")?;
     let parent_id = name_of(alloc, "parentId")?;
@@ -49,7 +50,8 @@ fn column_names(alloc: Global) -> Result<(Name, Name, Name), AllocError>
 
 // The ids of the columns that say what a column is.
 fn info_names(alloc: Global) -> Result<(Name, Name, Name), AllocError>
-    ensures { IfOk result (λ n. (n.0 ≡ codes "type") × ((n.1 ≡ codes "isFormula") × (n.2 ≡ codes "formula"))) }
+    ensures { IfOk result
+        (λ n. (n.0 ≡ codes "type") × ((n.1 ≡ codes "isFormula") × (n.2 ≡ codes "formula"))) }
 {
     let type_text = name_of(alloc, "type")?;
     let is_formula = name_of(alloc, "isFormula")?;

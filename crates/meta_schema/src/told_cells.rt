@@ -16,7 +16,8 @@ pub(crate) fn text_in<'a, D: DocTables>(
     column: &Name,
     row: u32,
 ) -> Option<&'a CellText>
-    ensures { option_copied result ≡ text_in (told (D.document tables.now) table.now column.now row) }
+    ensures { option_copied result
+        ≡ text_in (told (D.document tables.now) table.now column.now row) }
 {
     match tables.cell(table, column, row) {
         Some(CellValue::Text(text)) => Some(text),
@@ -65,7 +66,8 @@ pub(crate) fn name_in<D: DocTables>(
     column: &Name,
     row: u32,
 ) -> Result<Option<Name>, AllocError>
-    ensures { IfOk result (λ o. o ≡ name_in (told (D.document tables.now) table.now column.now row)) }
+    ensures { IfOk result
+        (λ o. o ≡ name_in (told (D.document tables.now) table.now column.now row)) }
 {
     match text_in(tables, table, column, row) {
         Some(text) => name_of(alloc, text.as_str()),
@@ -81,7 +83,8 @@ pub(crate) fn type_in<D: DocTables>(
     column: &Name,
     row: u32,
 ) -> Result<Option<ColType>, AllocError>
-    ensures { IfOk result (λ o. o ≡ type_in (told (D.document tables.now) table.now column.now row)) }
+    ensures { IfOk result
+        (λ o. o ≡ type_in (told (D.document tables.now) table.now column.now row)) }
 {
     match text_in(tables, table, column, row) {
         Some(text) => type_of(alloc, text.as_str()),

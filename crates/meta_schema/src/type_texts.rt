@@ -25,7 +25,9 @@ fn after<'a>(text: &'a str, word: &str) -> Option<&'a str>
 
 // The type whose word stands before the name of a table.
 fn reference_of(alloc: Global, text: &str) -> Result<Option<ColType>, AllocError>
-    ensures { IfOk result (λ o. o ≡ reference text.now (codes "Ref:") Ref (reference text.now (codes "RefList:") RefList None)) }
+    ensures { IfOk result
+        (λ o. o ≡ reference text.now (codes "Ref:") Ref
+        (reference text.now (codes "RefList:") RefList None)) }
 {
     if let Some(table) = after(text, "Ref:") {
         return Ok(name_of(alloc, table)?.map(|name| ColType::Ref(name)));

@@ -26,7 +26,7 @@ use Rattle.doc_model.proofs.MaximaSums.{without-none}
 use Rattle.doc_model.proofs.SchemaCounts.{counts-apply}
 use Rattle.doc_model.proofs.SchemaMaxima.{maxima-apply}
 use Rattle.doc_readers.specs.Parts.{grid_at}
-use Rattle.action_limits.specs.declared.limits.CountedMaxima.{CountedMaxima}
+use Rattle.action_limits.specs.declared.limits.Counted.{Counted}
 use Rattle.action_limits.specs.Capped.{AddsSo, AreMaximaAdded}
 use Rattle.user_actions.specs.Kinds.{table_of}
 use Rattle.user_actions.specs.StepLaws.{action_of}
@@ -166,7 +166,7 @@ greatest_from : (b n count : ℕ) → n ≤ b → n + count ≤ max b (greatest 
 greatest_from b n zero h = grind arith
 greatest_from b n (suc count) h = let e : greatest (numbers_after n (suc count)) ≡ n + suc count = greatest-numbers n count in grind arith
 
-pub add_maxima : (s : Document) (a : UserAction) (count : ℕ) (e : CountedMaxima) → IsWhole s → AddsSo a count → all_valid s (map action_of (steps_of s a)) ≡ true → AreMaximaAdded s (table_of a) count e → TellsMore e s (after s a)
+pub add_maxima : (s : Document) (a : UserAction) (count : ℕ) (e : Counted) → IsWhole s → AddsSo a count → all_valid s (map action_of (steps_of s a)) ≡ true → AreMaximaAdded s (table_of a) count e → TellsMore e s (after s a)
 add_maxima s (Add table single n has_row_ids ks) count e whole same v told =
     let rows : List ℕ = numbers_after (last_row s table) n in
     let ok : valid s (BulkAdd table rows (all_fitted s table ks)) ≡ true = (and_parts (valid s (BulkAdd table rows (all_fitted s table ks))) true v).0 in

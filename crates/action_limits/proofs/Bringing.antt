@@ -11,7 +11,7 @@ use Rattle.doc_model.specs.DocumentLaws.{IsWhole}
 use Rattle.doc_model.specs.Valid.{valid}
 use Rattle.doc_readers.specs.Parts.{grid_at}
 use Rattle.action_limits.specs.Brought.{maxima_brought}
-use Rattle.action_limits.specs.Capped.{no_more}
+use Rattle.action_limits.specs.Capped.{no_counts}
 use Rattle.action_limits.specs.Left.{is_growing}
 use Rattle.action_limits.proofs.AddMoves.{added_columns, added_ids, added_rows}
 use Rattle.action_limits.proofs.CountedLemmas.{capped_above}
@@ -20,7 +20,7 @@ use Rattle.action_limits.proofs.Rising.{TellsBrought}
 use Rattle.action_limits.proofs.SchemaGrowth.{column_columns, column_ids, column_rows, table_columns, table_row_ids, table_rows}
 
 -- where nothing comes, no table gets more
-none_brought : (s : Document) (a : DocAction) → IsWhole s → valid s a ≡ true → is_growing a ≡ false → TellsBrought no_more s (apply s a)
+none_brought : (s : Document) (a : DocAction) → IsWhole s → valid s a ≡ true → is_growing a ≡ false → TellsBrought no_counts s (apply s a)
 none_brought s a whole v shrinks =
     let below : (c r i : ℕ) → (counts s).columns ≤ c → (counts s).rows ≤ r → (counts s).row_id ≤ i → IsBelow (apply s a) c r i
     = λ c r i columns rows row_id. stays-below s a c r i whole v shrinks (record { columns = columns; rows = rows; row_id = row_id }) in

@@ -20,8 +20,7 @@ use Rattle.doc_model.specs.Valid.{passes, valid}
 use Rattle.doc_model.proofs.Choices.{both_true}
 use Rattle.doc_model.proofs.SchemaCounts.{counts-apply}
 use Rattle.action_limits.specs.declared.expansion.Expansion.{Expansion}
-use Rattle.action_limits.specs.declared.limits.CountedMaxima.{CountedMaxima}
-use Rattle.action_limits.specs.declared.moves.Moved.{Moved}
+use Rattle.action_limits.specs.declared.limits.Counted.{Counted}
 use Rattle.action_limits.specs.declared.tally.Tally.{Tally}
 use Rattle.action_limits.specs.Capped.{AreTaken, all_moved, both_noted, capped, has_named, is_there, moved_by, maxima_noted, settled, tally_or_limit}
 use Rattle.action_limits.specs.Left.{TellsMaxima}
@@ -52,7 +51,7 @@ has_named-valid s (ModifyColumn table column info) v = there_in (is_metadata_id 
 -- ---- sums
 
 -- the sums are those of the document, in 64 bits
-pub record IsExact (m : Moved) (s : Document) : Type 0 where
+pub record IsExact (m : Counted) (s : Document) : Type 0 where
   pub tables : m.tables ≡ (counts s).tables
   pub cells : m.cells ≡ (counts s).cells
   pub weight : m.weight ≡ (counts s).weight
@@ -61,12 +60,12 @@ pub record IsExact (m : Moved) (s : Document) : Type 0 where
   pub small_weight : (counts s).weight < 2 ^ 64
 
 -- or as far as 64 bits can tell
-pub record TellsSums (m : Moved) (s : Document) : Type 0 where
+pub record TellsSums (m : Counted) (s : Document) : Type 0 where
   pub tables : m.tables ≡ capped (counts s).tables
   pub cells : m.cells ≡ capped (counts s).cells
   pub weight : m.weight ≡ capped (counts s).weight
 
-pub one_told : (s : Document) (a : DocAction) (m : Moved) → IsWhole s → valid s a ≡ true → IsExact m s → TellsSums (moved_by s m a) (apply s a)
+pub one_told : (s : Document) (a : DocAction) (m : Counted) → IsWhole s → valid s a ≡ true → IsExact m s → TellsSums (moved_by s m a) (apply s a)
 one_told s a m whole v exact =
     let moved : SumsMove s (apply s a) a = counts-apply s a whole v in
     let there : WasThere s a = was_there s a whole v in
@@ -82,7 +81,7 @@ one_told s a m whole v exact =
 capped_small : (n : ℕ) → n < 2 ^ 64 → n ≡ capped n
 capped_small n h = grind arith
 
-pub none_told : (s : Document) (m : Moved) → IsExact m s → TellsSums m s
+pub none_told : (s : Document) (m : Counted) → IsExact m s → TellsSums m s
 none_told s m exact = record {
   tables = exact.tables ∙ capped_small (counts s).tables exact.small_tables;
   cells = exact.cells ∙ capped_small (counts s).cells exact.small_cells;
@@ -90,7 +89,7 @@ none_told s m exact = record {
 }
 
 -- at most one step
-pub any_told : (s : Document) (m : Moved) (steps : List Step) → length steps ≤ 1 → IsWhole s → all_valid s (map action_of steps) ≡ true → IsExact m s → TellsSums (all_moved s m steps) (apply_all s (map action_of steps))
+pub any_told : (s : Document) (m : Counted) (steps : List Step) → length steps ≤ 1 → IsWhole s → all_valid s (map action_of steps) ≡ true → IsExact m s → TellsSums (all_moved s m steps) (apply_all s (map action_of steps))
 any_told s m [] few whole v exact = none_told s m exact
 any_told s m (x ∷ []) few whole v exact = one_told s x.action m whole (and_parts (valid s x.action) true v).0 exact
 any_told s m (x ∷ y ∷ steps) few whole v exact = absurd (omega arith)
@@ -155,7 +154,7 @@ under c h =
     let wk : (ltb 268435456 c.weight ≡ false) × (◌≡◌ {A = Option LimitKind} None None) = none_chosen (ltb 268435456 c.weight) limit.Weight None nk.1 in
     record { tables = t.0; columns = ck.0; rows = rk.0; row_id = ik.0; cells = nk.0; weight = wk.0 }
 
-both_told : (s : Document) (m : Moved) (e : CountedMaxima) → TellsSums m s → TellsMaxima e s → first_passed (both_noted m e) ≡ over s
+both_told : (s : Document) (m : Counted) (e : Counted) → TellsSums m s → TellsMaxima e s → first_passed (both_noted m e) ≡ over s
 both_told s m e sums most = first_passed-same (both_noted m e) (counts s) (record {
   tables = ap (ltb 2048) sums.tables ∙ Rattle.action_limits.proofs.CountedLemmas.capped_above 2048 (counts s).tables (omega arith);
   columns = most.columns;
@@ -175,7 +174,7 @@ within_under : (c : Counts) → IsUnder c → true ≡ are_within c
 within_under c u = sym (both_true (nat_le c.columns 1024) (nat_le c.rows 1000000 && nat_le c.row_id 4294967295) (le_true 1024 c.columns u.columns)
     (both_true (nat_le c.rows 1000000) (nat_le c.row_id 4294967295) (le_true 1000000 c.rows u.rows) (le_true 4294967295 c.row_id u.row_id)))
 
-pub tally_is : (s : Document) (m : Moved) (e : CountedMaxima) → TellsSums m s → TellsMaxima e s → IsTallyOrLimit s (tally_or_limit m e)
+pub tally_is : (s : Document) (m : Counted) (e : Counted) → TellsSums m s → TellsMaxima e s → IsTallyOrLimit s (tally_or_limit m e)
 tally_is s m e sums most =
     let same : first_passed (both_noted m e) ≡ over s = both_told s m e sums most in
     elim (first_passed (both_noted m e)) as (λ o. first_passed (both_noted m e) ≡ o → IsTallyOrLimit s (elim o as (λ _. Result Tally LimitKind) [
@@ -197,7 +196,7 @@ tally_is s m e sums most =
       | Some kind ↦ λ is. sym same ∙ is
     ] refl
 
-pub settled_is : (s : Document) (a : UserAction) (m : Moved) (e : CountedMaxima) → all_valid s (map action_of (steps_of s a)) ≡ true → TellsSums m (after s a) → TellsMaxima e (after s a) → IsExpansion s a (settled (steps_of s a) m e)
+pub settled_is : (s : Document) (a : UserAction) (m : Counted) (e : Counted) → all_valid s (map action_of (steps_of s a)) ≡ true → TellsSums m (after s a) → TellsMaxima e (after s a) → IsExpansion s a (settled (steps_of s a) m e)
 settled_is s a m e v sums most =
     elim (tally_or_limit m e) as (λ r. IsTallyOrLimit (after s a) r → IsExpansion s a (elim r as (λ _. Expansion) [
       | Ok tally ↦ Rattle.action_limits.specs.declared.expansion.Expansion.TheVariants.Steps (steps_of s a) tally
@@ -212,7 +211,7 @@ settled_is s a m e v sums most =
 small_from : (m t n : ℕ) → m ≡ t → m ≡ capped t → t ≡ n → n < 2 ^ 64
 small_from m t n same small is = grind arith
 
-pub exact_from : (s : Document) (t : Tally) (m : Moved) → IsTally s t → AreTaken t m → IsExact m s
+pub exact_from : (s : Document) (t : Tally) (m : Counted) → IsTally s t → AreTaken t m → IsExact m s
 exact_from s t m is taken = record {
   tables = taken.tables ∙ is.tables;
   cells = taken.cells ∙ is.cells;
@@ -231,7 +230,7 @@ chosen_early false false true i n w kind h = h
 chosen_early false false false true n w kind h = h
 chosen_early false false false false n w kind h = absurd (cc)
 
-pub early_is : (s : Document) (m : Moved) (e : CountedMaxima) (kind : LimitKind) → ltb 2048 m.tables ≡ ltb 2048 (counts s).tables → TellsMaxima e s → first_passed (maxima_noted m e) ≡ Some kind → over s ≡ Some kind
+pub early_is : (s : Document) (m : Counted) (e : Counted) (kind : LimitKind) → ltb 2048 m.tables ≡ ltb 2048 (counts s).tables → TellsMaxima e s → first_passed (maxima_noted m e) ≡ Some kind → over s ≡ Some kind
 early_is s m e kind tables most h =
     chosen_early (ltb 2048 (counts s).tables) (ltb 1024 (counts s).columns) (ltb 1000000 (counts s).rows) (ltb 4294967295 (counts s).row_id) (ltb 4000000 (counts s).cells) (ltb 268435456 (counts s).weight) kind
     (sym (ap (λ b. chosen b (ltb 1024 e.columns) (ltb 1000000 e.rows) (ltb 4294967295 e.row_id) false false) tables
@@ -239,5 +238,5 @@ early_is s m e kind tables most h =
     ∙ ap (λ b. chosen (ltb 2048 (counts s).tables) (ltb 1024 (counts s).columns) b (ltb 4294967295 e.row_id) false false) most.rows
     ∙ ap (λ b. chosen (ltb 2048 (counts s).tables) (ltb 1024 (counts s).columns) (ltb 1000000 (counts s).rows) b false false) most.row_id) ∙ h)
 
-pub early_row : (m : Moved) (e : CountedMaxima) → first_passed (maxima_noted m e) ≡ None → e.row_id ≤ 4294967295
+pub early_row : (m : Counted) (e : Counted) → first_passed (maxima_noted m e) ≡ None → e.row_id ≤ 4294967295
 early_row m e h = ltb-false 4294967295 e.row_id (under (maxima_noted m e) h).row_id

@@ -23,7 +23,7 @@ use Rattle.doc_model.proofs.Choices.{each_weaker, length_map, map-map, map_each}
 use Rattle.doc_model.proofs.DocumentParts.{passes_parts}
 use Rattle.doc_model.proofs.SchemaMaxima.{maxima-apply, rows-left}
 use Rattle.doc_readers.specs.Parts.{grid_at}
-use Rattle.action_limits.specs.declared.limits.CountedMaxima.{CountedMaxima}
+use Rattle.action_limits.specs.declared.limits.Counted.{Counted}
 use Rattle.action_limits.specs.Left.{TellsMaxima, columns_removed, columns_left, goes, is_growing, number_at, rows_removed, rows_left, takes_away}
 use Rattle.action_limits.proofs.AddMoves.{table_there}
 use Rattle.action_limits.proofs.CountedLemmas.{grid_found}
@@ -100,7 +100,7 @@ module _ (s : Document) (whole : IsWhole s) (x : DocAction) (v : valid s x ≡ t
       ap (λ ins. length (ins ++ without (rows_out s x t.id) t.grid.rows)) (no_new_rows x t.id shrinks)
       ∙ less_by (length (without (rows_out s x t.id) t.grid.rows)) (length (rows_out s x t.id)) (length t.grid.rows) (rows_removed s x t.id) e (rows_go t.id)
 
-  told_left : (e : CountedMaxima) → (counts s).row_id ≤ 4294967295 → e.columns ≡ greatest (map (columns_left x) s) → e.rows ≡ greatest (map (rows_left s x) s) → e.row_id ≡ 0 → TellsMaxima e (apply s x)
+  told_left : (e : Counted) → (counts s).row_id ≤ 4294967295 → e.columns ≡ greatest (map (columns_left x) s) → e.rows ≡ greatest (map (rows_left s x) s) → e.row_id ≡ 0 → TellsMaxima e (apply s x)
   told_left e small columns rows row_id =
       let most : AreGreatest (counts (apply s x)) (maxima_after s x) = maxima-apply s x whole v in
       let below : IsBelow (apply s x) (counts s).columns (counts s).rows 4294967295
@@ -116,7 +116,7 @@ no_column : (t : Table) → length t.grid.columns ≡ length t.grid.columns - 0
 no_column t = omega arith
 
 -- what is left tells the maxima after an action that takes something away
-pub left_maxima : (s : Document) (x : DocAction) (e : CountedMaxima) → IsWhole s → takes_away x ≡ true → valid s x ≡ true
+pub left_maxima : (s : Document) (x : DocAction) (e : Counted) → IsWhole s → takes_away x ≡ true → valid s x ≡ true
     → (counts s).row_id ≤ 4294967295 → e.columns ≡ greatest (map (columns_left x) s) → e.rows ≡ greatest (map (rows_left s x) s) → e.row_id ≡ 0 → TellsMaxima e (apply s x)
 left_maxima s (action.BulkRemove table rows) e whole takes v = told_left s whole (action.BulkRemove table rows) v refl (λ id. records_go table rows id) no_column (λ f. refl) e
 left_maxima s (action.RemoveTable table) e whole takes v = told_left s whole (action.RemoveTable table) v refl (λ id. table_goes s table id v) no_column (λ f. stay_told f table s) e

@@ -3,7 +3,7 @@ use Rattle.std.proofs.Common.{ℕ, true, false, ◌<◌, ◌≤◌, max, ◌≡�
 use Rattle.std.proofs.lemmas.Bool.{lt-ltb, le-ltb, ltb-true, ltb-false}
 use Rattle.doc_model.specs.Counts.{counts}
 use Rattle.doc_model.specs.Document.{Document}
-use Rattle.action_limits.specs.declared.limits.CountedMaxima.{CountedMaxima}
+use Rattle.action_limits.specs.declared.limits.Counted.{Counted}
 use Rattle.action_limits.specs.Left.{TellsMaxima}
 use Rattle.action_limits.proofs.MaximaMoves.{IsBelow}
 
@@ -15,22 +15,22 @@ same_side b r n up low = elim (ltb b r) as (λ c. ltb b r ≡ c → c ≡ ltb b 
 ] refl
 
 -- what comes tells where no bound was passed before, and nothing was more before than after
-pub record TellsMore (e : CountedMaxima) (s s' : Document) : Type 0 where
+pub record TellsMore (e : Counted) (s s' : Document) : Type 0 where
   pub columns : (counts s).columns ≤ 1024 → ltb 1024 e.columns ≡ ltb 1024 (counts s').columns
   pub rows : (counts s).rows ≤ 1000000 → ltb 1000000 e.rows ≡ ltb 1000000 (counts s').rows
   pub row_id : (counts s).row_id ≤ 4294967295 → ltb 4294967295 e.row_id ≡ ltb 4294967295 (counts s').row_id
   pub less : IsBelow s (counts s').columns (counts s').rows (counts s').row_id
 
 -- the same of an action that takes nothing away or nothing was above the bounds before
-pub record TellsBrought (e : CountedMaxima) (s s' : Document) : Type 0 where
+pub record TellsBrought (e : Counted) (s s' : Document) : Type 0 where
   pub columns : (counts s).columns ≤ 1024 → ltb 1024 e.columns ≡ ltb 1024 (counts s').columns
   pub rows : (counts s).rows ≤ 1000000 → ltb 1000000 e.rows ≡ ltb 1000000 (counts s').rows
   pub row_id : (counts s).row_id ≤ 4294967295 → ltb 4294967295 e.row_id ≡ ltb 4294967295 (counts s').row_id
 
-pub more_told : (s s' : Document) (e : CountedMaxima) → TellsBrought e s s' → IsBelow s (counts s').columns (counts s').rows (counts s').row_id → TellsMore e s s'
+pub more_told : (s s' : Document) (e : Counted) → TellsBrought e s s' → IsBelow s (counts s').columns (counts s').rows (counts s').row_id → TellsMore e s s'
 more_told s s' e told less = record { columns = told.columns; rows = told.rows; row_id = told.row_id; less = less }
 
-pub within_told : (s s' : Document) (e : CountedMaxima) → TellsBrought e s s' → IsBelow s 1024 1000000 4294967295 → TellsMaxima e s'
+pub within_told : (s s' : Document) (e : Counted) → TellsBrought e s s' → IsBelow s 1024 1000000 4294967295 → TellsMaxima e s'
 within_told s s' e told below = record { columns = told.columns below.columns; rows = told.rows below.rows; row_id = told.row_id below.row_id }
 
 -- the greater one of what was and what comes
@@ -46,7 +46,7 @@ side_of_both b before e was most now told less more is = elim (ltb b was) as (λ
       same_side b most e (grind arith) (grind arith) ∙ more le
 ] refl
 
-pub most_told : (s s' : Document) (before e most : CountedMaxima) → TellsMaxima before s → TellsMore e s s' → most.columns ≡ max before.columns e.columns → most.rows ≡ max before.rows e.rows → most.row_id ≡ max before.row_id e.row_id → TellsMaxima most s'
+pub most_told : (s s' : Document) (before e most : Counted) → TellsMaxima before s → TellsMore e s s' → most.columns ≡ max before.columns e.columns → most.rows ≡ max before.rows e.rows → most.row_id ≡ max before.row_id e.row_id → TellsMaxima most s'
 most_told s s' before e most told more columns rows row_id = record {
   columns = side_of_both 1024 before.columns e.columns (counts s).columns most.columns (counts s').columns told.columns more.less.columns more.columns columns;
   rows = side_of_both 1000000 before.rows e.rows (counts s).rows most.rows (counts s').rows told.rows more.less.rows more.rows rows;

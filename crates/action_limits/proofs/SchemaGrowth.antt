@@ -30,7 +30,7 @@ use Rattle.doc_model.proofs.SchemaCounts.{counts-apply}
 use Rattle.doc_model.proofs.SchemaMaxima.{maxima-apply}
 use Rattle.doc_model.proofs.WholeLaws.{tables_columns_apart}
 use Rattle.doc_readers.specs.Parts.{grid_at}
-use Rattle.action_limits.specs.declared.limits.CountedMaxima.{CountedMaxima}
+use Rattle.action_limits.specs.declared.limits.Counted.{Counted}
 use Rattle.action_limits.specs.Brought.{rows_described}
 use Rattle.action_limits.specs.Capped.{capped}
 use Rattle.action_limits.specs.Grown.{AreMaximaDescribed, AreMaximaGrown, grows_schema, new_tables}
@@ -267,7 +267,7 @@ module _ (s : Document) (whole : IsWhole s) (table : List ℕ) (d : ColDef) (v :
 
 -- ---- user actions
 
-table_maxima : (s : Document) (table : List ℕ) (cs : List UserCol) (e : CountedMaxima) → IsWhole s → valid s (table_said s table cs) ≡ true → AreMaximaDescribed s (length cs) 1 (length cs) e → TellsMore e s (apply s (table_said s table cs))
+table_maxima : (s : Document) (table : List ℕ) (cs : List UserCol) (e : Counted) → IsWhole s → valid s (table_said s table cs) ≡ true → AreMaximaDescribed s (length cs) 1 (length cs) e → TellsMore e s (apply s (table_said s table cs))
 table_maxima s table cs e whole v told =
     let id : List ℕ = Rattle.name_rules.specs.FreeName.free_name (table_ids s) table in
     let row : ℕ = last_row s tables_id + 1 in
@@ -288,7 +288,7 @@ table_maxima s table cs e whole v told =
       less = never-less s (table_said s table cs) whole v refl;
     }
 
-column_maxima : (s : Document) (table : List ℕ) (d : ColDef) (e : CountedMaxima) → IsWhole s → valid s (action.AddColumn table d) ≡ true → d.row ≡ last_row s columns_id + 1
+column_maxima : (s : Document) (table : List ℕ) (d : ColDef) (e : Counted) → IsWhole s → valid s (action.AddColumn table d) ≡ true → d.row ≡ last_row s columns_id + 1
     → AreMaximaDescribed s (capped (length (grid_at s table).columns + 1)) 0 1 e → TellsMore e s (apply s (action.AddColumn table d))
 column_maxima s table d e whole v row told =
     let one : (t : Table) × (find_id table_id tables_id s ≡ Some t) = tables_found s whole in
@@ -305,7 +305,7 @@ column_maxima s table d e whole v row told =
       less = never-less s (action.AddColumn table d) whole v refl;
     }
 
-pub grown_maxima : (s : Document) (a : UserAction) (e : CountedMaxima) → IsWhole s → grows_schema a ≡ true → all_valid s (map action_of (steps_of s a)) ≡ true → AreMaximaGrown s a e → TellsMore e s (after s a)
+pub grown_maxima : (s : Document) (a : UserAction) (e : Counted) → IsWhole s → grows_schema a ≡ true → all_valid s (map action_of (steps_of s a)) ≡ true → AreMaximaGrown s a e → TellsMore e s (after s a)
 grown_maxima s (AddTable table cs) e whole grows v told = table_maxima s table cs e whole (and_parts (valid s (table_said s table cs)) true v).0 told
 grown_maxima s (AddColumn table c) e whole grows v told = column_maxima s table (column_said s table c) e whole (and_parts (valid s (action.AddColumn table (column_said s table c))) true v).0 refl told
 grown_maxima s (Add table single n has_row_ids ks) e whole grows v told = absurd (true≢false (sym grows))
@@ -342,7 +342,7 @@ last_capped : (m n e : ℕ) → e ≡ max (capped m) (capped n) → 4294967295 <
 last_capped m n e is past = grind arith
 
 -- a new row past the last row id is seen by the maxima
-pub grown_last : (s : Document) (a : UserAction) (e : CountedMaxima) → grows_schema a ≡ true → AreMaximaGrown s a e → 4294967295 < last_new_row s a → 4294967295 < e.row_id
+pub grown_last : (s : Document) (a : UserAction) (e : Counted) → grows_schema a ≡ true → AreMaximaGrown s a e → 4294967295 < last_new_row s a → 4294967295 < e.row_id
 grown_last s (AddTable table cs) e grows told past = last_capped (last_row s tables_id + 1) (last_row s columns_id + length cs) e.row_id told.row_id past
 grown_last s (AddColumn table c) e grows told past = last_capped (last_row s tables_id + 0) (last_row s columns_id + 1) e.row_id told.row_id (grind arith)
 grown_last s (Add table single n has_row_ids ks) e grows told past = absurd (true≢false (sym grows))

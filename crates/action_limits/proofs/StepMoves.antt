@@ -34,8 +34,7 @@ use Rattle.doc_model.proofs.SchemaCounts.{counts-apply}
 use Rattle.doc_model.proofs.TotalsLaws.{sum_of}
 use Rattle.doc_model.proofs.WholeLaws.{IsPlain}
 use Rattle.doc_readers.specs.Parts.{grid_at}
-use Rattle.action_limits.specs.declared.limits.CountedMaxima.{CountedMaxima}
-use Rattle.action_limits.specs.declared.moves.Moved.{Moved}
+use Rattle.action_limits.specs.declared.limits.Counted.{Counted}
 use Rattle.action_limits.specs.Capped.{all_moved, all_moved_at, capped, has_named, is_there, moved_by}
 use Rattle.action_limits.specs.Left.{IsOneOrQuiet, TellsMaxima, is_quiet}
 use Rattle.user_actions.specs.Kinds.{makes_rows}
@@ -94,7 +93,7 @@ no_more_than n g before e h = omega arith
 capped_back : (m n : ℕ) → m ≡ capped n → n < 2 ^ 64 → m ≡ n
 capped_back m n e h = grind arith
 
-module _ (s : Document) (m : Moved) (whole : IsWhole s) (exact : IsExact m s) (table column : List ℕ) (info : ColInfo) (none : info.formula ≡ []) (rows : List ℕ) (ks : List CellColumn) where
+module _ (s : Document) (m : Counted) (whole : IsWhole s) (exact : IsExact m s) (table column : List ℕ) (info : ColInfo) (none : info.formula ≡ []) (rows : List ℕ) (ks : List CellColumn) where
   abbrev first : DocAction
   first = action.ModifyColumn table column info
 
@@ -120,9 +119,12 @@ module _ (s : Document) (m : Moved) (whole : IsWhole s) (exact : IsExact m s) (t
   -- the second takes at the first document what it takes behind the first
   alike_two : valid s first ≡ true → moved_by s (moved_by s m first) second ≡ moved_by (apply s first) (moved_by s m first) second
   alike_two v =
-      let between : Moved = moved_by s m first in
-      ap (λ (g : Sums). let after : Moved = record {
+      let between : Counted = moved_by s m first in
+      ap (λ (g : Sums). let after : Counted = record {
         tables = capped (between.tables - capped g.tables + capped (come s second).tables);
+        columns = between.columns;
+        rows = between.rows;
+        row_id = between.row_id;
         cells = capped (between.cells - capped g.cells + capped (come s second).cells);
         weight = capped (between.weight - capped g.weight + capped (come s second).weight);
       } in after) (sym (gone-modified s whole table column info rows ks v))
@@ -131,25 +133,25 @@ module _ (s : Document) (m : Moved) (whole : IsWhole s) (exact : IsExact m s) (t
   two_told v next = one_told (apply s first) second (moved_by s m first) (IsWhole-apply s first whole v) next (exact_between v)
 
 -- the sums after steps, each taken at the document before it or at the first one
-pub record TellsSteps (s : Document) (m : Moved) (steps : List Step) : Type 0 where
+pub record TellsSteps (s : Document) (m : Counted) (steps : List Step) : Type 0 where
   pub there : list_all (is_there s) steps ≡ true
   pub alike : all_moved_at s m steps ≡ all_moved s m steps
   pub sums : TellsSums (all_moved s m steps) (apply_all s (map action_of steps))
 
-pub few_alike : (s : Document) (m : Moved) (steps : List Step) → length steps ≤ 1 → all_moved_at s m steps ≡ all_moved s m steps
+pub few_alike : (s : Document) (m : Counted) (steps : List Step) → length steps ≤ 1 → all_moved_at s m steps ≡ all_moved s m steps
 few_alike s m [] few = refl
 few_alike s m (x ∷ []) few = refl
 few_alike s m (x ∷ y ∷ steps) few = absurd (omega arith)
 
 -- no step or one
-pub any_steps : (s : Document) (m : Moved) (steps : List Step) → length steps ≤ 1 → IsWhole s → IsExact m s → all_valid s (map action_of steps) ≡ true → TellsSteps s m steps
+pub any_steps : (s : Document) (m : Counted) (steps : List Step) → length steps ≤ 1 → IsWhole s → IsExact m s → all_valid s (map action_of steps) ≡ true → TellsSteps s m steps
 any_steps s m steps few whole exact v = record {
   there = any_there s steps few v;
   alike = few_alike s m steps few;
   sums = any_told s m steps few whole v exact;
 }
 
-pair_told : (s : Document) (m : Moved) → IsWhole s → IsExact m s → (table column : List ℕ) (info : ColInfo) → info.formula ≡ [] → (rows : List ℕ) (ks : List CellColumn) (some : List ℕ)
+pair_told : (s : Document) (m : Counted) → IsWhole s → IsExact m s → (table column : List ℕ) (info : ColInfo) → info.formula ≡ [] → (rows : List ℕ) (ks : List CellColumn) (some : List ℕ)
     → all_valid s (map action_of (direct (action.ModifyColumn table column info) ∷ if_any some (indirect (action.BulkUpdate table rows ks)))) ≡ true
     → TellsSteps s m (direct (action.ModifyColumn table column info) ∷ if_any some (indirect (action.BulkUpdate table rows ks)))
 pair_told s m whole exact table column info none rows ks [] v = any_steps s m (direct (action.ModifyColumn table column info) ∷ []) (omega arith) whole exact v
@@ -165,7 +167,7 @@ pair_told s m whole exact table column info none rows ks (q ∷ some) v =
       sums = two_told s m whole exact table column info none rows ks parts.0 next;
     }
 
-unless_told : (s : Document) (m : Moved) → IsExact m s → (b : Bool) (steps : List Step) → (all_valid s (map action_of steps) ≡ true → TellsSteps s m steps) → all_valid s (map action_of (cond b [] steps)) ≡ true → TellsSteps s m (cond b [] steps)
+unless_told : (s : Document) (m : Counted) → IsExact m s → (b : Bool) (steps : List Step) → (all_valid s (map action_of steps) ≡ true → TellsSteps s m steps) → all_valid s (map action_of (cond b [] steps)) ≡ true → TellsSteps s m (cond b [] steps)
 unless_told s m exact true steps h v = record { there = refl; alike = refl; sums = none_told s m exact }
 unless_told s m exact false steps h v = h v
 
@@ -179,7 +181,7 @@ few_unless : (b : Bool) (x : Step) → length (cond b [] (x ∷ [])) ≤ 1
 few_unless true x = omega arith
 few_unless false x = omega arith
 
-pub other_told : (s : Document) (a : UserAction) (m : Moved) → IsWhole s → makes_rows a ≡ false → IsExact m s → all_valid s (map action_of (steps_of s a)) ≡ true → TellsSteps s m (steps_of s a)
+pub other_told : (s : Document) (a : UserAction) (m : Counted) → IsWhole s → makes_rows a ≡ false → IsExact m s → all_valid s (map action_of (steps_of s a)) ≡ true → TellsSteps s m (steps_of s a)
 other_told s (Add table single count has_row_ids ks) m whole other exact v = absurd (true≢false other)
 other_told s (Update table single rows ks) m whole other exact v = any_steps s m (steps_of s (Update table single rows ks)) (few_if_any (row_ids rows) (direct (action.BulkUpdate table (row_ids rows) (all_fitted s table ks)))) whole exact v
 other_told s (Remove table single rows) m whole other exact v = any_steps s m (steps_of s (Remove table single rows)) (omega arith) whole exact v
@@ -215,7 +217,7 @@ all_quiet (x ∷ []) quiet other = absurd (other refl)
 all_quiet (x ∷ y ∷ steps) quiet other = quiet
 
 -- steps that are not one keep the maxima
-pub kept_maxima : (s : Document) (steps : List Step) (e : CountedMaxima) → IsWhole s → all_valid s (map action_of steps) ≡ true → IsOneOrQuiet steps → (length steps ≡ 1 → ⊥) → TellsMaxima e s → TellsMaxima e (apply_all s (map action_of steps))
+pub kept_maxima : (s : Document) (steps : List Step) (e : Counted) → IsWhole s → all_valid s (map action_of steps) ≡ true → IsOneOrQuiet steps → (length steps ≡ 1 → ⊥) → TellsMaxima e s → TellsMaxima e (apply_all s (map action_of steps))
 kept_maxima s steps e whole v quiet other told =
     let same : SameMaxima s (apply_all s (map action_of steps)) = same_all s steps whole v (all_quiet steps quiet other) in
     record {

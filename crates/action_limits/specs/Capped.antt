@@ -18,8 +18,6 @@ use Rattle.doc_readers.specs.Parts.{grid_at}
 use Rattle.action_limits.specs.declared.expansion.Expansion.{Expansion}
 use Rattle.action_limits.specs.declared.expansion.Expansion.TheVariants as expansion
 use Rattle.action_limits.specs.declared.limits.Counted.{Counted}
-use Rattle.action_limits.specs.declared.limits.CountedMaxima.{CountedMaxima}
-use Rattle.action_limits.specs.declared.moves.Moved.{Moved}
 use Rattle.action_limits.specs.declared.tally.Tally.{Tally}
 use Rattle.user_actions.specs.Steps.{last_row}
 
@@ -64,26 +62,29 @@ pub record IsCounted (s : Document) (c : Counted) : Type 0 where
   pub weight : c.weight ≡ capped (counts s).weight
 
 -- sums as they are noted
-pub record IsCapped (m : Moved) (n : Sums) : Type 0 where
+pub record IsCapped (m : Counted) (n : Sums) : Type 0 where
   pub tables : m.tables ≡ capped n.tables
   pub cells : m.cells ≡ capped n.cells
   pub weight : m.weight ≡ capped n.weight
 
 -- the sums after an action, from those before it
-abbrev pub moved_by : Document → Moved → DocAction → Moved
+abbrev pub moved_by : Document → Counted → DocAction → Counted
 moved_by s m a = record {
   tables = capped (m.tables - capped (gone s a).tables + capped (come s a).tables);
+  columns = m.columns;
+  rows = m.rows;
+  row_id = m.row_id;
   cells = capped (m.cells - capped (gone s a).cells + capped (come s a).cells);
   weight = capped (m.weight - capped (gone s a).weight + capped (come s a).weight);
 }
 
 -- and after steps, each taken at the document before it
-abbrev pub all_moved : Document → Moved → List Step → Moved
+abbrev pub all_moved : Document → Counted → List Step → Counted
 all_moved s m [] = m
 all_moved s m (step ∷ steps) = all_moved (apply s step.action) (moved_by s m step.action) steps
 
 -- the same where each is taken at one document
-abbrev pub all_moved_at : Document → Moved → List Step → Moved
+abbrev pub all_moved_at : Document → Counted → List Step → Counted
 all_moved_at s m [] = m
 all_moved_at s m (step ∷ steps) = all_moved_at s (moved_by s m step.action) steps
 
@@ -104,7 +105,7 @@ abbrev pub is_there : Document → Step → Bool
 is_there s step = has_named s step.action
 
 -- the counts of these sums and these maxima
-abbrev pub both_noted : Moved → CountedMaxima → Counts
+abbrev pub both_noted : Counted → Counted → Counts
 both_noted m e = record {
   tables = m.tables;
   columns = e.columns;
@@ -115,24 +116,35 @@ both_noted m e = record {
 }
 
 -- the tally of these sums where they and the maxima pass no limit, or else the first limit
-abbrev pub tally_or_limit : Moved → CountedMaxima → Result Tally LimitKind
+abbrev pub tally_or_limit : Counted → Counted → Result Tally LimitKind
 tally_or_limit m e = elim (first_passed (both_noted m e)) [
   | None ↦ Ok (record { tables = m.tables; cells = m.cells; weight = m.weight; within = true })
   | Some kind ↦ Err kind
 ]
 
 -- what steps come to, by the counts after them
-abbrev pub settled : List Step → Moved → CountedMaxima → Expansion
+abbrev pub settled : List Step → Counted → Counted → Expansion
 settled steps m e = elim (tally_or_limit m e) [
   | Ok tally ↦ expansion.Steps steps tally
   | Err kind ↦ expansion.Limit kind
 ]
 
-abbrev pub no_more : CountedMaxima
-no_more = record { columns = 0; rows = 0; row_id = 0 }
+-- so many columns, so many rows and that row id, and no sums
+abbrev pub most_of : ℕ → ℕ → ℕ → Counted
+most_of columns rows row_id = record {
+  tables = 0;
+  columns = columns;
+  rows = rows;
+  row_id = row_id;
+  cells = 0;
+  weight = 0;
+}
+
+abbrev pub no_counts : Counted
+no_counts = most_of 0 0 0
 
 -- a tally's sums, which 64 bits can tell
-pub record AreTaken (t : Tally) (m : Moved) : Type 0 where
+pub record AreTaken (t : Tally) (m : Counted) : Type 0 where
   pub tables : m.tables ≡ t.tables
   pub cells : m.cells ≡ t.cells
   pub weight : m.weight ≡ t.weight
@@ -141,7 +153,7 @@ pub record AreTaken (t : Tally) (m : Moved) : Type 0 where
   pub small_weight : m.weight ≡ capped t.weight
 
 -- the counts of maxima alone
-abbrev pub maxima_noted : Moved → CountedMaxima → Counts
+abbrev pub maxima_noted : Counted → Counted → Counts
 maxima_noted m e = record {
   tables = m.tables;
   columns = e.columns;
@@ -157,7 +169,7 @@ AddsSo (Add table single count has_row_ids ks) n = n ≡ count
 AddsSo _ n = ⊥
 
 -- the rows of a table where so many come to it
-pub record AreMaximaAdded (s : Document) (table : List ℕ) (count : ℕ) (e : CountedMaxima) : Type 0 where
+pub record AreMaximaAdded (s : Document) (table : List ℕ) (count : ℕ) (e : Counted) : Type 0 where
   pub columns : e.columns ≡ 0
   pub rows : e.rows ≡ capped (length (grid_at s table).rows + count)
   pub row_id : e.row_id ≡ last_row s table + count

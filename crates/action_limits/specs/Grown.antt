@@ -5,13 +5,13 @@ use Rattle.doc_model.specs.declared.user_action.UserAction.TheVariants.{AddTable
 use Rattle.doc_model.specs.Document.{Document}
 use Rattle.doc_model.specs.MetadataIds.{columns_id, tables_id}
 use Rattle.doc_readers.specs.Parts.{grid_at}
-use Rattle.action_limits.specs.declared.limits.CountedMaxima.{CountedMaxima}
+use Rattle.action_limits.specs.declared.limits.Counted.{Counted}
 use Rattle.action_limits.specs.Brought.{rows_described}
 use Rattle.action_limits.specs.Capped.{capped}
 use Rattle.user_actions.specs.Steps.{last_row}
 
 -- so many columns of a table, and the rows where so many tables and columns are described
-pub record AreMaximaDescribed (s : Document) (wide new_tables new_columns : ℕ) (e : CountedMaxima) : Type 0 where
+pub record AreMaximaDescribed (s : Document) (wide new_tables new_columns : ℕ) (e : Counted) : Type 0 where
   pub columns : e.columns ≡ wide
   pub rows : e.rows ≡ rows_described s new_tables new_columns
   pub row_id : e.row_id
@@ -28,7 +28,7 @@ abbrev pub new_tables : UserAction → ℕ
 new_tables (AddTable table cs) = 1
 new_tables _ = 0
 
-abbrev pub AreMaximaGrown : Document → UserAction → CountedMaxima → Type 0
+abbrev pub AreMaximaGrown : Document → UserAction → Counted → Type 0
 AreMaximaGrown s (AddTable table cs) e = AreMaximaDescribed s (length cs) 1 (length cs) e
 AreMaximaGrown s (AddColumn table c) e =
     AreMaximaDescribed s (capped (length (grid_at s table).columns + 1)) 0 1 e

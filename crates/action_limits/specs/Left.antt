@@ -11,10 +11,10 @@ use Rattle.doc_model.specs.Counts.{bound_of, counts}
 use Rattle.doc_model.specs.Document.{Document, Table}
 use Rattle.doc_model.specs.MetadataIds.{columns_id, tables_id}
 use Rattle.doc_readers.specs.Parts.{grid_at}
-use Rattle.action_limits.specs.declared.limits.CountedMaxima.{CountedMaxima}
+use Rattle.action_limits.specs.declared.limits.Counted.{Counted}
 
 -- the maxima stand on the same sides of their bounds as those of the document
-pub record TellsMaxima (e : CountedMaxima) (s : Document) : Type 0 where
+pub record TellsMaxima (e : Counted) (s : Document) : Type 0 where
   pub columns : nat_lt (bound_of Columns) e.columns ≡ nat_lt (bound_of Columns) (counts s).columns
   pub rows : nat_lt (bound_of Rows) e.rows ≡ nat_lt (bound_of Rows) (counts s).rows
   pub row_id : nat_lt (bound_of RowId) e.row_id ≡ nat_lt (bound_of RowId) (counts s).row_id

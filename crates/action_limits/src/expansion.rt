@@ -15,9 +15,9 @@ ghost use Rattle.user_actions.specs.StepLaws.{action_of};
 ghost use Rattle.action_limits.specs.Tallies.{IsExpansion, IsTally, are_within};
 
 use crate::Tally;
-use crate::limits::{Counted, CountedMaxima, first_passed, wider};
+use crate::limits::{Counted, first_passed, no_counts, wider};
 use crate::maxima::{columns_with_one, maxima_after, maxima_before, rows_described, rows_with};
-use crate::moves::{Moved, after_steps};
+use crate::moves::after_steps;
 use crate::tally::{sums_of, tally_or_limit};
 use cell_types::Name;
 use doc_model::{DocTables, LimitKind, Step, StepList, UserAction};
@@ -36,7 +36,7 @@ pub enum Expansion {
 }
 
 // What steps come to, by the sums and the maxima after them.
-fn settled(steps: StepList, sums: Moved, most: CountedMaxima) -> Expansion
+fn settled(steps: StepList, sums: Counted, most: Counted) -> Expansion
     ensures { result ≡ settled steps sums most }
 {
     match tally_or_limit(sums, most) {
@@ -46,7 +46,7 @@ fn settled(steps: StepList, sums: Moved, most: CountedMaxima) -> Expansion
 }
 
 // The maxima after the steps of an action that makes no rows: of two steps neither moves them.
-fn maxima_after_steps<D: DocTables>(tables: &D, within: bool, steps: &[Step]) -> CountedMaxima
+fn maxima_after_steps<D: DocTables>(tables: &D, within: bool, steps: &[Step]) -> Counted
     requires whole { IsWhole (D.document tables.now) }
     requires within { within ≡ are_within (counts (D.document tables.now)) }
     requires valid { all_valid (D.document tables.now) (map action_of steps.now) ≡ true }
@@ -82,28 +82,26 @@ fn other_expansion<D: DocTables>(
 }
 
 // The most rows and the greatest row id where so many records come to a table.
-fn maxima_added<D: DocTables>(tables: &D, table: &Name, count: u32) -> CountedMaxima
+fn maxima_added<D: DocTables>(tables: &D, table: &Name, count: u32) -> Counted
     requires { IsWhole (D.document tables.now) }
     ensures { AreMaximaAdded (D.document tables.now) table.now count result }
 {
-    CountedMaxima {
-        columns: 0,
+    Counted {
         rows: rows_with(tables, table, count as u64),
         row_id: last_row(tables, table) as u64 + count as u64,
+        ..no_counts()
     }
 }
 
 // The first limit of tables, columns, rows and row ids that the counts pass.
-fn first_of_maxima(sums: Moved, most: CountedMaxima) -> Option<LimitKind>
+fn first_of_maxima(sums: Counted, most: Counted) -> Option<LimitKind>
     ensures { result ≡ first_passed (maxima_noted sums most) }
 {
     first_passed(Counted {
         tables: sums.tables,
-        columns: most.columns,
-        rows: most.rows,
-        row_id: most.row_id,
         cells: 0,
         weight: 0,
+        ..most
     })
 }
 
@@ -144,22 +142,23 @@ fn maxima_described<D: DocTables>(
     columns: u64,
     new_tables: u64,
     new_columns: u64,
-) -> CountedMaxima
+) -> Counted
     requires { IsWhole (D.document tables.now) }
     ensures { AreMaximaDescribed (D.document tables.now) columns new_tables new_columns result }
 {
     let last_table = last_row(tables, tables_table(tables)) as u64;
     let last_column = last_row(tables, columns_table(tables)) as u64;
-    CountedMaxima {
+    Counted {
         columns,
         rows: rows_described(tables, new_tables, new_columns),
         row_id: last_table
             .saturating_add(new_tables)
             .max(last_column.saturating_add(new_columns)),
+        ..no_counts()
     }
 }
 
-fn maxima_grown<D: DocTables>(tables: &D, table: &Name, action: &UserAction) -> CountedMaxima
+fn maxima_grown<D: DocTables>(tables: &D, table: &Name, action: &UserAction) -> Counted
     requires whole { IsWhole (D.document tables.now) }
     requires named { table.now ≡ table_of action.now }
     ensures { AreMaximaGrown (D.document tables.now) action.now result }
@@ -174,14 +173,14 @@ fn maxima_grown<D: DocTables>(tables: &D, table: &Name, action: &UserAction) -> 
 }
 
 // The counted tables with those that an action adds.
-fn with_new_tables(tally: Tally, action: &UserAction) -> Moved
+fn with_new_tables(tally: Tally, action: &UserAction) -> Counted
     ensures { result.tables ≡ capped (tally.tables + new_tables action.now) }
 {
     let added = match action {
         UserAction::AddTable { .. } => 1,
         _ => 0,
     };
-    Moved {
+    Counted {
         tables: tally.tables.saturating_add(added),
         ..sums_of(tally)
     }

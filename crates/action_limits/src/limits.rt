@@ -1,11 +1,12 @@
 //! What a document counts, and the first limit that it passes.
 
 ghost use Rattle.std.specs.Prelude.{◌≡◌, ◌<◌, ◌≤◌, ◌+◌, length, max};
+ghost use Rattle.doc_model.specs.CountLaws.{nothing};
 ghost use Rattle.doc_model.specs.Counts.{counts, first_passed, greatest, over, passed};
 ghost use Rattle.doc_model.specs.DocumentLaws.{IsWhole};
 ghost use Rattle.doc_readers.specs.Parts.{grid_at};
 ghost use Rattle.action_limits.specs.Tallies.{are_within};
-ghost use Rattle.action_limits.specs.Capped.{IsCounted, capped, counted_cells, counted_weight, noted, table_in};
+ghost use Rattle.action_limits.specs.Capped.{IsCapped, IsCounted, capped, counted_cells, counted_weight, most_of, no_counts, noted, table_in};
 
 use crate::weighing::{column_count, table_cells, table_weight};
 use cell_types::Name;
@@ -13,7 +14,8 @@ use doc_model::{DocTables, LimitKind};
 use doc_readers::{is_schema_id, rows_in, tables_table};
 use user_actions::last_row;
 
-/// What is counted of a document.
+/// Counts of a document, or a part of them: sums, and what is the most of any table. Each is told as
+/// far as 64 bits can.
 #[derive(Clone, Copy)]
 pub(crate) struct Counted {
     pub(crate) tables: u64,
@@ -24,12 +26,26 @@ pub(crate) struct Counted {
     pub(crate) weight: u64,
 }
 
-/// The most columns, the most rows and the greatest row id of tables.
-#[derive(Clone, Copy)]
-pub(crate) struct CountedMaxima {
-    pub(crate) columns: u64,
-    pub(crate) rows: u64,
-    pub(crate) row_id: u64,
+/// So many columns, so many rows and that row id, and no sums.
+pub(crate) fn most_of(columns: u64, rows: u64, row_id: u64) -> Counted
+    ensures { result ≡ most_of columns rows row_id }
+{
+    Counted {
+        tables: 0,
+        columns,
+        rows,
+        row_id,
+        cells: 0,
+        weight: 0,
+    }
+}
+
+/// No counts.
+pub(crate) fn no_counts() -> Counted
+    ensures value { result ≡ no_counts }
+    ensures sums { IsCapped result nothing }
+{
+    most_of(0, 0, 0)
 }
 
 // The limit where the count is above its bound, or else the next one.
@@ -77,46 +93,44 @@ pub(crate) fn table_id<D: DocTables>(tables: &D, index: usize) -> &Name
     id
 }
 
-fn table_maxima<D: DocTables>(tables: &D, table: &Name) -> CountedMaxima
+fn table_maxima<D: DocTables>(tables: &D, table: &Name) -> Counted
     requires { IsWhole (D.document tables.now) }
     ensures columns { result.columns ≡ length (grid_at (D.document tables.now) table.now).columns }
     ensures rows { result.rows ≡ length (grid_at (D.document tables.now) table.now).rows }
     ensures row_id { result.row_id ≡ greatest (grid_at (D.document tables.now) table.now).rows }
     ensures small { result.row_id ≤ 4294967295 }
 {
-    CountedMaxima {
+    Counted {
         columns: column_count(tables, table) as u64,
         rows: rows_in(tables, table).len() as u64,
         row_id: last_row(tables, table) as u64,
+        ..no_counts()
     }
 }
 
 /// The greater one of each.
-pub(crate) fn wider(left: CountedMaxima, right: CountedMaxima) -> CountedMaxima
+pub(crate) fn wider(left: Counted, right: Counted) -> Counted
     ensures columns { result.columns ≡ max left.columns right.columns }
     ensures rows { result.rows ≡ max left.rows right.rows }
     ensures row_id { result.row_id ≡ max left.row_id right.row_id }
 {
-    CountedMaxima {
+    Counted {
         columns: left.columns.max(right.columns),
         rows: left.rows.max(right.rows),
         row_id: left.row_id.max(right.row_id),
+        ..left
     }
 }
 
 /// The most columns, the most rows and the greatest row id of any table.
-pub(crate) fn greatest_maxima<D: DocTables>(tables: &D) -> CountedMaxima
+pub(crate) fn greatest_maxima<D: DocTables>(tables: &D) -> Counted
     requires { IsWhole (D.document tables.now) }
     ensures columns { result.columns ≡ (counts (D.document tables.now)).columns }
     ensures rows { result.rows ≡ (counts (D.document tables.now)).rows }
     ensures row_id { result.row_id ≡ (counts (D.document tables.now)).row_id }
     ensures small { result.row_id ≤ 4294967295 }
 {
-    let mut most = CountedMaxima {
-        columns: 0,
-        rows: 0,
-        row_id: 0,
-    };
+    let mut most = no_counts();
     for index in 0..table_count(tables) {
         most = wider(most, table_maxima(tables, table_id(tables, index)));
     }

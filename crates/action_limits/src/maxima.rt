@@ -8,35 +8,24 @@ ghost use Rattle.doc_model.specs.DocumentLaws.{IsWhole};
 ghost use Rattle.doc_model.specs.Valid.{valid};
 ghost use Rattle.doc_readers.specs.Parts.{grid_at};
 ghost use Rattle.action_limits.specs.Brought.{maxima_brought, rows_described};
-ghost use Rattle.action_limits.specs.Capped.{capped, no_more, table_in};
+ghost use Rattle.action_limits.specs.Capped.{capped, table_in};
 ghost use Rattle.action_limits.specs.Left.{TellsMaxima, columns_removed, columns_left, goes, number_at, rows_removed, rows_left, takes_away};
 ghost use Rattle.action_limits.specs.Tallies.{are_within};
 
-use crate::limits::{CountedMaxima, greatest_maxima, table_count, table_id, wider};
+use crate::limits::{Counted, greatest_maxima, most_of, no_counts, table_count, table_id, wider};
 use crate::weighing::column_count;
 use cell_types::Name;
 use doc_model::{ColDef, DocAction, DocTables};
 use doc_readers::{columns_table, rows_in, tables_table};
 
-/// No columns and no rows.
-pub(crate) fn no_more() -> CountedMaxima
-    ensures { result ≡ no_more }
-{
-    CountedMaxima {
-        columns: 0,
-        rows: 0,
-        row_id: 0,
-    }
-}
-
 /// The maxima of a document. Its tables are walked only where one is past a bound.
-pub(crate) fn maxima_before<D: DocTables>(tables: &D, within: bool) -> CountedMaxima
+pub(crate) fn maxima_before<D: DocTables>(tables: &D, within: bool) -> Counted
     requires whole { IsWhole (D.document tables.now) }
     requires within { within ≡ are_within (counts (D.document tables.now)) }
     ensures { TellsMaxima result (D.document tables.now) }
 {
     if within {
-        return no_more();
+        return no_counts();
     }
     greatest_maxima(tables)
 }
@@ -90,27 +79,29 @@ fn greatest_row(columns: &[ColDef]) -> u64
 }
 
 // What an action brings: of the tables that get more, how much they have then.
-fn maxima_brought<D: DocTables>(tables: &D, action: &DocAction) -> CountedMaxima
+fn maxima_brought<D: DocTables>(tables: &D, action: &DocAction) -> Counted
     requires { IsWhole (D.document tables.now) }
     ensures { result ≡ maxima_brought (D.document tables.now) action.now }
 {
     match action {
-        DocAction::BulkAdd { table, rows, .. } => CountedMaxima {
-            columns: 0,
-            rows: rows_with(tables, table, rows.len() as u64),
-            row_id: greatest(rows.as_slice()),
-        },
-        DocAction::AddTable { row, columns, .. } => CountedMaxima {
-            columns: columns.len() as u64,
-            rows: rows_described(tables, 1, columns.len() as u64),
-            row_id: (*row as u64).max(greatest_row(columns.as_slice())),
-        },
-        DocAction::AddColumn { table, column } => CountedMaxima {
-            columns: columns_with_one(tables, table),
-            rows: rows_described(tables, 0, 1),
-            row_id: column.row as u64,
-        },
-        _ => no_more(),
+        DocAction::BulkAdd { table, rows, .. } => {
+            let count = rows.len() as u64;
+            most_of(
+                0,
+                rows_with(tables, table, count),
+                greatest(rows.as_slice()),
+            )
+        }
+        DocAction::AddTable { row, columns, .. } => {
+            let count = columns.len() as u64;
+            let last = (*row as u64).max(greatest_row(columns.as_slice()));
+            most_of(count, rows_described(tables, 1, count), last)
+        }
+        DocAction::AddColumn { table, column } => {
+            let columns = columns_with_one(tables, table);
+            most_of(columns, rows_described(tables, 0, 1), column.row as u64)
+        }
+        _ => no_counts(),
     }
 }
 
@@ -179,7 +170,7 @@ fn rows_removed<D: DocTables>(tables: &D, action: &DocAction, id: &Name) -> u64
 }
 
 // What is left of the table at an index.
-fn table_left<D: DocTables>(tables: &D, action: &DocAction, index: usize) -> CountedMaxima
+fn table_left<D: DocTables>(tables: &D, action: &DocAction, index: usize) -> Counted
     requires whole { IsWhole (D.document tables.now) }
     requires there { index < length (D.document tables.now) }
     ensures columns { result.columns
@@ -190,26 +181,26 @@ fn table_left<D: DocTables>(tables: &D, action: &DocAction, index: usize) -> Cou
 {
     let id = table_id(tables, index);
     if goes(action, id) {
-        return no_more();
+        return no_counts();
     }
     let columns = column_count(tables, id) as u64;
     let rows = rows_in(tables, id).len() as u64;
-    CountedMaxima {
+    Counted {
         columns: columns.saturating_sub(columns_removed(action, id)),
         rows: rows.saturating_sub(rows_removed(tables, action, id)),
-        row_id: 0,
+        ..no_counts()
     }
 }
 
 // What is left of the maxima. No row id is told: what goes brings no greater one.
-fn maxima_left<D: DocTables>(tables: &D, action: &DocAction) -> CountedMaxima
+fn maxima_left<D: DocTables>(tables: &D, action: &DocAction) -> Counted
     requires whole { IsWhole (D.document tables.now) }
     requires takes { takes_away action.now ≡ true }
     requires valid { valid (D.document tables.now) action.now ≡ true }
     requires small { (counts (D.document tables.now)).row_id ≤ 4294967295 }
     ensures { TellsMaxima result (apply (D.document tables.now) action.now) }
 {
-    let mut most = no_more();
+    let mut most = no_counts();
     for index in 0..table_count(tables) {
         most = wider(most, table_left(tables, action, index));
     }
@@ -217,11 +208,7 @@ fn maxima_left<D: DocTables>(tables: &D, action: &DocAction) -> CountedMaxima
 }
 
 /// The maxima after a valid action. Tables are walked only where one was past a bound before it.
-pub(crate) fn maxima_after<D: DocTables>(
-    tables: &D,
-    within: bool,
-    action: &DocAction,
-) -> CountedMaxima
+pub(crate) fn maxima_after<D: DocTables>(tables: &D, within: bool, action: &DocAction) -> Counted
     requires whole { IsWhole (D.document tables.now) }
     requires within { within ≡ are_within (counts (D.document tables.now)) }
     requires valid { valid (D.document tables.now) action.now ≡ true }

@@ -2,27 +2,20 @@
 
 ghost use Rattle.std.specs.Prelude.{◌≡◌, ◌+◌, ◌-◌, ◌*◌, length, map, true};
 ghost use Rattle.std.specs.List.{list_all};
-ghost use Rattle.doc_model.specs.CountLaws.{bytes_of_formula, column_weight, come, given_weight, gone, nothing};
+ghost use Rattle.doc_model.specs.CountLaws.{bytes_of_formula, column_weight, come, given_weight, gone};
 ghost use Rattle.doc_model.specs.Counts.{formula_bytes, total};
 ghost use Rattle.doc_model.specs.DocumentLaws.{IsWhole};
 ghost use Rattle.doc_model.specs.declared.column.CellColumn.{CellColumn};
 ghost use Rattle.doc_readers.specs.Parts.{grid_at};
 ghost use Rattle.action_limits.specs.Capped.{IsCapped, all_moved, all_moved_at, capped, has_named, is_there, moved_by};
 
+use crate::limits::{Counted, no_counts};
 use crate::weighing::{
     column_count, column_weight, rows_weight, table_cells, table_weight, values_weight,
 };
 use cell_types::Name;
 use doc_model::{CellColumn, ColDef, DocAction, DocTables, Step};
 use doc_readers::{find_column, rows_in};
-
-/// Tables, cells and weight, each as far as 64 bits can tell.
-#[derive(Clone, Copy)]
-pub(crate) struct Moved {
-    pub(crate) tables: u64,
-    pub(crate) cells: u64,
-    pub(crate) weight: u64,
-}
 
 // The weight of the cells of given columns in these rows.
 fn cells_given<D: DocTables>(tables: &D, table: &Name, rows: &[u32], columns: &[CellColumn]) -> u64
@@ -80,18 +73,8 @@ fn column_gone<D: DocTables>(tables: &D, table: &Name, column: &Name) -> u64
     cells.saturating_add(bytes_of_formula(tables, table, column))
 }
 
-fn nothing() -> Moved
-    ensures { IsCapped result nothing }
-{
-    Moved {
-        tables: 0,
-        cells: 0,
-        weight: 0,
-    }
-}
-
 // What an action takes away.
-fn gone<D: DocTables>(tables: &D, action: &DocAction) -> Moved
+fn gone<D: DocTables>(tables: &D, action: &DocAction) -> Counted
     requires whole { IsWhole (D.document tables.now) }
     requires there { has_named (D.document tables.now) action.now ≡ true }
     ensures { IsCapped result (gone (D.document tables.now) action.now) }
@@ -101,37 +84,36 @@ fn gone<D: DocTables>(tables: &D, action: &DocAction) -> Moved
             table,
             rows,
             columns,
-        } => Moved {
-            tables: 0,
-            cells: 0,
+        } => Counted {
             weight: cells_given(tables, table, rows.as_slice(), columns.as_slice()),
+            ..no_counts()
         },
-        DocAction::BulkRemove { table, rows } => Moved {
-            tables: 0,
+        DocAction::BulkRemove { table, rows } => Counted {
             cells: cells_in_rows(tables, table, rows.as_slice()),
             weight: rows_weight(tables, table, rows.as_slice()),
+            ..no_counts()
         },
-        DocAction::RemoveTable { table } => Moved {
+        DocAction::RemoveTable { table } => Counted {
             tables: 1,
             cells: table_cells(tables, table),
             weight: table_weight(tables, table),
+            ..no_counts()
         },
-        DocAction::RemoveColumn { table, column } => Moved {
-            tables: 0,
+        DocAction::RemoveColumn { table, column } => Counted {
             cells: rows_in(tables, table).len() as u64,
             weight: column_gone(tables, table, column),
+            ..no_counts()
         },
-        DocAction::ModifyColumn { table, column, .. } => Moved {
-            tables: 0,
-            cells: 0,
+        DocAction::ModifyColumn { table, column, .. } => Counted {
             weight: bytes_of_formula(tables, table, column),
+            ..no_counts()
         },
-        _ => nothing(),
+        _ => no_counts(),
     }
 }
 
 // What an action brings.
-fn come<D: DocTables>(tables: &D, action: &DocAction) -> Moved
+fn come<D: DocTables>(tables: &D, action: &DocAction) -> Counted
     requires whole { IsWhole (D.document tables.now) }
     requires there { has_named (D.document tables.now) action.now ≡ true }
     ensures { IsCapped result (come (D.document tables.now) action.now) }
@@ -141,32 +123,30 @@ fn come<D: DocTables>(tables: &D, action: &DocAction) -> Moved
             table,
             rows,
             columns,
-        } => Moved {
-            tables: 0,
+        } => Counted {
             cells: cells_in_rows(tables, table, rows.as_slice()),
             weight: given_weight(columns.as_slice()),
+            ..no_counts()
         },
-        DocAction::BulkUpdate { columns, .. } => Moved {
-            tables: 0,
-            cells: 0,
+        DocAction::BulkUpdate { columns, .. } => Counted {
             weight: given_weight(columns.as_slice()),
+            ..no_counts()
         },
-        DocAction::AddTable { columns, .. } => Moved {
+        DocAction::AddTable { columns, .. } => Counted {
             tables: 1,
-            cells: 0,
             weight: formulas_given(columns.as_slice()),
+            ..no_counts()
         },
-        DocAction::AddColumn { table, column } => Moved {
-            tables: 0,
+        DocAction::AddColumn { table, column } => Counted {
             cells: rows_in(tables, table).len() as u64,
             weight: column.info.formula.len() as u64,
+            ..no_counts()
         },
-        DocAction::ModifyColumn { info, .. } => Moved {
-            tables: 0,
-            cells: 0,
+        DocAction::ModifyColumn { info, .. } => Counted {
             weight: info.formula.len() as u64,
+            ..no_counts()
         },
-        _ => nothing(),
+        _ => no_counts(),
     }
 }
 
@@ -178,23 +158,24 @@ fn sum_after(before: u64, gone: u64, come: u64) -> u64
 }
 
 /// The sums after an action, from those before it.
-pub(crate) fn after_action<D: DocTables>(tables: &D, before: Moved, action: &DocAction) -> Moved
+pub(crate) fn after_action<D: DocTables>(tables: &D, before: Counted, action: &DocAction) -> Counted
     requires whole { IsWhole (D.document tables.now) }
     requires there { has_named (D.document tables.now) action.now ≡ true }
     ensures { result ≡ moved_by (D.document tables.now) before action.now }
 {
     let gone = gone(tables, action);
     let come = come(tables, action);
-    Moved {
+    Counted {
         tables: sum_after(before.tables, gone.tables, come.tables),
         cells: sum_after(before.cells, gone.cells, come.cells),
         weight: sum_after(before.weight, gone.weight, come.weight),
+        ..before
     }
 }
 
 /// The sums after steps, from those before them. A store tells the first document alone: each step
 /// takes there what it takes at its own index.
-pub(crate) fn after_steps<D: DocTables>(tables: &D, before: Moved, steps: &[Step]) -> Moved
+pub(crate) fn after_steps<D: DocTables>(tables: &D, before: Counted, steps: &[Step]) -> Counted
     requires whole { IsWhole (D.document tables.now) }
     requires there { list_all (is_there (D.document tables.now)) steps.now ≡ true }
     requires alike { all_moved_at (D.document tables.now) before steps.now

@@ -9,9 +9,9 @@ ghost use Rattle.doc_model.specs.Valid.{valid};
 ghost use Rattle.action_limits.specs.Capped.{AreTaken, tally_or_limit};
 ghost use Rattle.action_limits.specs.Tallies.{IsTally, IsTallyOrLimit};
 
-use crate::limits::{Counted, CountedMaxima, are_within, counts_of, first_passed};
+use crate::limits::{Counted, are_within, counts_of, first_passed, no_counts};
 use crate::maxima::maxima_after;
-use crate::moves::{Moved, after_action};
+use crate::moves::after_action;
 use doc_model::{DocAction, DocTables, LimitKind};
 
 /// The counted sums of a document, kept from one action to the next: its tables, its cells and their
@@ -76,27 +76,26 @@ impl Tally {
 }
 
 /// The sums of a tally.
-pub(crate) fn sums_of(tally: Tally) -> Moved
+pub(crate) fn sums_of(tally: Tally) -> Counted
     ensures { AreTaken tally result }
 {
-    Moved {
+    Counted {
         tables: tally.tables,
         cells: tally.cells,
         weight: tally.weight,
+        ..no_counts()
     }
 }
 
 /// The tally of these sums where they and the maxima pass no limit, or else the first limit.
-pub(crate) fn tally_or_limit(sums: Moved, most: CountedMaxima) -> Result<Tally, LimitKind>
+pub(crate) fn tally_or_limit(sums: Counted, most: Counted) -> Result<Tally, LimitKind>
     ensures { result ≡ tally_or_limit sums most }
 {
     let counts = Counted {
         tables: sums.tables,
-        columns: most.columns,
-        rows: most.rows,
-        row_id: most.row_id,
         cells: sums.cells,
         weight: sums.weight,
+        ..most
     };
     match first_passed(counts) {
         Some(kind) => Err(kind),

@@ -3,7 +3,3 @@ pub mod RowIndexes
 pub mod CellIndexes
 pub mod ShapedCells
 pub mod Revisions
-pub mod GivenIndexes
-pub mod Spots
-pub mod EditedCells
-pub mod PatchSteps

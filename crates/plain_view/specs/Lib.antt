@@ -1,8 +1,3 @@
 pub mod Cells
 pub mod Steps
 pub mod Told
-pub mod Given
-pub mod Sources
-pub mod Placed
-pub mod Acts
-pub mod Faults

@@ -21,7 +21,7 @@ use std::alloc::{AllocError, Global};
 /// The cells of a row; none where the row is not there.
 ///
 /// Memory: none. Cost: the logarithm of the rows.
-pub(crate) fn row_cells<'a>(table: &'a ViewTable, row: u32) -> &'a [CellValue]
+pub fn row_cells<'a>(table: &'a ViewTable, row: u32) -> &'a [CellValue]
     requires { IsShown (grid table.now) }
     ensures { result.now ≡ row_cells (grid table.now) row }
 {
@@ -34,7 +34,7 @@ pub(crate) fn row_cells<'a>(table: &'a ViewTable, row: u32) -> &'a [CellValue]
 /// The value at an index of a row, or another one where there is no index or no value.
 ///
 /// Memory: none.
-pub(crate) fn value_in<'a>(
+pub fn value_in<'a>(
     row: &'a [CellValue],
     index: Option<usize>,
     other: &'a CellValue,
@@ -53,7 +53,7 @@ pub(crate) fn value_in<'a>(
 /// Whether two values are the same.
 ///
 /// Memory: none.
-pub(crate) fn is_same_value(left: &CellValue, right: &CellValue) -> bool
+pub fn is_same_value(left: &CellValue, right: &CellValue) -> bool
     ensures { result ≡ same_value left.now right.now }
 {
     left.same_as(right)
@@ -84,7 +84,7 @@ fn cell_copies(
 /// The cells of the column of an id in these rows; Null where there is none.
 ///
 /// Cost: the rows, times the logarithm of the table's rows.
-pub(crate) fn column_of(
+pub fn column_of(
     alloc: Global,
     table: &ViewTable,
     rows: &[u32],

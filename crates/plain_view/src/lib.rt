@@ -1,34 +1,23 @@
-//! Changes of a view, and patches.
+//! Changes of a view.
 //!
-//! Stands on `cell_types` (values and names) and `doc_model` (views, and what changes and patches
-//! are). Used by whoever tells users what changed.
+//! Stands on `cell_types` (values and names) and `doc_model` (views, and what changes are). Used by
+//! whoever tells users what changed, and by `view_patch`.
 //!
-//! Promises: `changes` is the definition's list, action by action. `patch` gives the definition's
-//! view exactly where each action fits where it stands, and else tells the index of the first that
-//! does not; what it gives is a view again. `are_full` is the test of what it wants of actions.
+//! Promises: `changes` is the definition's list, action by action. What stands in a view is found by
+//! id and row: the modules `named`, `rows`, `cells` and `copies`, for crates that work on views.
 //! Not promised: time. `changes` is linear in the cells of both views, times the logarithm of the
-//! rows, and squares the number of tables and of a table's columns. `patch` builds a table anew for
-//! each action about it.
-//! Read first: view_changes.rt and revision.rt, then patching.rt and rebuilding.rt.
+//! rows, and squares the number of tables and of a table's columns.
+//! Read first: view_changes.rt and revision.rt.
 #![tactic(auto)]
 
 mod actions;
-mod cells;
+pub mod cells;
 mod columns;
-mod copies;
-mod editing;
-mod fitting;
-mod full;
-mod given;
-mod named;
-mod patching;
-mod placing;
-mod rebuilding;
+pub mod copies;
+pub mod named;
 mod records;
 mod revision;
-mod rows;
+pub mod rows;
 mod view_changes;
 
-pub use full::are_full;
-pub use patching::{PatchFault, patch};
 pub use view_changes::changes;

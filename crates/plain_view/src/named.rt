@@ -9,7 +9,7 @@ use cell_types::Name;
 use doc_model::{CellColumn, ViewCol, ViewTable};
 
 /// A thing that has an id.
-pub(crate) trait Named: Drop {
+pub trait Named: Drop {
     ghost use Rattle.std.specs.Prelude.{ℕ, List};
 
     /// The bytes of the id.
@@ -55,7 +55,7 @@ impl Named for CellColumn {
 /// Whether the thing has that id.
 ///
 /// Memory: none.
-pub(crate) fn has_id<T: Named>(thing: &T, id: &Name) -> bool
+pub fn has_id<T: Named>(thing: &T, id: &Name) -> bool
     ensures { result ≡ bytes_eq (T.id_of thing.now) id.now }
 {
     thing.id().as_str() == id.as_str()
@@ -64,7 +64,7 @@ pub(crate) fn has_id<T: Named>(thing: &T, id: &Name) -> bool
 /// The thing of an id.
 ///
 /// Memory: none. Cost: linear in the things.
-pub(crate) fn find_id<'a, T: Named>(things: &'a [T], id: &Name) -> Option<&'a T>
+pub fn find_id<'a, T: Named>(things: &'a [T], id: &Name) -> Option<&'a T>
     ensures { option_copied result ≡ find_id T.id_of id.now things.now }
 {
     for thing in things {
@@ -78,7 +78,7 @@ pub(crate) fn find_id<'a, T: Named>(things: &'a [T], id: &Name) -> Option<&'a T>
 /// The index of the thing of an id.
 ///
 /// Memory: none. Cost: linear in the things.
-pub(crate) fn index_of<T: Named>(things: &[T], id: &Name) -> Option<usize>
+pub fn index_of<T: Named>(things: &[T], id: &Name) -> Option<usize>
     ensures { result ≡ position (λ t. bytes_eq (T.id_of t) id.now) things.now }
 {
     things.iter().position(|thing| has_id(thing, id))
@@ -87,7 +87,7 @@ pub(crate) fn index_of<T: Named>(things: &[T], id: &Name) -> Option<usize>
 /// Whether there is a thing of that id.
 ///
 /// Memory: none. Cost: linear in the things.
-pub(crate) fn is_there<T: Named>(things: &[T], id: &Name) -> bool
+pub fn is_there<T: Named>(things: &[T], id: &Name) -> bool
     ensures { result ≡ has_id T.id_of things.now id.now }
 {
     for thing in things {
@@ -101,7 +101,7 @@ pub(crate) fn is_there<T: Named>(things: &[T], id: &Name) -> bool
 /// Whether no two things have one id.
 ///
 /// Memory: none. Cost: the square of the things.
-pub(crate) fn are_distinct<T: Named>(things: &[T]) -> bool
+pub fn are_distinct<T: Named>(things: &[T]) -> bool
     ensures { result ≡ are_distinct T.id_of things.now }
 {
     for index in 0..things.len() {

@@ -10,8 +10,9 @@ use crate::shown::are_shown;
 use crate::steps::{Kind, Part, Step, actions_of};
 use Part::{Bool, Int, Null};
 use doc_model::{View, ViewActionList, ViewTableList};
-use plain_view::{PatchFault, are_full, changes, patch};
+use plain_view::changes;
 use std::alloc::{AllocError, Global};
+use view_patch::{PatchFault, are_full, patch};
 
 // A without columns, and B with X and Y in the rows 1 to 3.
 static BEFORE: [Step; 3] = [

@@ -1,6 +1,0 @@
-use Rattle.std.proofs.Common.{◌≡◌, take}
-use Rattle.plain_view.specs.Given.{last_named}
-use Rattle.plain_view.proofs.given.named_index.Given as goal
-
-abbrev pub invariant-loop-index : goal.invariant-loop-index
-invariant-loop-index l = l.found ≡ last_named (take l.index l.columns) l.id

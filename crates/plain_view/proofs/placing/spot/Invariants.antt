@@ -1,5 +1,0 @@
-use Rattle.plain_view.proofs.Spots.{Passed}
-use Rattle.plain_view.proofs.placing.spot.Given as goal
-
-abbrev pub invariant-loop-index : goal.invariant-loop-index
-invariant-loop-index g l = Passed g.T.Named.id_of l.id l.things l.index

@@ -1,6 +1,0 @@
-use Rattle.std.proofs.Common.{sym, ◌∙◌}
-use Rattle.plain_view.proofs.Spots.{once}
-use Rattle.plain_view.proofs.rows.are_once.Goals as goal
-
-pub returns-then-is_ascending : goal.returns-then-is_ascending
-returns-then-is_ascending c = c.if-is_ascending.true ∙ sym (once c.args.rows.now (c.is_ascending.ensures.0 c.if-is_ascending.true))

@@ -1,0 +1,4 @@
+pub mod GivenIndexes
+pub mod Spots
+pub mod EditedCells
+pub mod PatchSteps

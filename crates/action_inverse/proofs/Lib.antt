@@ -1,4 +1,3 @@
-pub mod CellLemmas
 pub mod OrderLemmas
 pub mod SpotLemmas
 pub mod TableLemmas

@@ -49,12 +49,10 @@ module _ {X Y : Type 0} (id : X → List ℕ) (name : Y → List ℕ) (f : X →
   map-by_id (x ∷ xs) = map-put_by_id x (by_id id xs) ∙ ap (put_by_id name (f x)) (map-by_id xs)
 
 -- the old cells of given columns, put in order
-pub old_sorted : (g : Grid ColDef) (rows : List ℕ) (ks vs ws : List CellColumn) (n : ℕ) → length ks ≤ n
-    → vs ≡ map (λ (k : CellColumn). column_of column_id g rows k.id) (take n ks) → ws ≡ by_id given_id vs → ws ≡ old_columns g rows ks
-old_sorted g rows ks vs ws n all made sorted =
-    sorted
-    ∙ ap (by_id given_id) (made ∙ ap (map (λ (k : CellColumn). column_of column_id g rows k.id)) (take_all n ks all))
-    ∙ sym (map-by_id given_id given_id (λ (k : CellColumn). column_of column_id g rows k.id) (λ k. refl) ks)
+pub old_sorted : (g : Grid ColDef) (rows : List ℕ) (ks vs ws : List CellColumn)
+    → vs ≡ map (λ (k : CellColumn). column_of column_id g rows k.id) ks → ws ≡ by_id given_id vs → ws ≡ old_columns g rows ks
+old_sorted g rows ks vs ws made sorted =
+    sorted ∙ ap (by_id given_id) made ∙ sym (map-by_id given_id given_id (λ (k : CellColumn). column_of column_id g rows k.id) (λ k. refl) ks)
 
 -- the cells of data columns, put in order
 pub data_sorted : (g : Grid ColDef) (rows : List ℕ) (cs : List ColDef) (vs ws : List CellColumn) (n : ℕ) → length cs ≤ n → cs ≡ g.columns

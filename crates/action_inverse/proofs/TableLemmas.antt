@@ -20,7 +20,8 @@ use Rattle.doc_model.specs.Readers.{column_at}
 use Rattle.doc_model.specs.Schema.{no_grid}
 use Rattle.doc_model.specs.Valid.{passes, record_table, valid}
 use Rattle.doc_model.proofs.DocumentParts.{passes_parts}
-use Rattle.action_inverse.specs.Parts.{grid_at, info_back}
+use Rattle.action_inverse.specs.Parts.{info_back}
+use Rattle.doc_readers.specs.Parts.{grid_at}
 
 pub column_read : (s : Document) (t : List ℕ) (i : ℕ) (d : ColDef) → column_at s t i ≡ Some d → slice_get (grid_at s t).columns i ≡ Some d
 column_read s t i d h =

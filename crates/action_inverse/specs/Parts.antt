@@ -12,19 +12,12 @@ use Rattle.doc_model.specs.Grid.{Grid, cell}
 use Rattle.doc_model.specs.Document.{Document, table_id, table_row}
 use Rattle.doc_model.specs.Inverse.{made_of, old_columns, data_columns}
 use Rattle.doc_model.specs.Records.{column_of}
-use Rattle.doc_model.specs.Schema.{no_grid, plain_tables}
-
--- the columns, rows and cells of a table, none where it is not there
-abbrev pub grid_at : Document → List ℕ → Grid ColDef
-grid_at s table = elim (find_id table_id table s) [ None ↦ no_grid | Some t ↦ t.grid ]
+use Rattle.doc_model.specs.Schema.{plain_tables}
+use Rattle.doc_readers.specs.Parts.{grid_at}
 
 -- the row that describes a table in the table of tables
 abbrev pub metadata_row : Document → List ℕ → Option ℕ
 metadata_row s table = option_map table_row (find_id table_id table (plain_tables s))
-
--- a cell of a table, Null where there is none
-abbrev pub cell_in : Document → List ℕ → List ℕ → ℕ → CellValue
-cell_in s table column row = cell column_id (grid_at s table) column row
 
 -- the cells of a column in these rows
 abbrev pub cells_in : Document → List ℕ → List ℕ → List ℕ → CellColumn

@@ -1,28 +1,15 @@
 //! The cells that an inverse gives back.
 
 ghost use Rattle.std.specs.Prelude.{◌≡◌, IfOk};
-ghost use Rattle.action_inverse.specs.Parts.{cell_in, cells_in, data_cells, grid_at, old_cells};
+ghost use Rattle.action_inverse.specs.Parts.{cells_in, data_cells, old_cells};
+ghost use Rattle.doc_readers.specs.Parts.{grid_at};
 
 use crate::order::by_id;
-use cell_types::{CellValue, Name, ValueList, copy_of};
+use cell_types::{Name, ValueList};
 use doc_model::{CellColumn, ColDef, ColumnList, DocTables};
+use doc_readers::cell_in;
+use list_ops::all_made;
 use std::alloc::{AllocError, Global};
-
-// The cell of a column and a row, null where there is none.
-#[tactic(auto, using(crate::proofs::CellLemmas::cell_told))]
-fn cell_at<D: DocTables>(
-    tables: &D,
-    table: &Name,
-    column: &Name,
-    row: u32,
-) -> Result<CellValue, AllocError>
-    ensures { IfOk result (λ v. v ≡ cell_in (D.document tables.now) table.now column.now row) }
-{
-    match tables.cell(table, column, row) {
-        Some(value) => copy_of(value),
-        None => Ok(CellValue::Null),
-    }
-}
 
 /// The cells of a column in these rows.
 pub(crate) fn column_cells<D: DocTables>(
@@ -35,10 +22,7 @@ pub(crate) fn column_cells<D: DocTables>(
     ensures { IfOk result (λ k.
         k ≡ cells_in (D.document tables.now) table.now rows.now column.now) }
 {
-    let mut values = Vec::with_capacity(alloc, rows.len())?;
-    for row in rows {
-        values.push(cell_at(tables, table, column, *row)?)?;
-    }
+    let values = all_made(alloc, rows, |row| cell_in(tables, table, column, *row))?;
     let id = column.clone()?;
     let values = ValueList::from(values);
     Ok(CellColumn { id, values })
@@ -55,10 +39,9 @@ pub(crate) fn old_columns<D: DocTables>(
     ensures { IfOk result (λ l.
         l ≡ old_cells (D.document tables.now) table.now rows.now columns.now) }
 {
-    let mut old = Vec::with_capacity(alloc, columns.len())?;
-    for column in columns {
-        old.push(column_cells(alloc, tables, table, &column.id, rows)?)?;
-    }
+    let old = all_made(alloc, columns, |column| {
+        column_cells(alloc, tables, table, &column.id, rows)
+    })?;
     Ok(ColumnList::from(by_id(alloc, old)?))
 }
 

@@ -1,7 +1,7 @@
 //! What takes a document action back.
 //!
-//! Stands on `cell_types` (values, names and lists) and `doc_model` (documents, their actions and
-//! what a store of a document tells). Used where an undo is kept or made.
+//! Stands on `doc_model` (documents, their actions and what a store of a document tells) and
+//! `doc_readers` (cells of a table). Used where an undo is kept or made.
 //!
 //! Promises: `inverse` gives the inverse of a valid action, taken at the document before it, over
 //! any store that tells that document; the inverse law of `doc_model` says that this list is valid

@@ -1,7 +1,8 @@
 //! What an action took away, given back.
 
 ghost use Rattle.std.specs.Prelude.{◌≡◌, [], ◌∷◌, ◌++◌, true, IfOk};
-ghost use Rattle.action_inverse.specs.Parts.{cells_back, cells_in, data_cells, grid_at, info_back, old_cells};
+ghost use Rattle.action_inverse.specs.Parts.{cells_back, cells_in, data_cells, info_back, old_cells};
+ghost use Rattle.doc_readers.specs.Parts.{grid_at};
 ghost use Rattle.doc_model.specs.declared.action.DocAction.TheVariants.{AddColumn, AddTable, BulkAdd, BulkRemove, BulkUpdate, ModifyColumn, RemoveColumn, RemoveTable};
 ghost use Rattle.doc_model.specs.DocumentLaws.{IsWhole};
 ghost use Rattle.doc_model.specs.Inverse.{column_again, inverse};

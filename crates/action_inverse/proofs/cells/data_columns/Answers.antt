@@ -1,5 +1,5 @@
 use Rattle.std.proofs.Common.{rules}
-use Rattle.action_inverse.specs.Parts.{grid_at}
+use Rattle.doc_readers.specs.Parts.{grid_at}
 use Rattle.action_inverse.proofs.OrderLemmas.{data_sorted}
 use Rattle.action_inverse.proofs.cells.data_columns.Goals as goal
 

@@ -2,7 +2,7 @@ use Rattle.std.proofs.Common.{◌≡◌, not, map, filter, take}
 use Rattle.doc_model.specs.declared.column.ColDef.{ColDef}
 use Rattle.doc_model.specs.Column.{column_id}
 use Rattle.doc_model.specs.Records.{column_of}
-use Rattle.action_inverse.specs.Parts.{grid_at}
+use Rattle.doc_readers.specs.Parts.{grid_at}
 use Rattle.action_inverse.proofs.cells.data_columns.Given as goal
 
 -- the cells of the data columns so far

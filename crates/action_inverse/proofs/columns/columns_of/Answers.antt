@@ -1,5 +1,5 @@
 use Rattle.std.proofs.Common.{◌≡◌, length, rules}
-use Rattle.action_inverse.specs.Parts.{grid_at}
+use Rattle.doc_readers.specs.Parts.{grid_at}
 use Rattle.action_inverse.proofs.TableLemmas.{column_read, column_past, columns_step, columns_fewer, columns_end}
 use Rattle.action_inverse.proofs.columns.columns_of.Goals as goal
 

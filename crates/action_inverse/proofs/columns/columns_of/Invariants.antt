@@ -1,5 +1,5 @@
 use Rattle.std.proofs.Common.{◌≡◌, ◌-◌, length, take}
-use Rattle.action_inverse.specs.Parts.{grid_at}
+use Rattle.doc_readers.specs.Parts.{grid_at}
 use Rattle.action_inverse.proofs.columns.columns_of.Given as goal
 
 -- the columns so far

@@ -3,6 +3,7 @@ use Rattle.std.specs.Prelude.{ℕ, List, [], codes, Option, Some, None}
 use Rattle.serde_json.specs.Data.{Data, null, number, unsigned, string, object, Members, no_members, member, put}
 use Rattle.doc_model.specs.declared.limit.LimitKind.{LimitKind}
 use Rattle.doc_model.specs.declared.limit.LimitKind.TheVariants as limit
+use Rattle.doc_model.specs.declared.limit.RuleRef.{RuleRef}
 use Rattle.doc_model.specs.declared.refusal.Refusal.{Refusal}
 use Rattle.doc_model.specs.declared.refusal.Refusal.TheVariants as refusal
 use Rattle.doc_model.specs.declared.verdict.RetValue.{RetValue}
@@ -48,17 +49,15 @@ rets_data values = array_of ret_data values
 abbrev pub ok_data : Data → Data
 ok_data d = object (member (codes "ok") d no_members)
 
--- {"error":{..}}, with the action where there is one
-abbrev pub error_data : Option ℕ → Members → Data
-error_data None fields = object (member (codes "error") (object fields) no_members)
-error_data (Some action) fields =
-    object (member (codes "error") (object (member (codes "action") (number_data action) fields))
-    no_members)
-
 -- the fields, with the action where there is one
 abbrev pub put_action : Option ℕ → Members → Members
 put_action None fields = fields
 put_action (Some action) fields = put (codes "action") (number_data action) fields
+
+-- {"error":{..}}, with the action where there is one
+abbrev pub error_data : Option ℕ → Members → Data
+error_data action fields =
+    object (member (codes "error") (object (put_action action fields)) no_members)
 
 -- the fields that each refusal has
 abbrev pub refusal_fields : Refusal → Members
@@ -66,22 +65,17 @@ refusal_fields r =
     member (codes "code") (number_data (refusal_number r))
     (member (codes "name") (string (refusal_name r)) no_members)
 
-abbrev pub refused_data : Refusal → Option ℕ → Data
-refused_data r action = error_data action (refusal_fields r)
-
--- the fields of a refusal for a bound, without the action
+-- the fields of a refusal for a bound
 abbrev pub limited_fields : LimitKind → ℕ → Members
 limited_fields what bound =
     member (codes "bound") (number_data bound)
     (put (codes "what") (string (limit_name what)) (refusal_fields refusal.Limit))
 
-abbrev pub limited_data : LimitKind → ℕ → Option ℕ → Data
-limited_data what bound action = error_data action (limited_fields what bound)
-
-abbrev pub denied_data : ℕ → ℕ → List ℕ → Data
-denied_data action rule memo =
-    error_data (Some action) (put (codes "rule") (number_data rule)
-    (put (codes "memo") (string memo) (refusal_fields refusal.Denied)))
+-- the fields of a refusal by a rule
+abbrev pub denied_fields : RuleRef → Members
+denied_fields rule =
+    put (codes "rule") (number_data rule.row)
+    (put (codes "memo") (string rule.memo) (refusal_fields refusal.Denied))
 
 -- the reply that tells a verdict
 abbrev pub verdict_data : Verdict → Data
@@ -92,6 +86,6 @@ verdict_data (Bundle n values) =
     ok_data (object (member (codes "bundle") (number_data n)
     (member (codes "retValues") (rets_data values) no_members)))
 verdict_data (Undone n) = ok_data (object (member (codes "bundle") (number_data n) no_members))
-verdict_data (Refused r action) = refused_data r action
-verdict_data (Limited what bound action) = limited_data what bound action
-verdict_data (Denied action rule) = denied_data action rule.row rule.memo
+verdict_data (Refused r action) = error_data action (refusal_fields r)
+verdict_data (Limited what bound action) = error_data action (limited_fields what bound)
+verdict_data (Denied action rule) = error_data (Some action) (denied_fields rule)

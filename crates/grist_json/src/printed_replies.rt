@@ -3,7 +3,7 @@ ghost use Rattle.std.specs.Prelude.{◌≡◌, IfOk, codes};
 ghost use Rattle.serde_json.specs.Data.{object, no_members, member};
 ghost use Rattle.serde_json.specs.View.{view, members_view};
 ghost use Rattle.grist_json.specs.Actions.{actions_data};
-ghost use Rattle.grist_json.specs.Replies.{limit_name, number_data, id_data, ids_data, ret_data, rets_data, refusal_fields, put_action, refused_data, limited_fields, limited_data, denied_data, verdict_data};
+ghost use Rattle.grist_json.specs.Replies.{limit_name, number_data, id_data, ids_data, ret_data, rets_data, refusal_fields, put_action, error_data, limited_fields, denied_fields, verdict_data};
 
 use crate::json_parts::{object_of_one, with_member};
 use crate::printed_actions::actions_value;
@@ -90,11 +90,14 @@ fn with_action(
     }
 }
 
-// A refusal without more fields.
-fn refused_value(alloc: Global, refusal: Refusal, action: Option<u32>) -> Result<Value, AllocError>
-    ensures { IfOk result (λ v. view v ≡ refused_data refusal action) }
+// The refusal of these fields, with the action where there is one.
+fn error_value(
+    alloc: Global,
+    fields: Map<String, Value>,
+    action: Option<u32>,
+) -> Result<Value, AllocError>
+    ensures { IfOk result (λ v. view v ≡ error_data action (members_view fields.entries)) }
 {
-    let fields = refusal_fields(alloc, refusal)?;
     let fields = with_action(alloc, fields, action)?;
     object_of_one(alloc, "error", Value::Object(fields))
 }
@@ -113,30 +116,14 @@ fn limited_fields(
     with_member(alloc, fields, "bound", Value::from(bound))
 }
 
-// A refusal for a bound.
-fn limited_value(
-    alloc: Global,
-    what: LimitKind,
-    bound: u64,
-    action: Option<u32>,
-) -> Result<Value, AllocError>
-    ensures { IfOk result (λ v. view v ≡ limited_data what bound action) }
-{
-    let fields = limited_fields(alloc, what, bound)?;
-    let fields = with_action(alloc, fields, action)?;
-    object_of_one(alloc, "error", Value::Object(fields))
-}
-
-// A refusal by a rule.
-fn denied_value(alloc: Global, action: u32, rule: &RuleRef) -> Result<Value, AllocError>
-    ensures { IfOk result (λ v. view v ≡ denied_data action rule.now.row rule.now.memo) }
+// The fields of a refusal by a rule, without the action.
+fn denied_fields(alloc: Global, rule: &RuleRef) -> Result<Map<String, Value>, AllocError>
+    ensures { IfOk result (λ m. members_view m.entries ≡ denied_fields rule.now) }
 {
     let memo = Value::try_from_str(alloc, rule.memo.as_str())?;
     let fields = refusal_fields(alloc, Refusal::Denied)?;
     let fields = with_member(alloc, fields, "memo", memo)?;
-    let fields = with_member(alloc, fields, "rule", Value::from(rule.row))?;
-    let fields = with_member(alloc, fields, "action", Value::from(action))?;
-    object_of_one(alloc, "error", Value::Object(fields))
+    with_member(alloc, fields, "rule", Value::from(rule.row))
 }
 
 fn changes_value(alloc: Global, actions: &[ViewAction]) -> Result<Value, AllocError>
@@ -180,12 +167,16 @@ pub(crate) fn verdict_value(alloc: Global, verdict: &Verdict) -> Result<Value, A
             )
         }
         Verdict::Undone { number } => object_of_one(alloc, "ok", undone_value(alloc, *number)?),
-        Verdict::Refused { refusal, action } => refused_value(alloc, *refusal, *action),
+        Verdict::Refused { refusal, action } => {
+            error_value(alloc, refusal_fields(alloc, *refusal)?, *action)
+        }
         Verdict::Limited {
             what,
             bound,
             action,
-        } => limited_value(alloc, *what, *bound, *action),
-        Verdict::Denied { action, rule } => denied_value(alloc, *action, rule),
+        } => error_value(alloc, limited_fields(alloc, *what, *bound)?, *action),
+        Verdict::Denied { action, rule } => {
+            error_value(alloc, denied_fields(alloc, rule)?, Some(*action))
+        }
     }
 }

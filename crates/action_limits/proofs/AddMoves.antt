@@ -13,7 +13,7 @@ use Rattle.doc_model.specs.declared.user_action.UserAction.TheVariants.{Add, Upd
 use Rattle.doc_model.specs.Apply.{all_valid, apply}
 use Rattle.doc_model.specs.Grid.{Grid}
 use Rattle.doc_model.specs.ByIds.{find_id}
-use Rattle.doc_model.specs.CountLaws.{SumsMove, Sums, come, given_weight, nothing}
+use Rattle.doc_model.specs.CountLaws.{SumsMove, Sums, sums_added, given_weight, nothing}
 use Rattle.doc_model.specs.Counts.{counts, greatest}
 use Rattle.doc_model.specs.Document.{Document, Table, table_id}
 use Rattle.doc_model.specs.DocumentLaws.{IsWhole}
@@ -140,8 +140,8 @@ module _ (s : Document) (whole : IsWhole s) (table rows : List ℕ) (ks : List C
   pub added_tables : (counts (apply s act)).tables ≡ (counts s).tables
   added_tables =
       let moved : SumsMove s (apply s act) act = counts-apply s act whole v in
-      let none : (come s act).tables ≡ 0 = elim (find_id table_id table s) as (λ (o : Option Table). (elim o as (λ _. Sums) [ None ↦ nothing | Some t ↦ record { tables = 0; cells = length rows * length t.grid.columns; weight = given_weight ks } ]).tables ≡ 0) [ None ↦ refl | Some t ↦ refl ] in
-      let sums : (counts (apply s act)).tables + 0 ≡ (counts s).tables + (come s act).tables = moved.tables in
+      let none : (sums_added s act).tables ≡ 0 = elim (find_id table_id table s) as (λ (o : Option Table). (elim o as (λ _. Sums) [ None ↦ nothing | Some t ↦ record { tables = 0; cells = length rows * length t.grid.columns; weight = given_weight ks } ]).tables ≡ 0) [ None ↦ refl | Some t ↦ refl ] in
+      let sums : (counts (apply s act)).tables + 0 ≡ (counts s).tables + (sums_added s act).tables = moved.tables in
       omega (arith, sums, none)
 
   -- the last row is that of a table below the bound

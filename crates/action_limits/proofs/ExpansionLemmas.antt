@@ -11,7 +11,7 @@ use Rattle.doc_model.specs.declared.limit.LimitKind.TheVariants as limit
 use Rattle.doc_model.specs.declared.user_action.UserAction.{UserAction}
 use Rattle.doc_model.specs.Apply.{all_valid, apply, apply_all}
 use Rattle.doc_model.specs.ByIds.{find_id}
-use Rattle.doc_model.specs.CountLaws.{SumsMove, come, gone}
+use Rattle.doc_model.specs.CountLaws.{SumsMove, sums_added, sums_removed}
 use Rattle.doc_model.specs.Counts.{Counts, counts, first_passed, over}
 use Rattle.doc_model.specs.Document.{Document, Table, table_id}
 use Rattle.doc_model.specs.DocumentLaws.{IsWhole}
@@ -70,12 +70,12 @@ one_told s a m whole v exact =
     let moved : SumsMove s (apply s a) a = counts-apply s a whole v in
     let there : WasThere s a = was_there s a whole v in
     record {
-      tables = ap (λ n. capped (n - capped (gone s a).tables + capped (come s a).tables)) exact.tables
-          ∙ sum_moved (counts s).tables (counts (apply s a)).tables (gone s a).tables (come s a).tables (capped (gone s a).tables) (capped (come s a).tables) _ exact.small_tables there.tables moved.tables refl refl refl;
-      cells = ap (λ n. capped (n - capped (gone s a).cells + capped (come s a).cells)) exact.cells
-          ∙ sum_moved (counts s).cells (counts (apply s a)).cells (gone s a).cells (come s a).cells (capped (gone s a).cells) (capped (come s a).cells) _ exact.small_cells there.cells moved.cells refl refl refl;
-      weight = ap (λ n. capped (n - capped (gone s a).weight + capped (come s a).weight)) exact.weight
-          ∙ sum_moved (counts s).weight (counts (apply s a)).weight (gone s a).weight (come s a).weight (capped (gone s a).weight) (capped (come s a).weight) _ exact.small_weight there.weight moved.weight refl refl refl;
+      tables = ap (λ n. capped (n - capped (sums_removed s a).tables + capped (sums_added s a).tables)) exact.tables
+          ∙ sum_moved (counts s).tables (counts (apply s a)).tables (sums_removed s a).tables (sums_added s a).tables (capped (sums_removed s a).tables) (capped (sums_added s a).tables) _ exact.small_tables there.tables moved.tables refl refl refl;
+      cells = ap (λ n. capped (n - capped (sums_removed s a).cells + capped (sums_added s a).cells)) exact.cells
+          ∙ sum_moved (counts s).cells (counts (apply s a)).cells (sums_removed s a).cells (sums_added s a).cells (capped (sums_removed s a).cells) (capped (sums_added s a).cells) _ exact.small_cells there.cells moved.cells refl refl refl;
+      weight = ap (λ n. capped (n - capped (sums_removed s a).weight + capped (sums_added s a).weight)) exact.weight
+          ∙ sum_moved (counts s).weight (counts (apply s a)).weight (sums_removed s a).weight (sums_added s a).weight (capped (sums_removed s a).weight) (capped (sums_added s a).weight) _ exact.small_weight there.weight moved.weight refl refl refl;
     }
 
 capped_small : (n : ℕ) → n < 2 ^ 64 → n ≡ capped n

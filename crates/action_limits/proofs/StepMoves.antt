@@ -15,7 +15,7 @@ use Rattle.doc_model.specs.declared.user_action.UserAction.TheVariants.{Add, Upd
 use Rattle.doc_model.specs.Apply.{all_valid, apply, apply_all, with_column, with_info}
 use Rattle.doc_model.specs.ByIds.{find_id, has_id}
 use Rattle.doc_model.specs.Column.{column_id, is_sound_info}
-use Rattle.doc_model.specs.CountLaws.{Sums, SumsMove, column_weight, come, gone, nothing}
+use Rattle.doc_model.specs.CountLaws.{Sums, SumsMove, column_weight, sums_added, sums_removed, nothing}
 use Rattle.doc_model.specs.Counts.{counts, total, value_weight}
 use Rattle.doc_model.specs.Document.{Document, Table, on_grid, table_id, with_table}
 use Rattle.doc_model.specs.DocumentLaws.{IsWhole}
@@ -76,9 +76,9 @@ weight_modified column info g rows (k ∷ ks) =
     ∙ ap (λ n. column_weight g rows k.id + n) (weight_modified column info g rows ks)
 
 -- the cells of a column weigh the same after it
-gone-modified : (s : Document) → IsWhole s → (table column : List ℕ) (info : ColInfo) (rows : List ℕ) (ks : List CellColumn) → valid s (action.ModifyColumn table column info) ≡ true
-    → gone (apply s (action.ModifyColumn table column info)) (action.BulkUpdate table rows ks) ≡ gone s (action.BulkUpdate table rows ks)
-gone-modified s whole table column info rows ks v =
+sums_removed-modified : (s : Document) → IsWhole s → (table column : List ℕ) (info : ColInfo) (rows : List ℕ) (ks : List CellColumn) → valid s (action.ModifyColumn table column info) ≡ true
+    → sums_removed (apply s (action.ModifyColumn table column info)) (action.BulkUpdate table rows ks) ≡ sums_removed s (action.BulkUpdate table rows ks)
+sums_removed-modified s whole table column info rows ks v =
     ap (update_gone rows ks)
     (subst (λ d. valid d (action.ModifyColumn table column info) ≡ true → find_id table_id table (apply d (action.ModifyColumn table column info)) ≡ option_map (on_grid (with_column column (with_info info))) (find_id table_id table d))
     (sym whole.agrees.schema) (find_modified (resources s) (rules s) (plain_tables s) table column info) v)
@@ -104,9 +104,9 @@ module _ (s : Document) (m : Counted) (whole : IsWhole s) (exact : IsExact m s) 
   exact_between v =
       let told : TellsSums (moved_by s m first) (apply s first) = one_told s first m whole v exact in
       let moved : SumsMove s (apply s first) first = counts-apply s first whole v in
-      let t : (counts (apply s first)).tables < 2 ^ 64 = no_more_than (counts (apply s first)).tables (gone s first).tables (counts s).tables moved.tables exact.small_tables in
-      let c : (counts (apply s first)).cells < 2 ^ 64 = no_more_than (counts (apply s first)).cells (gone s first).cells (counts s).cells moved.cells exact.small_cells in
-      let w : (counts (apply s first)).weight < 2 ^ 64 = no_more_than (counts (apply s first)).weight (gone s first).weight (counts s).weight (moved.weight ∙ ap (λ f. (counts s).weight + length f) none) exact.small_weight in
+      let t : (counts (apply s first)).tables < 2 ^ 64 = no_more_than (counts (apply s first)).tables (sums_removed s first).tables (counts s).tables moved.tables exact.small_tables in
+      let c : (counts (apply s first)).cells < 2 ^ 64 = no_more_than (counts (apply s first)).cells (sums_removed s first).cells (counts s).cells moved.cells exact.small_cells in
+      let w : (counts (apply s first)).weight < 2 ^ 64 = no_more_than (counts (apply s first)).weight (sums_removed s first).weight (counts s).weight (moved.weight ∙ ap (λ f. (counts s).weight + length f) none) exact.small_weight in
       record {
         tables = capped_back (moved_by s m first).tables (counts (apply s first)).tables told.tables t;
         cells = capped_back (moved_by s m first).cells (counts (apply s first)).cells told.cells c;
@@ -121,13 +121,13 @@ module _ (s : Document) (m : Counted) (whole : IsWhole s) (exact : IsExact m s) 
   alike_two v =
       let between : Counted = moved_by s m first in
       ap (λ (g : Sums). let after : Counted = record {
-        tables = capped (between.tables - capped g.tables + capped (come s second).tables);
+        tables = capped (between.tables - capped g.tables + capped (sums_added s second).tables);
         columns = between.columns;
         rows = between.rows;
         row_id = between.row_id;
-        cells = capped (between.cells - capped g.cells + capped (come s second).cells);
-        weight = capped (between.weight - capped g.weight + capped (come s second).weight);
-      } in after) (sym (gone-modified s whole table column info rows ks v))
+        cells = capped (between.cells - capped g.cells + capped (sums_added s second).cells);
+        weight = capped (between.weight - capped g.weight + capped (sums_added s second).weight);
+      } in after) (sym (sums_removed-modified s whole table column info rows ks v))
 
   two_told : valid s first ≡ true → valid (apply s first) second ≡ true → TellsSums (moved_by (apply s first) (moved_by s m first) second) (apply (apply s first) second)
   two_told v next = one_told (apply s first) second (moved_by s m first) (IsWhole-apply s first whole v) next (exact_between v)

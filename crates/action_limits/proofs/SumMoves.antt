@@ -13,7 +13,7 @@ use Rattle.doc_model.specs.declared.column.ColInfo.{ColInfo}
 use Rattle.doc_model.specs.Apply.{apply}
 use Rattle.doc_model.specs.ByIds.{are_distinct, find_id, has_id}
 use Rattle.doc_model.specs.Column.{column_id, is_base, is_empty, is_short, is_sound_info, is_sound_type}
-use Rattle.doc_model.specs.CountLaws.{Sums, SumsMove, bytes_of_formula, come, column_weight, given_weight, gone, nothing, sums_of}
+use Rattle.doc_model.specs.CountLaws.{Sums, SumsMove, bytes_of_formula, sums_added, column_weight, given_weight, sums_removed, nothing, sums_of}
 use Rattle.doc_model.specs.Counts.{counts, row_weight, total}
 use Rattle.doc_model.specs.Document.{Document, Table, table_id}
 use Rattle.doc_model.specs.DocumentLaws.{IsWhole}
@@ -84,8 +84,8 @@ valid-nulled s table rows ks h =
     let parts : ((has_no_duplicates rows && from_one rows && all_in rows t.grid.rows) ≡ true) × (gives_data t.grid rows ks ≡ true) = and_parts (has_no_duplicates rows && from_one rows && all_in rows t.grid.rows) (gives_data t.grid rows ks) e in
     both_true (has_no_duplicates rows && from_one rows && all_in rows t.grid.rows) (gives_data t.grid rows (map nulled ks)) parts.0 (data-nulled t.grid rows ks parts.1)) h
 
-gone-nulled : (s : Document) (table rows : List ℕ) (ks : List CellColumn) → (gone s (BulkUpdate table rows (map nulled ks))).weight ≡ (gone s (BulkUpdate table rows ks)).weight
-gone-nulled s table rows ks = elim (find_id table_id table s) as (λ (o : Option Table).
+sums_removed-nulled : (s : Document) (table rows : List ℕ) (ks : List CellColumn) → (sums_removed s (BulkUpdate table rows (map nulled ks))).weight ≡ (sums_removed s (BulkUpdate table rows ks)).weight
+sums_removed-nulled s table rows ks = elim (find_id table_id table s) as (λ (o : Option Table).
     (elim o as (λ _. Sums) [ None ↦ nothing | Some t ↦ record { tables = 0; cells = 0; weight = total (map (λ (k : CellColumn). column_weight t.grid rows k.id) (map nulled ks)) } ]).weight
     ≡ (elim o as (λ _. Sums) [ None ↦ nothing | Some t ↦ record { tables = 0; cells = 0; weight = total (map (λ (k : CellColumn). column_weight t.grid rows k.id) ks) } ]).weight) [
       | None ↦ refl
@@ -95,9 +95,9 @@ gone-nulled s table rows ks = elim (find_id table_id table s) as (λ (o : Option
 -- ---- what is taken was there
 
 pub record WasThere (s : Document) (a : DocAction) : Type 0 where
-  pub tables : (gone s a).tables ≤ (counts s).tables
-  pub cells : (gone s a).cells ≤ (counts s).cells
-  pub weight : (gone s a).weight ≤ (counts s).weight
+  pub tables : (sums_removed s a).tables ≤ (counts s).tables
+  pub cells : (sums_removed s a).cells ≤ (counts s).cells
+  pub weight : (sums_removed s a).weight ≤ (counts s).weight
 
 only_taken : (after before g c : ℕ) → after + g ≡ before + c → c ≡ 0 → g ≤ before
 only_taken after before g c e z = omega arith
@@ -109,27 +109,27 @@ no_cells : (s : Document) (table : List ℕ) (f : Grid ColDef → ℕ) → (sums
 no_cells s table f = elim (find_id table_id table s) as (λ (o : Option Table). (elim o as (λ _. Sums) [ None ↦ nothing | Some t ↦ record { tables = 0; cells = 0; weight = f t.grid } ]).cells ≡ 0) [ None ↦ refl | Some t ↦ refl ]
 
 -- an action that brings nothing takes what was there
-taken_there : (s : Document) (a : DocAction) → IsWhole s → valid s a ≡ true → come s a ≡ nothing → WasThere s a
+taken_there : (s : Document) (a : DocAction) → IsWhole s → valid s a ≡ true → sums_added s a ≡ nothing → WasThere s a
 taken_there s a whole v none =
     let moved : SumsMove s (apply s a) a = counts-apply s a whole v in
     record {
-      tables = only_taken (counts (apply s a)).tables (counts s).tables (gone s a).tables (come s a).tables moved.tables (ap (λ (n : Sums). n.tables) none);
-      cells = only_taken (counts (apply s a)).cells (counts s).cells (gone s a).cells (come s a).cells moved.cells (ap (λ (n : Sums). n.cells) none);
-      weight = only_taken (counts (apply s a)).weight (counts s).weight (gone s a).weight (come s a).weight moved.weight (ap (λ (n : Sums). n.weight) none);
+      tables = only_taken (counts (apply s a)).tables (counts s).tables (sums_removed s a).tables (sums_added s a).tables moved.tables (ap (λ (n : Sums). n.tables) none);
+      cells = only_taken (counts (apply s a)).cells (counts s).cells (sums_removed s a).cells (sums_added s a).cells moved.cells (ap (λ (n : Sums). n.cells) none);
+      weight = only_taken (counts (apply s a)).weight (counts s).weight (sums_removed s a).weight (sums_added s a).weight moved.weight (ap (λ (n : Sums). n.weight) none);
     }
 
 -- one that takes nothing
-untaken : (s : Document) (a : DocAction) → gone s a ≡ nothing → WasThere s a
+untaken : (s : Document) (a : DocAction) → sums_removed s a ≡ nothing → WasThere s a
 untaken s a none =
-    let t : (gone s a).tables ≡ 0 = ap (λ (n : Sums). n.tables) none in
-    let c : (gone s a).cells ≡ 0 = ap (λ (n : Sums). n.cells) none in
-    let w : (gone s a).weight ≡ 0 = ap (λ (n : Sums). n.weight) none in
+    let t : (sums_removed s a).tables ≡ 0 = ap (λ (n : Sums). n.tables) none in
+    let c : (sums_removed s a).cells ≡ 0 = ap (λ (n : Sums). n.cells) none in
+    let w : (sums_removed s a).weight ≡ 0 = ap (λ (n : Sums). n.weight) none in
     record { tables = omega (arith, t); cells = omega (arith, c); weight = omega (arith, w) }
 
 -- one that changes weight alone, by another one that takes as much and brings none
-weight_there : (s : Document) (a b : DocAction) → IsWhole s → (gone s a).tables ≡ 0 → (gone s a).cells ≡ 0 → valid s b ≡ true → (gone s b).weight ≡ (gone s a).weight → (come s b).weight ≡ 0 → WasThere s a
+weight_there : (s : Document) (a b : DocAction) → IsWhole s → (sums_removed s a).tables ≡ 0 → (sums_removed s a).cells ≡ 0 → valid s b ≡ true → (sums_removed s b).weight ≡ (sums_removed s a).weight → (sums_added s b).weight ≡ 0 → WasThere s a
 weight_there s a b whole t c v same none =
-    let w : (gone s b).weight ≤ (counts s).weight = only_taken (counts (apply s b)).weight (counts s).weight (gone s b).weight (come s b).weight (counts-apply s b whole v).weight none in
+    let w : (sums_removed s b).weight ≤ (counts s).weight = only_taken (counts (apply s b)).weight (counts s).weight (sums_removed s b).weight (sums_added s b).weight (counts-apply s b whole v).weight none in
     record { tables = omega (arith, t); cells = omega (arith, c); weight = omega (arith, w, same) }
 
 abbrev plain_info : ColInfo → ColInfo
@@ -157,7 +157,7 @@ was_there s (BulkAdd table rows ks) whole v = untaken s (BulkAdd table rows ks) 
 was_there s (BulkUpdate table rows ks) whole v =
     weight_there s (BulkUpdate table rows ks) (BulkUpdate table rows (map nulled ks)) whole
     (no_tables s table (λ g. total (map (λ (k : CellColumn). column_weight g rows k.id) ks))) (no_cells s table (λ g. total (map (λ (k : CellColumn). column_weight g rows k.id) ks)))
-    (valid-nulled s table rows ks v) (gone-nulled s table rows ks) (given_weight-nulled ks)
+    (valid-nulled s table rows ks v) (sums_removed-nulled s table rows ks) (given_weight-nulled ks)
 was_there s (BulkRemove table rows) whole v = taken_there s (BulkRemove table rows) whole v refl
 was_there s (AddTable table row columns) whole v = untaken s (AddTable table row columns) refl
 was_there s (RemoveTable table) whole v = taken_there s (RemoveTable table) whole v refl

@@ -8,7 +8,7 @@ use Rattle.doc_model.specs.declared.user_action.UserAction.{UserAction}
 use Rattle.doc_model.specs.declared.user_action.UserAction.TheVariants.{Add}
 use Rattle.doc_model.specs.Apply.{apply}
 use Rattle.doc_model.specs.ByIds.{find_id}
-use Rattle.doc_model.specs.CountLaws.{Sums, come, gone}
+use Rattle.doc_model.specs.CountLaws.{Sums, sums_added, sums_removed}
 use Rattle.doc_model.specs.Counts.{grid_cells, grid_weight, Counts, counts, first_passed}
 use Rattle.doc_model.specs.Document.{Table, Document, table_id}
 use Rattle.doc_model.specs.MetadataIds.{is_schema_id}
@@ -70,12 +70,12 @@ pub record IsCapped (m : Counted) (n : Sums) : Type 0 where
 -- the sums after an action, from those before it
 abbrev pub moved_by : Document → Counted → DocAction → Counted
 moved_by s m a = record {
-  tables = capped (m.tables - capped (gone s a).tables + capped (come s a).tables);
+  tables = capped (m.tables - capped (sums_removed s a).tables + capped (sums_added s a).tables);
   columns = m.columns;
   rows = m.rows;
   row_id = m.row_id;
-  cells = capped (m.cells - capped (gone s a).cells + capped (come s a).cells);
-  weight = capped (m.weight - capped (gone s a).weight + capped (come s a).weight);
+  cells = capped (m.cells - capped (sums_removed s a).cells + capped (sums_added s a).cells);
+  weight = capped (m.weight - capped (sums_removed s a).weight + capped (sums_added s a).weight);
 }
 
 -- and after steps, each taken at the document before it
@@ -168,7 +168,7 @@ abbrev pub AddsSo : UserAction → ℕ → Type 0
 AddsSo (Add table single count has_row_ids ks) n = n ≡ count
 AddsSo _ n = ⊥
 
--- the rows of a table where so many come to it
+-- the rows of a table where so many are added to it
 pub record AreMaximaAdded (s : Document) (table : List ℕ) (count : ℕ) (e : Counted) : Type 0 where
   pub columns : e.columns ≡ 0
   pub rows : e.rows ≡ capped (length (grid_at s table).rows + count)

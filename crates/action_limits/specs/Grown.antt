@@ -11,11 +11,13 @@ use Rattle.action_limits.specs.Capped.{capped}
 use Rattle.user_actions.specs.Steps.{last_row}
 
 -- so many columns of a table, and the rows where so many tables and columns are described
-pub record AreMaximaDescribed (s : Document) (wide new_tables new_columns : ℕ) (e : Counted) : Type 0 where
+pub record AreMaximaDescribed (s : Document) (wide new_tables new_columns : ℕ)
+    (e : Counted) : Type 0 where
   pub columns : e.columns ≡ wide
   pub rows : e.rows ≡ rows_described s new_tables new_columns
   pub row_id : e.row_id
-      ≡ max (capped (last_row s tables_id + new_tables)) (capped (last_row s columns_id + new_columns))
+      ≡ max (capped (last_row s tables_id + new_tables))
+      (capped (last_row s columns_id + new_columns))
 
 -- whether the action adds a table or a column
 abbrev pub grows_schema : UserAction → Bool

@@ -81,7 +81,7 @@ fn other_expansion<D: DocTables>(
     Ok(settled(steps, sums, most))
 }
 
-// The most rows and the greatest row id where so many records come to a table.
+// The most rows and the greatest row id where so many records are added to a table.
 fn maxima_added<D: DocTables>(tables: &D, table: &Name, count: u32) -> Counted
     requires { IsWhole (D.document tables.now) }
     ensures { AreMaximaAdded (D.document tables.now) table.now count result }
@@ -136,7 +136,7 @@ fn add_expansion<D: DocTables>(
     Ok(settled(steps, sums, most))
 }
 
-// The maxima where so many columns come to a table, and rows that describe a table and columns.
+// The maxima where a table has so many columns, and so many tables and columns are described.
 fn maxima_described<D: DocTables>(
     tables: &D,
     columns: u64,
@@ -216,12 +216,13 @@ fn schema_expansion<D: DocTables>(
     Ok(settled(steps, sums, most))
 }
 
-/// The document actions of a user action, or the first limit that would be passed after them, by the
-/// tally of the document.
+/// The document actions of a user action, or the first limit that would be passed after them, by
+/// the tally of the document.
 ///
 /// Errors: out of memory.
-/// Cost: the rows and values that are given; a new type of a column costs all its cells, and a new id
-/// the ids beside it. Where a table was above its bounds before, a walk over all tables and columns.
+/// Cost: the rows and values that are given; a new type of a column costs all its cells, and a new
+/// id the ids beside it. Where a table was above its bounds before, a walk over all tables and
+/// columns.
 /// Source: docs/DEFINITIONS.md, "action_limits".
 pub fn expand<D: DocTables>(
     alloc: Global,

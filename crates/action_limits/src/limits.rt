@@ -14,8 +14,8 @@ use doc_model::{DocTables, LimitKind};
 use doc_readers::{is_schema_id, rows_in, tables_table};
 use user_actions::last_row;
 
-/// Counts of a document, or a part of them: sums, and what is the most of any table. Each is told as
-/// far as 64 bits can.
+/// Counts of a document, or a part of them: sums, and what is the most of any table. Each is told
+/// as far as 64 bits can.
 #[derive(Clone, Copy)]
 pub(crate) struct Counted {
     pub(crate) tables: u64,
@@ -85,7 +85,8 @@ pub(crate) fn table_id<D: DocTables>(tables: &D, index: usize) -> &Name
     requires whole { IsWhole (D.document tables.now) }
     requires there { index < length (D.document tables.now) }
     ensures id { result.now ≡ (table_in (D.document tables.now) index).id }
-    ensures grid { grid_at (D.document tables.now) result.now ≡ (table_in (D.document tables.now) index).grid }
+    ensures grid { grid_at (D.document tables.now) result.now
+        ≡ (table_in (D.document tables.now) index).grid }
 {
     let Some(id) = tables.table(index) else {
         unreachable!()

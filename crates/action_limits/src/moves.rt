@@ -1,8 +1,8 @@
-//! What document actions take from the counted sums of a document, and what they add to them.
+//! What document actions remove from the counted sums of a document, and what they add to them.
 
 ghost use Rattle.std.specs.Prelude.{◌≡◌, ◌+◌, ◌-◌, ◌*◌, length, map, true};
 ghost use Rattle.std.specs.List.{list_all};
-ghost use Rattle.doc_model.specs.CountLaws.{bytes_of_formula, column_weight, come, given_weight, gone};
+ghost use Rattle.doc_model.specs.CountLaws.{bytes_of_formula, column_weight, given_weight, sums_added, sums_removed};
 ghost use Rattle.doc_model.specs.Counts.{formula_bytes, total};
 ghost use Rattle.doc_model.specs.DocumentLaws.{IsWhole};
 ghost use Rattle.doc_model.specs.declared.column.CellColumn.{CellColumn};
@@ -19,7 +19,10 @@ use doc_readers::{find_column, rows_in};
 
 // The weight of the cells of given columns in these rows.
 fn cells_given<D: DocTables>(tables: &D, table: &Name, rows: &[u32], columns: &[CellColumn]) -> u64
-    ensures { result ≡ capped (total (map (λ (k : CellColumn). column_weight (grid_at (D.document tables.now) table.now) rows.now k.id) columns.now)) }
+    ensures { result
+        ≡ capped (total
+        (map (λ (k : CellColumn). column_weight
+        (grid_at (D.document tables.now) table.now) rows.now k.id) columns.now)) }
 {
     let mut weight = 0u64;
     for column in columns {
@@ -50,7 +53,8 @@ fn formulas_given(columns: &[ColDef]) -> u64
 
 fn bytes_of_formula<D: DocTables>(tables: &D, table: &Name, column: &Name) -> u64
     requires { IsWhole (D.document tables.now) }
-    ensures { result ≡ capped (bytes_of_formula (grid_at (D.document tables.now) table.now) column.now) }
+    ensures { result
+        ≡ capped (bytes_of_formula (grid_at (D.document tables.now) table.now) column.now) }
 {
     match find_column(tables, table, column) {
         Some(known) => known.info.formula.len() as u64,
@@ -60,24 +64,28 @@ fn bytes_of_formula<D: DocTables>(tables: &D, table: &Name, column: &Name) -> u6
 
 fn cells_in_rows<D: DocTables>(tables: &D, table: &Name, rows: &[u32]) -> u64
     requires { IsWhole (D.document tables.now) }
-    ensures { result ≡ capped (length rows.now * length (grid_at (D.document tables.now) table.now).columns) }
+    ensures { result
+        ≡ capped (length rows.now * length (grid_at (D.document tables.now) table.now).columns) }
 {
     (rows.len() as u64).saturating_mul(column_count(tables, table) as u64)
 }
 
-fn column_gone<D: DocTables>(tables: &D, table: &Name, column: &Name) -> u64
+fn column_removed<D: DocTables>(tables: &D, table: &Name, column: &Name) -> u64
     requires { IsWhole (D.document tables.now) }
-    ensures { result ≡ capped (column_weight (grid_at (D.document tables.now) table.now) (grid_at (D.document tables.now) table.now).rows column.now + bytes_of_formula (grid_at (D.document tables.now) table.now) column.now) }
+    ensures { result
+        ≡ capped (column_weight (grid_at (D.document tables.now) table.now)
+        (grid_at (D.document tables.now) table.now).rows column.now + bytes_of_formula
+        (grid_at (D.document tables.now) table.now) column.now) }
 {
     let cells = column_weight(tables, table, column, rows_in(tables, table));
     cells.saturating_add(bytes_of_formula(tables, table, column))
 }
 
-// What an action takes away.
-fn gone<D: DocTables>(tables: &D, action: &DocAction) -> Counted
+// What an action removes.
+fn sums_removed<D: DocTables>(tables: &D, action: &DocAction) -> Counted
     requires whole { IsWhole (D.document tables.now) }
     requires there { has_named (D.document tables.now) action.now ≡ true }
-    ensures { IsCapped result (gone (D.document tables.now) action.now) }
+    ensures { IsCapped result (sums_removed (D.document tables.now) action.now) }
 {
     match action {
         DocAction::BulkUpdate {
@@ -101,7 +109,7 @@ fn gone<D: DocTables>(tables: &D, action: &DocAction) -> Counted
         },
         DocAction::RemoveColumn { table, column } => Counted {
             cells: rows_in(tables, table).len() as u64,
-            weight: column_gone(tables, table, column),
+            weight: column_removed(tables, table, column),
             ..no_counts()
         },
         DocAction::ModifyColumn { table, column, .. } => Counted {
@@ -112,11 +120,11 @@ fn gone<D: DocTables>(tables: &D, action: &DocAction) -> Counted
     }
 }
 
-// What an action brings.
-fn come<D: DocTables>(tables: &D, action: &DocAction) -> Counted
+// What an action adds.
+fn sums_added<D: DocTables>(tables: &D, action: &DocAction) -> Counted
     requires whole { IsWhole (D.document tables.now) }
     requires there { has_named (D.document tables.now) action.now ≡ true }
-    ensures { IsCapped result (come (D.document tables.now) action.now) }
+    ensures { IsCapped result (sums_added (D.document tables.now) action.now) }
 {
     match action {
         DocAction::BulkAdd {
@@ -150,11 +158,11 @@ fn come<D: DocTables>(tables: &D, action: &DocAction) -> Counted
     }
 }
 
-// A sum after an action that takes and brings so much.
-fn sum_after(before: u64, gone: u64, come: u64) -> u64
-    ensures { result ≡ capped (before - gone + come) }
+// A sum after an action that removes and adds so much.
+fn sum_after(before: u64, removed: u64, added: u64) -> u64
+    ensures { result ≡ capped (before - removed + added) }
 {
-    before.saturating_sub(gone).saturating_add(come)
+    before.saturating_sub(removed).saturating_add(added)
 }
 
 /// The sums after an action, from those before it.
@@ -163,12 +171,12 @@ pub(crate) fn after_action<D: DocTables>(tables: &D, before: Counted, action: &D
     requires there { has_named (D.document tables.now) action.now ≡ true }
     ensures { result ≡ moved_by (D.document tables.now) before action.now }
 {
-    let gone = gone(tables, action);
-    let come = come(tables, action);
+    let removed = sums_removed(tables, action);
+    let added = sums_added(tables, action);
     Counted {
-        tables: sum_after(before.tables, gone.tables, come.tables),
-        cells: sum_after(before.cells, gone.cells, come.cells),
-        weight: sum_after(before.weight, gone.weight, come.weight),
+        tables: sum_after(before.tables, removed.tables, added.tables),
+        cells: sum_after(before.cells, removed.cells, added.cells),
+        weight: sum_after(before.weight, removed.weight, added.weight),
         ..before
     }
 }

@@ -14,8 +14,8 @@ use crate::maxima::maxima_after;
 use crate::moves::after_action;
 use doc_model::{DocAction, DocTables, LimitKind};
 
-/// The counted sums of a document, kept from one action to the next: its tables, its cells and their
-/// weight in bytes; and whether no table has too many columns or rows, or too great a row id.
+/// The counted sums of a document, kept from one action to the next: its tables, its cells and
+/// their weight in bytes; and whether no table has too many columns or rows, or too great a row id.
 #[derive(Clone, Copy)]
 pub struct Tally {
     pub tables: u64,
@@ -44,7 +44,9 @@ impl Tally {
     /// Source: docs/DEFINITIONS.md, "action_limits".
     pub fn of<D: DocTables>(tables: &D) -> Option<Tally>
         requires { IsWhole (D.document tables.now) }
-        ensures { MatchOption result (18446744073709551615 ≤ max (counts (D.document tables.now)).cells (counts (D.document tables.now)).weight) (λ t. IsTally (D.document tables.now) t) }
+        ensures { MatchOption result
+            (18446744073709551615 ≤ max (counts (D.document tables.now)).cells
+            (counts (D.document tables.now)).weight) (λ t. IsTally (D.document tables.now) t) }
     {
         let counts = counts_of(tables);
         if counts.cells == u64::MAX || counts.weight == u64::MAX {

@@ -54,7 +54,8 @@ pub(crate) fn values_weight(values: &[CellValue]) -> u64
 }
 
 fn cell_weight<D: DocTables>(tables: &D, table: &Name, column: &Name, row: u32) -> u64
-    ensures { result ≡ capped (value_weight (cell column_id (grid_at (D.document tables.now) table.now) column.now row)) }
+    ensures { result ≡ capped
+        (value_weight (cell column_id (grid_at (D.document tables.now) table.now) column.now row)) }
 {
     match tables.cell(table, column, row) {
         Some(value) => value_weight(value),
@@ -69,7 +70,8 @@ pub(crate) fn column_weight<D: DocTables>(
     column: &Name,
     rows: &[u32],
 ) -> u64
-    ensures { result ≡ capped (column_weight (grid_at (D.document tables.now) table.now) rows.now column.now) }
+    ensures { result
+        ≡ capped (column_weight (grid_at (D.document tables.now) table.now) rows.now column.now) }
 {
     let mut weight = 0u64;
     for row in rows {
@@ -101,7 +103,8 @@ pub(crate) fn column_count<D: DocTables>(tables: &D, table: &Name) -> usize
 /// The column at an index.
 pub(crate) fn column_at<'a, D: DocTables>(tables: &'a D, table: &Name, index: usize) -> &'a ColDef
     requires { index < length (grid_at (D.document tables.now) table.now).columns }
-    ensures { slice_get (grid_at (D.document tables.now) table.now).columns index ≡ Some result.now }
+    ensures { slice_get (grid_at (D.document tables.now) table.now).columns index
+        ≡ Some result.now }
 {
     let Some(column) = tables.column(table, index) else {
         unreachable!()
@@ -124,7 +127,8 @@ pub(crate) fn rows_weight<D: DocTables>(tables: &D, table: &Name, rows: &[u32]) 
 
 fn formulas_weight<D: DocTables>(tables: &D, table: &Name) -> u64
     requires { IsWhole (D.document tables.now) }
-    ensures { result ≡ capped (total (map formula_bytes (grid_at (D.document tables.now) table.now).columns)) }
+    ensures { result
+        ≡ capped (total (map formula_bytes (grid_at (D.document tables.now) table.now).columns)) }
 {
     let mut weight = 0u64;
     for index in 0..column_count(tables, table) {

@@ -17,7 +17,7 @@ use Rattle.doc_model.specs.Document.{Table, Document, table_id, on_grid, with_ta
 use Rattle.doc_model.specs.Sound.{IsSoundGrid, IsSound}
 use Rattle.doc_model.specs.Valid.{passes, record_table, is_data, gives_column, gives_data, from_one, valid}
 use Rattle.doc_model.specs.Counts.{total, grid_weight, grid_cells, counted, counts}
-use Rattle.doc_model.specs.CountLaws.{Sums, nothing, sums_of, column_weight, rows_weight, given_weight, gone, come, SumsMove}
+use Rattle.doc_model.specs.CountLaws.{Sums, nothing, sums_of, column_weight, rows_weight, given_weight, sums_removed, sums_added, SumsMove}
 use Rattle.doc_model.specs.Apply.{effect}
 use Rattle.doc_model.proofs.Choices.{cond_true, cond_false, keep, parts_3, parts_4, each_true, each_weaker, filter_all}
 use Rattle.doc_model.proofs.ByIdsLaws.{find-filtered, found_all, has_found, AreDistinct-are_distinct}
@@ -132,9 +132,9 @@ module _ (s : Document) (sound : IsSound s) (table : List ℕ) where
       let given : AreDistinct given_id ks × AllByRecursion (λ k. has_id column_id t.grid.columns k.id ≡ true) ks × AllByRecursion (λ k. length k.values ≡ length rows) ks = given_parts t.grid rows ks tests.3 in
       let here : sums_of s table (λ g. record { tables = 0; cells = length rows * length g.columns; weight = given_weight ks }) ≡ record { tables = 0; cells = length rows * length t.grid.columns; weight = given_weight ks }
       = ap (λ o. elim o as (λ _. Sums) [ None ↦ nothing | Some t ↦ record { tables = 0; cells = length rows * length t.grid.columns; weight = given_weight ks } ]) (found_record s sound table t parts.1.0 f) in
-      let c : (come s (BulkAdd table rows ks)).cells ≡ length rows * length t.grid.columns = ap (λ x. x.cells) here in
-      let w : (come s (BulkAdd table rows ks)).weight ≡ given_weight ks = ap (λ x. x.weight) here in
-      let n : (come s (BulkAdd table rows ks)).tables ≡ 0 = ap (λ x. x.tables) here in
+      let c : (sums_added s (BulkAdd table rows ks)).cells ≡ length rows * length t.grid.columns = ap (λ x. x.cells) here in
+      let w : (sums_added s (BulkAdd table rows ks)).weight ≡ given_weight ks = ap (λ x. x.weight) here in
+      let n : (sums_added s (BulkAdd table rows ks)).tables ≡ 0 = ap (λ x. x.tables) here in
       let tables : (counts (effect s (BulkAdd table rows ks))).tables ≡ (counts s).tables = tables_same s sound table t parts.1.0 f in
       let cells : (counts (effect s (BulkAdd table rows ks))).cells + length t.grid.rows * length t.grid.columns ≡ (counts s).cells + length (insert_rows rows t.grid.rows) * length t.grid.columns = cells_move s sound table t parts.1.0 f in
       let more : length (insert_rows rows t.grid.rows) * length t.grid.columns ≡ length rows * length t.grid.columns + length t.grid.rows * length t.grid.columns
@@ -152,11 +152,11 @@ module _ (s : Document) (sound : IsSound s) (table : List ℕ) where
       let f : Grid ColDef → Grid ColDef = update_rows column_id rows ks in
       let g : IsSoundGrid t.grid = grid_sound s sound table t parts.1.0 f in
       let given : AreDistinct given_id ks × AllByRecursion (λ k. has_id column_id t.grid.columns k.id ≡ true) ks × AllByRecursion (λ k. length k.values ≡ length rows) ks = given_parts t.grid rows ks tests.3 in
-      let here : gone s (BulkUpdate table rows ks) ≡ record { tables = 0; cells = 0; weight = total (map (λ (k : CellColumn). column_weight t.grid rows k.id) ks) }
+      let here : sums_removed s (BulkUpdate table rows ks) ≡ record { tables = 0; cells = 0; weight = total (map (λ (k : CellColumn). column_weight t.grid rows k.id) ks) }
       = ap (λ o. elim o as (λ _. Sums) [ None ↦ nothing | Some t ↦ record { tables = 0; cells = 0; weight = total (map (λ (k : CellColumn). column_weight t.grid rows k.id) ks) } ]) (found_record s sound table t parts.1.0 f) in
-      let c : (gone s (BulkUpdate table rows ks)).cells ≡ 0 = ap (λ x. x.cells) here in
-      let w : (gone s (BulkUpdate table rows ks)).weight ≡ total (map (λ (k : CellColumn). column_weight t.grid rows k.id) ks) = ap (λ x. x.weight) here in
-      let n : (gone s (BulkUpdate table rows ks)).tables ≡ 0 = ap (λ x. x.tables) here in
+      let c : (sums_removed s (BulkUpdate table rows ks)).cells ≡ 0 = ap (λ x. x.cells) here in
+      let w : (sums_removed s (BulkUpdate table rows ks)).weight ≡ total (map (λ (k : CellColumn). column_weight t.grid rows k.id) ks) = ap (λ x. x.weight) here in
+      let n : (sums_removed s (BulkUpdate table rows ks)).tables ≡ 0 = ap (λ x. x.tables) here in
       let tables : (counts (effect s (BulkUpdate table rows ks))).tables ≡ (counts s).tables = tables_same s sound table t parts.1.0 f in
       let cells : (counts (effect s (BulkUpdate table rows ks))).cells + grid_cells t.grid ≡ (counts s).cells + grid_cells t.grid = cells_move s sound table t parts.1.0 f in
       let weight : (counts (effect s (BulkUpdate table rows ks))).weight + grid_weight t.grid ≡ (counts s).weight + grid_weight (f t.grid) = weight_move s sound table t parts.1.0 f in
@@ -170,11 +170,11 @@ module _ (s : Document) (sound : IsSound s) (table : List ℕ) where
       let tests : (has_no_duplicates rows ≡ true) × (all_in rows t.grid.rows ≡ true) = and_parts (has_no_duplicates rows) (all_in rows t.grid.rows) parts.1.1 in
       let f : Grid ColDef → Grid ColDef = remove_rows column_id rows in
       let g : IsSoundGrid t.grid = grid_sound s sound table t parts.1.0 f in
-      let here : gone s (BulkRemove table rows) ≡ record { tables = 0; cells = length rows * length t.grid.columns; weight = rows_weight t.grid rows }
+      let here : sums_removed s (BulkRemove table rows) ≡ record { tables = 0; cells = length rows * length t.grid.columns; weight = rows_weight t.grid rows }
       = ap (λ o. elim o as (λ _. Sums) [ None ↦ nothing | Some t ↦ record { tables = 0; cells = length rows * length t.grid.columns; weight = rows_weight t.grid rows } ]) (found_record s sound table t parts.1.0 f) in
-      let c : (gone s (BulkRemove table rows)).cells ≡ length rows * length t.grid.columns = ap (λ x. x.cells) here in
-      let w : (gone s (BulkRemove table rows)).weight ≡ rows_weight t.grid rows = ap (λ x. x.weight) here in
-      let n : (gone s (BulkRemove table rows)).tables ≡ 0 = ap (λ x. x.tables) here in
+      let c : (sums_removed s (BulkRemove table rows)).cells ≡ length rows * length t.grid.columns = ap (λ x. x.cells) here in
+      let w : (sums_removed s (BulkRemove table rows)).weight ≡ rows_weight t.grid rows = ap (λ x. x.weight) here in
+      let n : (sums_removed s (BulkRemove table rows)).tables ≡ 0 = ap (λ x. x.tables) here in
       let tables : (counts (effect s (BulkRemove table rows))).tables ≡ (counts s).tables = tables_same s sound table t parts.1.0 f in
       let cells : (counts (effect s (BulkRemove table rows))).cells + length t.grid.rows * length t.grid.columns ≡ (counts s).cells + length (without rows t.grid.rows) * length t.grid.columns = cells_move s sound table t parts.1.0 f in
       let less : length t.grid.rows * length t.grid.columns ≡ length (without rows t.grid.rows) * length t.grid.columns + length rows * length t.grid.columns

@@ -18,7 +18,7 @@ use Rattle.doc_model.specs.Schema.{metadata_table, with_schema, plain_tables, re
 use Rattle.doc_model.specs.Sound.{IsSoundGrid}
 use Rattle.doc_model.specs.Valid.{schema_table, are_free, is_new_table, is_new_column, all_null, valid}
 use Rattle.doc_model.specs.Counts.{total, value_weight, row_weight, formula_bytes, grid_weight, grid_cells, counted, counts}
-use Rattle.doc_model.specs.CountLaws.{Sums, nothing, sums_of, column_weight, bytes_of_formula, gone, come, SumsMove}
+use Rattle.doc_model.specs.CountLaws.{Sums, nothing, sums_of, column_weight, bytes_of_formula, sums_removed, sums_added, SumsMove}
 use Rattle.doc_model.specs.Apply.{new_table, add_column, remove_column, with_column, with_name, with_info, effect, apply}
 use Rattle.doc_model.specs.DocumentLaws.{IsWhole}
 use Rattle.doc_model.proofs.Choices.{not_true, parts_3, each_weaker, filter_all, length_map}
@@ -132,9 +132,9 @@ module _ (r u : Grid ColDef) where
 
   -- the sums move as those of the plain tables do
   schema_move : (p q : List Table) (a : DocAction) → AllByRecursion (λ t. is_metadata_id t.id ≡ false) p → AllByRecursion (λ t. is_metadata_id t.id ≡ false) q
-      → length q + (gone (with_schema r u p) a).tables ≡ length p + (come (with_schema r u p) a).tables
-      → sum_of (λ t. grid_cells t.grid) q + (gone (with_schema r u p) a).cells ≡ sum_of (λ (t : Table). grid_cells t.grid) p + (come (with_schema r u p) a).cells
-      → sum_of (λ t. grid_weight t.grid) q + (gone (with_schema r u p) a).weight ≡ sum_of (λ (t : Table). grid_weight t.grid) p + (come (with_schema r u p) a).weight
+      → length q + (sums_removed (with_schema r u p) a).tables ≡ length p + (sums_added (with_schema r u p) a).tables
+      → sum_of (λ t. grid_cells t.grid) q + (sums_removed (with_schema r u p) a).cells ≡ sum_of (λ (t : Table). grid_cells t.grid) p + (sums_added (with_schema r u p) a).cells
+      → sum_of (λ t. grid_weight t.grid) q + (sums_removed (with_schema r u p) a).weight ≡ sum_of (λ (t : Table). grid_weight t.grid) p + (sums_added (with_schema r u p) a).weight
       → SumsMove (with_schema r u p) (with_schema r u q) a
   schema_move p q a hp hq et ec ew =
       let tp : (counts (with_schema r u p)).tables ≡ length p = ap length (plain-schema p hp) in
@@ -187,17 +187,17 @@ module _ (r u : Grid ColDef) where
           let b : sum_of (λ _. 1) p ≡ length p = length-total p in
           let cells : sum_of (λ (t : Table). grid_cells t.grid) q + grid_cells t.grid ≡ sum_of (λ (t : Table). grid_cells t.grid) p = total-without_id table_id (λ (t : Table). grid_cells t.grid) table p t good.distinct at.1 in
           let weight : sum_of (λ (t : Table). grid_weight t.grid) q + grid_weight t.grid ≡ sum_of (λ (t : Table). grid_weight t.grid) p = total-without_id table_id (λ (t : Table). grid_weight t.grid) table p t good.distinct at.1 in
-          let here : gone whole (RemoveTable table) ≡ record { tables = 1; cells = grid_cells t.grid; weight = grid_weight t.grid } = found_sums t (λ g. record { tables = 1; cells = grid_cells g; weight = grid_weight g }) at.0 at.1 in
-          let gt : (gone whole (RemoveTable table)).tables ≡ 1 = ap (λ x. x.tables) here in
-          let gc : (gone whole (RemoveTable table)).cells ≡ grid_cells t.grid = ap (λ x. x.cells) here in
-          let gw : (gone whole (RemoveTable table)).weight ≡ grid_weight t.grid = ap (λ x. x.weight) here in
+          let here : sums_removed whole (RemoveTable table) ≡ record { tables = 1; cells = grid_cells t.grid; weight = grid_weight t.grid } = found_sums t (λ g. record { tables = 1; cells = grid_cells g; weight = grid_weight g }) at.0 at.1 in
+          let gt : (sums_removed whole (RemoveTable table)).tables ≡ 1 = ap (λ x. x.tables) here in
+          let gc : (sums_removed whole (RemoveTable table)).cells ≡ grid_cells t.grid = ap (λ x. x.cells) here in
+          let gw : (sums_removed whole (RemoveTable table)).weight ≡ grid_weight t.grid = ap (λ x. x.weight) here in
           schema_move p q (RemoveTable table) good.plain (plain_after (RemoveTable table) q v refl) (omega arith) (omega arith) (omega arith)
 
       -- a change of one table's columns
       columns_move : (a : DocAction) (t : Table) (f : Table → Table) → valid whole a ≡ true → effect whole a ≡ with_schema r u (with_table table f p) → find_id table_id table p ≡ Some t
-          → (gone whole a).tables ≡ 0 → (come whole a).tables ≡ 0
-          → grid_cells (f t).grid + (gone whole a).cells ≡ grid_cells t.grid + (come whole a).cells
-          → grid_weight (f t).grid + (gone whole a).weight ≡ grid_weight t.grid + (come whole a).weight
+          → (sums_removed whole a).tables ≡ 0 → (sums_added whole a).tables ≡ 0
+          → grid_cells (f t).grid + (sums_removed whole a).cells ≡ grid_cells t.grid + (sums_added whole a).cells
+          → grid_weight (f t).grid + (sums_removed whole a).weight ≡ grid_weight t.grid + (sums_added whole a).weight
           → SumsMove whole (with_schema r u (with_table table f p)) a
       columns_move a t f v e found zg zc ec ew =
           let q : List Table = with_table table f p in
@@ -221,10 +221,10 @@ module _ (r u : Grid ColDef) where
           let tests : (is_new_column t.grid d.id ≡ true) × (are_free whole columns_id (d.row ∷ []) ≡ true) × (is_sound_info d.info ≡ true) = parts_3 (is_new_column t.grid d.id) (are_free whole columns_id (d.row ∷ [])) (is_sound_info d.info) parts.1.1 in
           let fresh : has_id column_id t.grid.columns d.id ≡ false = not_true (has_id column_id t.grid.columns d.id) (and_parts (not (has_id column_id t.grid.columns d.id)) (Rattle.cell_types.specs.NameRule.is_name d.id) tests.0).0 in
           let s : IsSoundGrid t.grid = found_all table_id (λ t. IsSoundGrid t.grid) table p t good.grids at.1 in
-          let here : come whole (AddColumn table d) ≡ record { tables = 0; cells = length t.grid.rows; weight = formula_bytes d } = found_sums t (λ g. record { tables = 0; cells = length g.rows; weight = formula_bytes d }) at.0 at.1 in
-          let ct : (come whole (AddColumn table d)).tables ≡ 0 = ap (λ x. x.tables) here in
-          let cc' : (come whole (AddColumn table d)).cells ≡ length t.grid.rows = ap (λ x. x.cells) here in
-          let cw : (come whole (AddColumn table d)).weight ≡ formula_bytes d = ap (λ x. x.weight) here in
+          let here : sums_added whole (AddColumn table d) ≡ record { tables = 0; cells = length t.grid.rows; weight = formula_bytes d } = found_sums t (λ g. record { tables = 0; cells = length g.rows; weight = formula_bytes d }) at.0 at.1 in
+          let ct : (sums_added whole (AddColumn table d)).tables ≡ 0 = ap (λ x. x.tables) here in
+          let cc' : (sums_added whole (AddColumn table d)).cells ≡ length t.grid.rows = ap (λ x. x.cells) here in
+          let cw : (sums_added whole (AddColumn table d)).weight ≡ formula_bytes d = ap (λ x. x.weight) here in
           let cells : grid_cells (add_column d t.grid) ≡ grid_cells t.grid + length t.grid.rows = cells-add_column d t.grid s.is_grid in
           let weight : grid_weight (add_column d t.grid) ≡ grid_weight t.grid + formula_bytes d = weight-add_column d t.grid s.is_grid fresh in
           columns_move (AddColumn table d) t (on_grid (add_column d)) v refl at.1 refl ct (omega arith) (omega arith)
@@ -242,11 +242,11 @@ module _ (r u : Grid ColDef) where
         remove_column_from : valid whole (RemoveColumn table column) ≡ true → SumsMove whole (effect whole (RemoveColumn table column)) (RemoveColumn table column)
         remove_column_from v =
             let d : ColDef = found_column.0 in
-            let here : gone whole (RemoveColumn table column) ≡ record { tables = 0; cells = length t.grid.rows; weight = column_weight t.grid t.grid.rows column + bytes_of_formula t.grid column }
+            let here : sums_removed whole (RemoveColumn table column) ≡ record { tables = 0; cells = length t.grid.rows; weight = column_weight t.grid t.grid.rows column + bytes_of_formula t.grid column }
             = found_sums t (λ g. record { tables = 0; cells = length g.rows; weight = column_weight g g.rows column + bytes_of_formula g column }) at.0 at.1 in
-            let gt : (gone whole (RemoveColumn table column)).tables ≡ 0 = ap (λ x. x.tables) here in
-            let gc : (gone whole (RemoveColumn table column)).cells ≡ length t.grid.rows = ap (λ x. x.cells) here in
-            let gw : (gone whole (RemoveColumn table column)).weight ≡ column_weight t.grid t.grid.rows column + bytes_of_formula t.grid column = ap (λ x. x.weight) here in
+            let gt : (sums_removed whole (RemoveColumn table column)).tables ≡ 0 = ap (λ x. x.tables) here in
+            let gc : (sums_removed whole (RemoveColumn table column)).cells ≡ length t.grid.rows = ap (λ x. x.cells) here in
+            let gw : (sums_removed whole (RemoveColumn table column)).weight ≡ column_weight t.grid t.grid.rows column + bytes_of_formula t.grid column = ap (λ x. x.weight) here in
             let bytes : bytes_of_formula t.grid column ≡ formula_bytes d = bytes_found in
             let cells : grid_cells (remove_column column t.grid) + length t.grid.rows ≡ grid_cells t.grid = cells-remove_column column d t.grid grid_t.is_grid found_column.1 in
             let weight : grid_weight (remove_column column t.grid) + (column_weight t.grid t.grid.rows column + formula_bytes d) ≡ grid_weight t.grid = weight-remove_column column d t.grid grid_t.is_grid found_column.1 in
@@ -255,10 +255,10 @@ module _ (r u : Grid ColDef) where
         modify_column_from : (info : ColInfo) → valid whole (ModifyColumn table column info) ≡ true → SumsMove whole (effect whole (ModifyColumn table column info)) (ModifyColumn table column info)
         modify_column_from info v =
             let d : ColDef = found_column.0 in
-            let here : gone whole (ModifyColumn table column info) ≡ record { tables = 0; cells = 0; weight = bytes_of_formula t.grid column } = found_sums t (λ g. record { tables = 0; cells = 0; weight = bytes_of_formula g column }) at.0 at.1 in
-            let gt : (gone whole (ModifyColumn table column info)).tables ≡ 0 = ap (λ x. x.tables) here in
-            let gc : (gone whole (ModifyColumn table column info)).cells ≡ 0 = ap (λ x. x.cells) here in
-            let gw : (gone whole (ModifyColumn table column info)).weight ≡ bytes_of_formula t.grid column = ap (λ x. x.weight) here in
+            let here : sums_removed whole (ModifyColumn table column info) ≡ record { tables = 0; cells = 0; weight = bytes_of_formula t.grid column } = found_sums t (λ g. record { tables = 0; cells = 0; weight = bytes_of_formula g column }) at.0 at.1 in
+            let gt : (sums_removed whole (ModifyColumn table column info)).tables ≡ 0 = ap (λ x. x.tables) here in
+            let gc : (sums_removed whole (ModifyColumn table column info)).cells ≡ 0 = ap (λ x. x.cells) here in
+            let gw : (sums_removed whole (ModifyColumn table column info)).weight ≡ bytes_of_formula t.grid column = ap (λ x. x.weight) here in
             let bytes : bytes_of_formula t.grid column ≡ formula_bytes d = bytes_found in
             let cells : grid_cells (with_column column (with_info info) t.grid) ≡ grid_cells t.grid = cells-with_column column (with_info info) t.grid in
             let weight : grid_weight (with_column column (with_info info) t.grid) + formula_bytes d ≡ grid_weight t.grid + length info.formula = weight-with_info column d t.grid grid_t.is_grid found_column.1 info in

@@ -1,4 +1,4 @@
--- What an action takes from the counted sums of a document, and what it adds to them.
+-- What an action removes from the counted sums of a document, and what it adds to them.
 use Rattle.std.specs.Prelude.{ℕ, ◌+◌, ◌*◌, true, List, map, length, ◌≡◌, Some, None}
 use Rattle.doc_model.specs.declared.action.DocAction.{DocAction}
 use Rattle.doc_model.specs.declared.action.DocAction.TheVariants.{BulkAdd, BulkUpdate, BulkRemove, AddTable, RemoveTable, AddColumn, RemoveColumn, ModifyColumn}
@@ -44,59 +44,62 @@ given_weight ks = total (map (λ (k : CellColumn). row_weight k.values) ks)
 abbrev pub bytes_of_formula : Grid ColDef → List ℕ → ℕ
 bytes_of_formula g c = elim (find_id column_id c g.columns) [ None ↦ 0 | Some d ↦ formula_bytes d ]
 
--- what an action takes away
-abbrev pub gone : Document → DocAction → Sums
-gone s (BulkUpdate table rows ks) = sums_of s table (λ g. record {
+-- what an action removes
+abbrev pub sums_removed : Document → DocAction → Sums
+sums_removed s (BulkUpdate table rows ks) = sums_of s table (λ g. record {
   tables = 0;
   cells = 0;
   weight = total (map (λ (k : CellColumn). column_weight g rows k.id) ks);
 })
-gone s (BulkRemove table rows) = sums_of s table (λ g. record {
+sums_removed s (BulkRemove table rows) = sums_of s table (λ g. record {
   tables = 0;
   cells = length rows * length g.columns;
   weight = rows_weight g rows;
 })
-gone s (RemoveTable table) = sums_of s table (λ g. record {
+sums_removed s (RemoveTable table) = sums_of s table (λ g. record {
   tables = 1;
   cells = grid_cells g;
   weight = grid_weight g;
 })
-gone s (RemoveColumn table column) = sums_of s table (λ g. record {
+sums_removed s (RemoveColumn table column) = sums_of s table (λ g. record {
   tables = 0;
   cells = length g.rows;
   weight = column_weight g g.rows column + bytes_of_formula g column;
 })
-gone s (ModifyColumn table column info) = sums_of s table (λ g. record {
+sums_removed s (ModifyColumn table column info) = sums_of s table (λ g. record {
   tables = 0;
   cells = 0;
   weight = bytes_of_formula g column;
 })
-gone s _ = nothing
+sums_removed s _ = nothing
 
--- what an action brings
-abbrev pub come : Document → DocAction → Sums
-come s (BulkAdd table rows ks) = sums_of s table (λ g. record {
+-- what an action adds
+abbrev pub sums_added : Document → DocAction → Sums
+sums_added s (BulkAdd table rows ks) = sums_of s table (λ g. record {
   tables = 0;
   cells = length rows * length g.columns;
   weight = given_weight ks;
 })
-come s (BulkUpdate table rows ks) = record { tables = 0; cells = 0; weight = given_weight ks }
-come s (AddTable table row columns) =
+sums_added s (BulkUpdate table rows ks) = record { tables = 0; cells = 0; weight = given_weight ks }
+sums_added s (AddTable table row columns) =
     record { tables = 1; cells = 0; weight = total (map formula_bytes columns) }
-come s (AddColumn table d) = sums_of s table (λ g. record {
+sums_added s (AddColumn table d) = sums_of s table (λ g. record {
   tables = 0;
   cells = length g.rows;
   weight = formula_bytes d;
 })
-come s (ModifyColumn table column info) =
+sums_added s (ModifyColumn table column info) =
     record { tables = 0; cells = 0; weight = length info.formula }
-come s _ = nothing
+sums_added s _ = nothing
 
--- the sums after an action and what it took are the sums before and what it brought
+-- the sums after an action and what it removed are the sums before and what it added
 pub record SumsMove (s after : Document) (a : DocAction) : Type 0 where
-  pub tables : (counts after).tables + (gone s a).tables ≡ (counts s).tables + (come s a).tables
-  pub cells : (counts after).cells + (gone s a).cells ≡ (counts s).cells + (come s a).cells
-  pub weight : (counts after).weight + (gone s a).weight ≡ (counts s).weight + (come s a).weight
+  pub tables : (counts after).tables + (sums_removed s a).tables
+      ≡ (counts s).tables + (sums_added s a).tables
+  pub cells : (counts after).cells + (sums_removed s a).cells
+      ≡ (counts s).cells + (sums_added s a).cells
+  pub weight : (counts after).weight + (sums_removed s a).weight
+      ≡ (counts s).weight + (sums_added s a).weight
 
 abbrev pub CountsLaw : Type 0
 CountsLaw = (s : Document) (a : DocAction) → IsWhole s → valid s a ≡ true → SumsMove s (apply s a) a

@@ -1,4 +1,3 @@
-pub mod BaseValue
 pub mod ColumnRange
 pub mod Conversion
 pub mod ConversionLaws

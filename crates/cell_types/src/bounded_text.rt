@@ -3,9 +3,10 @@
 ghost use Rattle.std.specs.Prelude.{◌≡◌, ◌≤◌, ◌++◌, [], map, length, string_bytes, codes};
 ghost use Rattle.std.specs.Fmt.{decimal, signed_decimal};
 ghost use Rattle.cell_types.specs.TextBound.{Adds, text_bound};
-ghost use Rattle.cell_types.specs.ValueText.{item_text, row_text, date_text, bool_text, comma_joined, after_commas, err_text, value_text};
+ghost use Rattle.cell_types.specs.ValueText.{item_text, row_text, date_text, bool_text, comma_joined, after_commas, value_text};
 
-use crate::{CellItem, CellText, CellValue, ErrKind, Name};
+use crate::value_text::error_name;
+use crate::{CellItem, CellText, CellValue, Name};
 use std::alloc::{AllocError, Global};
 use std::marker::Model;
 
@@ -209,20 +210,5 @@ impl BoundedText {
     {
         self.write(", ")?;
         self.write_row_number(row)
-    }
-}
-
-fn error_name(kind: ErrKind) -> &'static str
-    ensures { result.now ≡ err_text kind }
-{
-    match kind {
-        ErrKind::Circular => "CircularRefError",
-        ErrKind::ZeroDivision => "ZeroDivisionError",
-        ErrKind::WrongType => "TypeError",
-        ErrKind::Attribute => "AttributeError",
-        ErrKind::Key => "KeyError",
-        ErrKind::Name => "NameError",
-        ErrKind::Overflow => "OverflowError",
-        ErrKind::Syntax => "SyntaxError",
     }
 }

@@ -2,8 +2,8 @@
 //!
 //! Stands on `unicode_ident` (which characters a name may have). Used by every crate of the engine.
 //!
-//! Promises: a text is seen as its bytes, a name as a text of 1 to 64 characters, and each list type
-//! as the list of its items; all are made from what they hold and give it back without memory.
+//! Promises: a text is seen as its bytes, a name as a text of 1 to 64 characters, and each list
+//! type as the list of its items; all are made from what they hold and give it back without memory.
 //! `same_as` is equality of what is seen, copies are equal to what they copy, and names and texts
 //! are ordered by bytes. What a good name is stands in specs/NameRule.antt.
 //! Read first: value.rt, then column_type.rt and sequence.rt.
@@ -34,4 +34,4 @@ pub use same::Same;
 pub use sequence::Sequence;
 pub use text::{CellText, TextList};
 pub use value::{CellItem, CellList, CellValue, ErrKind, RowList, RowRef, RowSet, ValueList};
-pub use value_text::text_of;
+pub use value_text::{error_name, text_of};

@@ -1,9 +1,6 @@
 //! Why an operator has no result.
 
-ghost use Rattle.std.specs.Prelude.{◌≡◌};
-ghost use Rattle.cell_types.specs.ValueText.{err_text};
-
-use cell_types::ErrKind;
+use cell_types::{ErrKind, error_name};
 use std::alloc::AllocError;
 use std::fmt;
 
@@ -31,22 +28,6 @@ impl fmt::Display for OpFault {
 }
 
 impl std::error::Error for OpFault {}
-
-// The name that cells show.
-fn error_name(kind: ErrKind) -> &'static str
-    ensures { result.now ≡ err_text kind }
-{
-    match kind {
-        ErrKind::Circular => "CircularRefError",
-        ErrKind::ZeroDivision => "ZeroDivisionError",
-        ErrKind::WrongType => "TypeError",
-        ErrKind::Attribute => "AttributeError",
-        ErrKind::Key => "KeyError",
-        ErrKind::Name => "NameError",
-        ErrKind::Overflow => "OverflowError",
-        ErrKind::Syntax => "SyntaxError",
-    }
-}
 
 impl From<ErrKind> for OpFault {
     ghost use Rattle.std.specs.Prelude.{◌≡◌};

@@ -42,7 +42,8 @@ fn old_update<D: DocTables>(
     columns: &ColumnList,
 ) -> Result<DocAction, AllocError>
     ensures { IfOk result (λ a.
-        a ≡ BulkUpdate table.now rows.now (old_cells (D.document tables.now) table.now rows.now columns.now)) }
+        a ≡ BulkUpdate table.now rows.now
+        (old_cells (D.document tables.now) table.now rows.now columns.now)) }
 {
     let columns = old_columns(alloc, tables, table, rows.as_slice(), columns.as_slice())?;
     let rows = rows.clone()?;

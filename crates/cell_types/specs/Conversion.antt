@@ -25,17 +25,20 @@ default_value (ty.RefList t) = value.Null
 -- the value as a text, or the default where that text is too long
 abbrev pub as_text : ColType → CellValue → CellValue
 as_text type v =
-    if nat_le (length (value_text v)) text_bound then value.Text (value_text v) else default_value type
+    if nat_le (length (value_text v)) text_bound then value.Text (value_text v)
+    else default_value type
 
 -- in any letter case
 abbrev pub is_word : List ℕ → List ℕ → Bool
 is_word word text = str_eq_ignore_ascii_case text word
 
 abbrev pub says_true : List ℕ → Bool
-says_true text = is_word (codes "true") text || (is_word (codes "yes") text || is_word (codes "1") text)
+says_true text =
+    is_word (codes "true") text || (is_word (codes "yes") text || is_word (codes "1") text)
 
 abbrev pub says_false : List ℕ → Bool
-says_false text = is_word (codes "false") text || (is_word (codes "no") text || is_word (codes "0") text)
+says_false text =
+    is_word (codes "false") text || (is_word (codes "no") text || is_word (codes "0") text)
 
 -- a number, or what stands where there is none
 abbrev pub int_or : CellValue → Option ℤ → CellValue
@@ -137,7 +140,8 @@ fit_ref t (value.Bool b) = as_text (ty.Ref t) (value.Bool b)
 fit_ref t (value.Text []) = value.Int (pos 0)
 fit_ref t (value.Text (c ∷ cs)) = row_or (value.Text (c ∷ cs)) (row_of_number (decimal_of (c ∷ cs)))
 fit_ref t (value.Date n) = as_text (ty.Ref t) (value.Date n)
-fit_ref t (value.Rec r) = if bytes_eq r.table t then value.Int (pos r.row) else as_text (ty.Ref t) (value.Rec r)
+fit_ref t (value.Rec r) =
+    if bytes_eq r.table t then value.Int (pos r.row) else as_text (ty.Ref t) (value.Rec r)
 fit_ref t (value.RecSet s) = as_text (ty.Ref t) (value.RecSet s)
 fit_ref t (value.List items) = as_text (ty.Ref t) (value.List items)
 fit_ref t (value.Err e) = value.Err e
@@ -152,10 +156,12 @@ fit_ref_list t (value.Text []) = value.Null
 fit_ref_list t (value.Text (c ∷ cs)) = value.Text (c ∷ cs)
 fit_ref_list t (value.Date n) = as_text (ty.RefList t) (value.Date n)
 fit_ref_list t (value.Rec r) =
-    if bytes_eq r.table t then single_or value.Null (Some r.row) else as_text (ty.RefList t) (value.Rec r)
+    if bytes_eq r.table t then single_or value.Null (Some r.row)
+    else as_text (ty.RefList t) (value.Rec r)
 fit_ref_list t (value.RecSet s) =
     if bytes_eq s.table t then list_of_rows s.rows else as_text (ty.RefList t) (value.RecSet s)
-fit_ref_list t (value.List items) = rows_or (as_text (ty.RefList t) (value.List items)) (rows_in t items)
+fit_ref_list t (value.List items) =
+    rows_or (as_text (ty.RefList t) (value.List items)) (rows_in t items)
 fit_ref_list t (value.Err e) = value.Err e
 fit_ref_list t value.Censored = value.Censored
 

@@ -24,7 +24,7 @@ item_has_sizes (item.Text t) = true
 item_has_sizes (item.Date n) = fits_64_bits n
 item_has_sizes (item.Rec r) = fits_32_bits r.row
 
--- 64 bits hold each whole number and date, and 32 bits each row: so it is with every value in memory
+-- 64 bits hold each whole number and date, 32 bits each row: so it is with every value in memory
 abbrev pub has_sizes : CellValue → Bool
 has_sizes value.Null = true
 has_sizes (value.Int n) = fits_64_bits n

@@ -60,11 +60,13 @@ value_text (value.Bool b) = bool_text b
 value_text (value.Text t) = t
 value_text (value.Date n) = date_text n
 value_text (value.Rec r) = row_text r.table r.row
-value_text (value.RecSet s) = s.table ++ codes "[[" ++ comma_joined (map decimal s.rows) ++ codes "]]"
+value_text (value.RecSet s) = s.table
+    ++ codes "[[" ++ comma_joined (map decimal s.rows) ++ codes "]]"
 value_text (value.List items) = codes "[" ++ comma_joined (map item_text items) ++ codes "]"
 value_text (value.Err e) = err_text e
 value_text value.Censored = codes "Censored"
 
 -- the text of a value, where it is no longer than a text in a cell may be
 abbrev pub text_within_bound : CellValue → Option (List ℕ)
-text_within_bound v = if nat_le (length (value_text v)) text_bound then Some (value_text v) else None
+text_within_bound v =
+    if nat_le (length (value_text v)) text_bound then Some (value_text v) else None

@@ -3,8 +3,8 @@
 ghost use Rattle.cell_types.specs.ColumnRange.{FitIsInRange};
 ghost use Rattle.cell_types.specs.ConversionLaws.{DecimalReadsBack, DefaultFits, TwiceIsOnce};
 
-/// Converting twice is converting once, but for a set of rows with row 0 that is converted to a list
-/// of references to its table.
+/// Converting twice is converting once, but for a set of rows with row 0 that is converted to a
+/// list of references to its table.
 pub fn twice_is_once_law()
     ensures { TwiceIsOnce }
 {}

@@ -54,7 +54,8 @@ impl Name {
     ///
     /// Memory: none.
     pub fn try_new(text: CellText) -> Option<Self>
-        ensures { MatchOption result (HasNameLength text → ⊥) (λ n. (n ≡ text) × HasNameLength text) }
+        ensures { MatchOption result (HasNameLength text → ⊥)
+            (λ n. (n ≡ text) × HasNameLength text) }
     {
         if has_name_length(text.as_str()) {
             Some(Name { text })
@@ -118,7 +119,8 @@ impl Ord for Name {
 impl PartialOrd for Name {
     ghost partial_cmp = { as_partial_cmp (slice_cmp nat_cmp) };
 
-    ghost laws = { partial_order_from_own_ties (Prim.search (comparing, rules)) (Prim.search (comparing, rules)) };
+    ghost laws = { partial_order_from_own_ties (Prim.search (comparing, rules))
+        (Prim.search (comparing, rules)) };
 
     fn partial_cmp(&self, other: &Name) -> Option<Ordering> {
         Some(self.cmp(other))

@@ -63,9 +63,7 @@ fn is_among(words: &[&str], text: &str) -> bool
 }
 
 // A word of formulas.
-#[tactic(auto,
-    unfolding(cell_types::specs::NameRule::is_reserved,
-    cell_types::specs::NameRule::reserved_words))]
+#[tactic(auto, unfolding(cell_types::specs::NameRule::is_reserved, cell_types::specs::NameRule::reserved_words))]
 fn is_reserved(text: &str) -> bool
     ensures { result ≡ is_reserved text.now }
 {

@@ -12,4 +12,5 @@ use Rattle.plain_view.specs.Cells.{row_cells, value_in}
 abbrev pub is_told_at : Grid ViewCol → Grid ViewCol → Indexes → ℕ → Bool
 is_told_at g w indexes r =
     has g.rows r
-    && not (same_value (value_in (row_cells g r) indexes.before indexes.start) (value_in (row_cells w r) indexes.after Null))
+    && not (same_value (value_in (row_cells g r) indexes.before indexes.start)
+    (value_in (row_cells w r) indexes.after Null))

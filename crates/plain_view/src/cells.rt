@@ -75,7 +75,8 @@ fn cell_copies(
     rows: &[u32],
 ) -> Result<ValueList, AllocError>
     requires { IsShown (grid table.now) }
-    ensures { IfOk result (λ l. l ≡ map (λ r. value_in (row_cells (grid table.now) r) index Null) rows.now) }
+    ensures { IfOk result
+        (λ l. l ≡ map (λ r. value_in (row_cells (grid table.now) r) index Null) rows.now) }
 {
     let values = all_made(alloc, rows, |row| cell_copy(table, index, *row))?;
     Ok(ValueList::from(values))

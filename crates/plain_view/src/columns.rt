@@ -65,7 +65,8 @@ fn tell_removed(
     column: &ViewCol,
     actions: &mut Vec<ViewAction>,
 ) -> Result<(), AllocError>
-    ensures { OnOk result (actions.new.items ≡ actions.old.items ++ removed_column table.now after.now column.now) }
+    ensures { OnOk result
+        (actions.new.items ≡ actions.old.items ++ removed_column table.now after.now column.now) }
 {
     if !is_there(after, &column.id) {
         add(actions, removal(table, &column.id)?)?;
@@ -79,7 +80,8 @@ fn tell_added(
     column: &ViewCol,
     actions: &mut Vec<ViewAction>,
 ) -> Result<(), AllocError>
-    ensures { OnOk result (actions.new.items ≡ actions.old.items ++ added_column table.now before.now column.now) }
+    ensures { OnOk result
+        (actions.new.items ≡ actions.old.items ++ added_column table.now before.now column.now) }
 {
     if !is_there(before, &column.id) {
         let (table, column) = column_told(table, column)?;
@@ -94,7 +96,8 @@ fn tell_modified(
     column: &ViewCol,
     actions: &mut Vec<ViewAction>,
 ) -> Result<(), AllocError>
-    ensures { OnOk result (actions.new.items ≡ actions.old.items ++ modified_column table.now before.now column.now) }
+    ensures { OnOk result
+        (actions.new.items ≡ actions.old.items ++ modified_column table.now before.now column.now) }
 {
     if differs(before, column) {
         let (table, column) = column_told(table, column)?;
@@ -112,7 +115,9 @@ pub(crate) fn tell_removed_columns(
     after: &[ViewCol],
     actions: &mut Vec<ViewAction>,
 ) -> Result<(), AllocError>
-    ensures { OnOk result (actions.new.items ≡ actions.old.items ++ for_each (removed_column table.now after.now) before.now) }
+    ensures { OnOk result
+        (actions.new.items ≡ actions.old.items
+        ++ for_each (removed_column table.now after.now) before.now) }
 {
     for column in before {
         tell_removed(table, after, column, actions)?;
@@ -129,7 +134,9 @@ pub(crate) fn tell_added_columns(
     after: &[ViewCol],
     actions: &mut Vec<ViewAction>,
 ) -> Result<(), AllocError>
-    ensures { OnOk result (actions.new.items ≡ actions.old.items ++ for_each (added_column table.now before.now) after.now) }
+    ensures { OnOk result
+        (actions.new.items ≡ actions.old.items
+        ++ for_each (added_column table.now before.now) after.now) }
 {
     for column in after {
         tell_added(table, before, column, actions)?;
@@ -146,7 +153,9 @@ pub(crate) fn tell_modified_columns(
     after: &[ViewCol],
     actions: &mut Vec<ViewAction>,
 ) -> Result<(), AllocError>
-    ensures { OnOk result (actions.new.items ≡ actions.old.items ++ for_each (modified_column table.now before.now) after.now) }
+    ensures { OnOk result
+        (actions.new.items ≡ actions.old.items
+        ++ for_each (modified_column table.now before.now) after.now) }
 {
     for column in after {
         tell_modified(table, before, column, actions)?;

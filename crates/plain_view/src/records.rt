@@ -65,7 +65,8 @@ fn told_rows(
 ) -> Result<RowList, AllocError>
     requires before { IsShown (grid before.now) }
     requires after { IsShown (grid after.now) }
-    ensures { IfOk result (λ l. l ≡ filter (is_told (grid before.now) (grid after.now) column.now) after.now.rows) }
+    ensures { IfOk result
+        (λ l. l ≡ filter (is_told (grid before.now) (grid after.now) column.now) after.now.rows) }
 {
     let indexes = indexes_of(alloc, before, after, column);
     rows_told(alloc, before, after, &indexes)
@@ -80,7 +81,9 @@ fn rows_told(
 ) -> Result<RowList, AllocError>
     requires before { IsShown (grid before.now) }
     requires after { IsShown (grid after.now) }
-    ensures { IfOk result (λ l. l ≡ filter (is_told_at (grid before.now) (grid after.now) indexes.now) after.now.rows) }
+    ensures { IfOk result
+        (λ l. l ≡ filter
+        (is_told_at (grid before.now) (grid after.now) indexes.now) after.now.rows) }
 {
     let mut rows = Vec::new(alloc);
     for row in after.rows.as_slice() {
@@ -97,7 +100,12 @@ fn told_cells(
     rows: &[u32],
 ) -> Result<(Name, ColumnList), AllocError>
     requires { IsShown (grid table.now) }
-    ensures { IfOk result (λ t. t ≡ (table.now.id, map (λ (d : ViewCol). column_of shown_id (grid table.now) rows.now d.id) columns.now)) }
+    ensures { IfOk result
+        (λ t. t ≡ (
+          table.now.id,
+          map
+              (λ (d : ViewCol). column_of shown_id (grid table.now) rows.now d.id) columns.now,
+        )) }
 {
     let told = all_made(
         alloc,
@@ -116,7 +124,9 @@ fn tell_updated(
 ) -> Result<(), AllocError>
     requires before { IsShown (grid before.now) }
     requires after { IsShown (grid after.now) }
-    ensures { OnOk result (actions.new.items ≡ actions.old.items ++ updated_column after.now.id (grid before.now) (grid after.now) column.now) }
+    ensures { OnOk result
+        (actions.new.items ≡ actions.old.items
+        ++ updated_column after.now.id (grid before.now) (grid after.now) column.now) }
 {
     let rows = told_rows(alloc, before, after, column)?;
     if rows.is_empty() {
@@ -145,7 +155,10 @@ pub(crate) fn tell_updated_cells(
 ) -> Result<(), AllocError>
     requires before { IsShown (grid before.now) }
     requires after { IsShown (grid after.now) }
-    ensures { OnOk result (actions.new.items ≡ actions.old.items ++ for_each (updated_column after.now.id (grid before.now) (grid after.now)) after.now.columns) }
+    ensures { OnOk result
+        (actions.new.items ≡ actions.old.items
+        ++ for_each (updated_column after.now.id (grid before.now)
+        (grid after.now)) after.now.columns) }
 {
     for column in after.columns.as_slice() {
         tell_updated(alloc, before, after, column, actions)?;
@@ -164,7 +177,10 @@ pub(crate) fn tell_removed_rows(
     actions: &mut Vec<ViewAction>,
 ) -> Result<(), AllocError>
     requires { IsAscending after.now }
-    ensures { OnOk result (actions.new.items ≡ actions.old.items ++ if_any (without after.now before.now) (BulkRemove table.now (without after.now before.now))) }
+    ensures { OnOk result
+        (actions.new.items ≡ actions.old.items
+        ++ if_any (without after.now before.now)
+        (BulkRemove table.now (without after.now before.now))) }
 {
     let rows = rows_without(alloc, after, true, before)?;
     if rows.is_empty() {
@@ -185,7 +201,9 @@ pub(crate) fn tell_added_rows(
     actions: &mut Vec<ViewAction>,
 ) -> Result<(), AllocError>
     requires { IsShown (grid table.now) }
-    ensures { OnOk result (actions.new.items ≡ actions.old.items ++ if_any rows (BulkAdd table.now.id rows (whole (grid table.now) rows))) }
+    ensures { OnOk result
+        (actions.new.items ≡ actions.old.items
+        ++ if_any rows (BulkAdd table.now.id rows (whole (grid table.now) rows))) }
 {
     if rows.is_empty() {
         return Ok(());

@@ -24,7 +24,9 @@ pub(crate) fn tell_revision(
 ) -> Result<(), AllocError>
     requires before { IsShown (grid before.now) }
     requires after { IsShown (grid after.now) }
-    ensures { OnOk result (actions.new.items ≡ actions.old.items ++ revision after.now.id (grid before.now) (grid after.now)) }
+    ensures { OnOk result
+        (actions.new.items ≡ actions.old.items
+        ++ revision after.now.id (grid before.now) (grid after.now)) }
 {
     tell_columns(before, after, actions)?;
     tell_rows(alloc, before, after, actions)?;
@@ -36,7 +38,9 @@ fn tell_columns(
     after: &ViewTable,
     actions: &mut Vec<ViewAction>,
 ) -> Result<(), AllocError>
-    ensures { OnOk result (actions.new.items ≡ actions.old.items ++ column_changes after.now.id (grid before.now) (grid after.now)) }
+    ensures { OnOk result
+        (actions.new.items ≡ actions.old.items
+        ++ column_changes after.now.id (grid before.now) (grid after.now)) }
 {
     let old = before.columns.as_slice();
     let new = after.columns.as_slice();
@@ -53,7 +57,9 @@ fn tell_rows(
 ) -> Result<(), AllocError>
     requires before { IsShown (grid before.now) }
     requires after { IsShown (grid after.now) }
-    ensures { OnOk result (actions.new.items ≡ actions.old.items ++ row_changes after.now.id (grid before.now) (grid after.now)) }
+    ensures { OnOk result
+        (actions.new.items ≡ actions.old.items
+        ++ row_changes after.now.id (grid before.now) (grid after.now)) }
 {
     let old = before.rows.as_slice();
     let new = after.rows.as_slice();

@@ -12,7 +12,8 @@ use std::alloc::{AllocError, Global};
 /// Memory: none. Cost: the logarithm of the length.
 pub fn row_index(rows: &[u32], row: u32) -> Option<usize>
     requires { IsAscending rows.now }
-    ensures { MatchOption result (has rows.now row ≡ false) (λ index. (index < length rows.now) × (slice_index rows.now index ≡ row)) }
+    ensures { MatchOption result (has rows.now row ≡ false)
+        (λ index. (index < length rows.now) × (slice_index rows.now index ≡ row)) }
 {
     match rows.binary_search(&row) {
         Ok(index) => Some(index),

@@ -38,7 +38,8 @@ fn tell_removed(
     table: &ViewTable,
     actions: &mut Vec<ViewAction>,
 ) -> Result<(), AllocError>
-    ensures { OnOk result (actions.new.items ≡ actions.old.items ++ removed_table after.now table.now) }
+    ensures { OnOk result
+        (actions.new.items ≡ actions.old.items ++ removed_table after.now table.now) }
 {
     if !is_there(after, &table.id) {
         let table = name_copy(&table.id)?;
@@ -67,7 +68,8 @@ fn tell_new(
     actions: &mut Vec<ViewAction>,
 ) -> Result<(), AllocError>
     requires { IsShown (grid table.now) }
-    ensures { OnOk result (actions.new.items ≡ actions.old.items ++ new_table before.now table.now) }
+    ensures { OnOk result
+        (actions.new.items ≡ actions.old.items ++ new_table before.now table.now) }
 {
     if !is_there(before, &table.id) {
         introduce(alloc, table, actions)?;
@@ -96,7 +98,8 @@ fn tell_removed_tables(
     after: &[ViewTable],
     actions: &mut Vec<ViewAction>,
 ) -> Result<(), AllocError>
-    ensures { OnOk result (actions.new.items ≡ actions.old.items ++ for_each (removed_table after.now) before.now) }
+    ensures { OnOk result
+        (actions.new.items ≡ actions.old.items ++ for_each (removed_table after.now) before.now) }
 {
     for table in before {
         tell_removed(after, table, actions)?;
@@ -111,7 +114,8 @@ fn tell_new_tables(
     actions: &mut Vec<ViewAction>,
 ) -> Result<(), AllocError>
     requires { AllByRecursion (λ t. IsShown (grid t)) after.now }
-    ensures { OnOk result (actions.new.items ≡ actions.old.items ++ for_each (new_table before.now) after.now) }
+    ensures { OnOk result
+        (actions.new.items ≡ actions.old.items ++ for_each (new_table before.now) after.now) }
 {
     for table in after {
         tell_new(alloc, before, table, actions)?;
@@ -127,7 +131,8 @@ fn tell_revised_tables(
 ) -> Result<(), AllocError>
     requires before { AllByRecursion (λ t. IsShown (grid t)) before.now }
     requires after { AllByRecursion (λ t. IsShown (grid t)) after.now }
-    ensures { OnOk result (actions.new.items ≡ actions.old.items ++ for_each (revised before.now) after.now) }
+    ensures { OnOk result
+        (actions.new.items ≡ actions.old.items ++ for_each (revised before.now) after.now) }
 {
     for table in after {
         tell_revised(alloc, before, table, actions)?;

@@ -13,7 +13,8 @@ use Rattle.row_tables.specs.declared.removed.TakenRow.{TakenRow}
 use Rattle.row_tables.specs.declared.removed.TakenRows.{TakenRows}
 
 -- the rows and the cells of a grid changed
-abbrev pub on_rows : (List ℕ → List ℕ) → (List (List CellValue) → List (List CellValue)) → Grid ColDef → Grid ColDef
+abbrev pub on_rows : (List ℕ → List ℕ) → (List (List CellValue) → List (List CellValue))
+    → Grid ColDef → Grid ColDef
 on_rows f h g = record { columns = g.columns; rows = f g.rows; cells = h g.cells }
 
 -- ---- values
@@ -44,7 +45,8 @@ column_writes there column [] vs = []
 column_writes there column (q ∷ rows) [] = []
 column_writes there column (q ∷ rows) (v ∷ vs) =
     cond (has there q)
-    (record { row = row_index q there; column = column; value = v } ∷ column_writes there column rows vs)
+    (record { row = row_index q there; column = column; value = v }
+    ∷ column_writes there column rows vs)
     (column_writes there column rows vs)
 
 -- what given columns write in a grid
@@ -65,7 +67,8 @@ rows_left (q ∷ gone) rows =
 abbrev pub beside_left : {X : Type 0} → List ℕ → List ℕ → List X → List X
 beside_left [] rows xs = xs
 beside_left (q ∷ gone) rows xs =
-    cond (has rows q) (beside_left gone (remove rows (row_index q rows)) (remove xs (row_index q rows)))
+    cond (has rows q)
+    (beside_left gone (remove rows (row_index q rows)) (remove xs (row_index q rows)))
     (beside_left gone rows xs)
 
 -- the rows put in again, the last one first, and their cells

@@ -38,7 +38,8 @@ fn new_cell(
     values: &[CellColumn],
     index: usize,
 ) -> Result<CellValue, AllocError>
-    ensures { IfOk result (λ v. v ≡ unwrap_or (given_at values.now column.now.id index) (start_of column.now)) }
+    ensures { IfOk result
+        (λ v. v ≡ unwrap_or (given_at values.now column.now.id index) (start_of column.now)) }
 {
     match given_value(values, &column.id, index) {
         Some(value) => copy_of(value),
@@ -53,7 +54,8 @@ fn new_row(
     values: &[CellColumn],
     index: usize,
 ) -> Result<ValueList, AllocError>
-    ensures { IfOk result (λ l. l ≡ map (λ d. unwrap_or (given_at values.now d.id index) (start_of d)) columns.now) }
+    ensures { IfOk result
+        (λ l. l ≡ map (λ d. unwrap_or (given_at values.now d.id index) (start_of d)) columns.now) }
 {
     let cells = all_made(
         alloc,
@@ -71,7 +73,10 @@ fn cells_of_new(
     values: &[CellColumn],
 ) -> Result<Vec<ValueList>, AllocError>
     requires { has_no_duplicates rows.now ≡ true }
-    ensures { IfOk result (λ v. v.items ≡ map (λ r. map (λ d. unwrap_or (given rows.now values.now d.id r) (start_of d)) columns.now) rows.now) }
+    ensures { IfOk result
+        (λ v. v.items
+        ≡ map (λ r. map
+        (λ d. unwrap_or (given rows.now values.now d.id r) (start_of d)) columns.now) rows.now) }
 {
     let mut lists = Vec::with_capacity(alloc, rows.len())?;
     for (index, _row) in rows.iter().enumerate() {
@@ -95,7 +100,8 @@ fn insert_rows(rows: &mut Vec<u32>, new: &[u32], indexes: &mut Vec<usize>)
     requires new { AreNew new.now rows.old.items }
     requires room { vec_len rows.old + length new.now ≤ vec_capacity rows.old }
     requires room_of_indexes { vec_len indexes.old + length new.now ≤ vec_capacity indexes.old }
-    ensures rows { rows.new.items ≡ put_at (new_indexes new.now rows.old.items) new.now rows.old.items }
+    ensures rows { rows.new.items
+        ≡ put_at (new_indexes new.now rows.old.items) new.now rows.old.items }
     ensures indexes { indexes.new.items ≡ indexes.old.items ++ new_indexes new.now rows.old.items }
 {
     for row in new {
@@ -129,8 +135,11 @@ impl RowTable {
     ) -> Result<Vec<usize>, AllocError>
         requires grid { IsGrid column_id self.old.grid }
         requires new { AreNew new.now self.old.grid.rows }
-        ensures ok { OnOk result (self.new ≡ on_grid (add_rows column_id start_of new.now values.now) self.old) }
-        ensures back { IfOk result (λ indexes. on_grid (on_rows (taken_out indexes.items) (taken_out indexes.items)) self.new ≡ self.old) }
+        ensures ok { OnOk result
+            (self.new ≡ on_grid (add_rows column_id start_of new.now values.now) self.old) }
+        ensures back { IfOk result
+            (λ indexes. on_grid
+            (on_rows (taken_out indexes.items) (taken_out indexes.items)) self.new ≡ self.old) }
         ensures err { OnErr result (self.new ≡ self.old) }
     {
         let alloc = self.alloc();
@@ -147,7 +156,8 @@ impl RowTable {
     ///
     /// Memory: none.
     pub(crate) fn take_out(&mut self, indexes: Vec<usize>)
-        ensures { self.new ≡ on_grid (on_rows (taken_out indexes.items) (taken_out indexes.items)) self.old }
+        ensures { self.new
+            ≡ on_grid (on_rows (taken_out indexes.items) (taken_out indexes.items)) self.old }
     {
         let mut indexes = indexes;
         while let Some(index) = indexes.pop() {

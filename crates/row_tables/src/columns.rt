@@ -20,7 +20,8 @@ use std::alloc::{AllocError, Global};
 
 // Puts a column before the first one with a greater row.
 fn put_column(columns: &mut Vec<ColDef>, column: ColDef) -> Result<(), AllocError>
-    ensures { IfOk result (λ _. columns.new.items ≡ put_by_row column_row column columns.old.items) }
+    ensures { IfOk result
+        (λ _. columns.new.items ≡ put_by_row column_row column columns.old.items) }
 {
     let index = index_of_column(columns, column.row);
     columns.insert(index, column)?;
@@ -43,7 +44,8 @@ fn columns_by_row(alloc: Global, columns: &[ColDef]) -> Result<Vec<ColDef>, Allo
 
 // Adds a copy of a column, but not where it has this id.
 fn add_other(left: &mut Vec<ColDef>, column: &ColDef, id: &Name) -> Result<(), AllocError>
-    ensures { IfOk result (λ _. left.new.items ≡ left.old.items ++ without_id column_id id.now (column.now ∷ [])) }
+    ensures { IfOk result
+        (λ _. left.new.items ≡ left.old.items ++ without_id column_id id.now (column.now ∷ [])) }
 {
     if column.id.as_str() == id.as_str() {
         return Ok(());
@@ -102,7 +104,9 @@ fn told_column(column: &ColDef, told: &Told) -> Result<ColDef, AllocError>
 
 // The column, with what is new where it has this id.
 fn changed(column: &ColDef, id: &Name, told: &Told) -> Result<ColDef, AllocError>
-    ensures { IfOk result (λ d. d ≡ cond (bytes_eq column.now.id id.now) (told_column told.now column.now) column.now) }
+    ensures { IfOk result
+        (λ d. d ≡ cond (bytes_eq column.now.id id.now)
+        (told_column told.now column.now) column.now) }
 {
     if column.id.as_str() == id.as_str() {
         told_column(column, told)
@@ -125,7 +129,9 @@ impl CellSource for Widened<'_> {
     ghost use Rattle.doc_model.specs.Grid.{cell};
     ghost use Rattle.doc_model.specs.Column.{column_id, start_of};
 
-    ghost value_at = { λ a d r. cond (bytes_eq d.id a.new.now.id) (start_of a.new.now) (cell column_id a.table.now.grid d.id r) };
+    ghost value_at = { λ a d r.
+        cond (bytes_eq d.id a.new.now.id) (start_of a.new.now)
+        (cell column_id a.table.now.grid d.id r) };
 
     fn value(&self, column: &ColDef, row: u32) -> Result<CellValue, AllocError> {
         if column.id.as_str() == self.new.id.as_str() {
@@ -186,7 +192,8 @@ impl RowTable {
 
     // The table with the column of this id changed.
     fn with_changed(&self, id: &Name, told: &Told) -> Result<RowTable, AllocError>
-        ensures { IfOk result (λ t. t ≡ on_grid (with_column id.now (told_column told.now)) self.now) }
+        ensures { IfOk result
+            (λ t. t ≡ on_grid (with_column id.now (told_column told.now)) self.now) }
     {
         let columns = all_made(
             self.alloc(),
@@ -205,7 +212,8 @@ impl RowTable {
 
     /// The table with the column of this id of another type or formula.
     pub fn with_column_modified(&self, id: &Name, info: &ColInfo) -> Result<RowTable, AllocError>
-        ensures { IfOk result (λ t. t ≡ on_grid (with_column id.now (with_info info.now)) self.now) }
+        ensures { IfOk result
+            (λ t. t ≡ on_grid (with_column id.now (with_info info.now)) self.now) }
     {
         self.with_changed(id, &Told::Info(info))
     }

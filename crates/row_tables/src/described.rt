@@ -84,7 +84,9 @@ fn put_described(sorted: &mut Vec<Described>, one: Described) -> Result<(), Allo
 
 // Puts the columns of a table into their places, the last one first.
 fn put_columns(sorted: &mut Vec<Described>, table: &RowTable) -> Result<(), AllocError>
-    ensures { IfOk result (λ _. sorted.new.items ≡ put_all (columns_of table.now.row table.now.grid.columns) sorted.old.items) }
+    ensures { IfOk result
+        (λ _. sorted.new.items
+        ≡ put_all (columns_of table.now.row table.now.grid.columns) sorted.old.items) }
 {
     let parent = table.row();
     let columns = table.columns();

@@ -43,7 +43,8 @@ pub(crate) fn filled<S: CellSource>(
     rows: &[u32],
     source: &S,
 ) -> Result<Vec<ValueList>, AllocError>
-    ensures { IfOk result (λ v. v.items ≡ (grid_of columns.now rows.now (S.value_at source.now)).cells) }
+    ensures { IfOk result
+        (λ v. v.items ≡ (grid_of columns.now rows.now (S.value_at source.now)).cells) }
 {
     all_made(alloc, rows, |row| row_filled(alloc, columns, *row, source))
 }

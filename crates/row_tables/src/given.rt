@@ -10,7 +10,8 @@ use doc_model::CellColumn;
 
 // What one given column gives at an index to the column of this id.
 fn value_of<'a>(column: &'a CellColumn, id: &Name, index: usize) -> Option<&'a CellValue>
-    ensures { option_copied result ≡ cond (bytes_eq column.now.id id.now) (slice_get column.now.values index) None }
+    ensures { option_copied result
+        ≡ cond (bytes_eq column.now.id id.now) (slice_get column.now.values index) None }
 {
     if column.id.as_str() == id.as_str() {
         column.values.as_slice().get(index)

@@ -53,7 +53,8 @@ pub(crate) fn cell_in_row<'a>(
     cells: &'a [CellValue],
     id: &Name,
 ) -> Option<&'a CellValue>
-    ensures { option_copied result ≡ found_beside (λ d. bytes_eq (column_id d) id.now) columns.now cells.now }
+    ensures { option_copied result
+        ≡ found_beside (λ d. bytes_eq (column_id d) id.now) columns.now cells.now }
 {
     for (index, column) in columns.iter().enumerate() {
         if column.id.as_str() == id.as_str() {

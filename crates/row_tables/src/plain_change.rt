@@ -94,7 +94,9 @@ fn add_table(
     row: u32,
     columns: &[ColDef],
 ) -> Result<PlainChange, AllocError>
-    ensures done { OnOk result (tables.new.items ≡ put_by_row table_row (new_table id.now row columns.now) tables.old.items) }
+    ensures done { OnOk result
+        (tables.new.items
+        ≡ put_by_row table_row (new_table id.now row columns.now) tables.old.items) }
     ensures back { IfOk result (λ change. plain_back change tables.new.items ≡ tables.old.items) }
     ensures fit { IfOk result (λ change. plain_fits change tables.new.items) }
     ensures err { OnErr result (tables.new.items ≡ tables.old.items) }
@@ -122,7 +124,9 @@ fn change_table(tables: &mut Vec<RowTable>, action: &DocAction) -> Result<PlainC
     requires distinct { AreDistinct table_id tables.old.items }
     requires there { has_id table_id tables.old.items (table_named action.now) ≡ true }
     requires schema { is_record action.now ≡ false }
-    ensures done { OnOk result (tables.new.items ≡ with_table (table_named action.now) (table_change action.now) tables.old.items) }
+    ensures done { OnOk result
+        (tables.new.items
+        ≡ with_table (table_named action.now) (table_change action.now) tables.old.items) }
     ensures back { IfOk result (λ change. plain_back change tables.new.items ≡ tables.old.items) }
     ensures fit { IfOk result (λ change. plain_fits change tables.new.items) }
     ensures err { OnErr result (tables.new.items ≡ tables.old.items) }

@@ -76,7 +76,10 @@ impl RowTable {
     pub(crate) fn take_rows(&mut self, gone: &[u32]) -> Result<TakenRows, AllocError>
         requires { IsGrid column_id self.old.grid }
         ensures ok { OnOk result (self.new ≡ on_grid (remove_rows column_id gone.now) self.old) }
-        ensures back { IfOk result (λ back. on_grid (on_rows (rows_again back.taken.items) (cells_again back.taken.items)) self.new ≡ self.old) }
+        ensures back { IfOk result
+            (λ back. on_grid
+            (on_rows (rows_again back.taken.items) (cells_again back.taken.items)) self.new
+            ≡ self.old) }
         ensures fit { IfOk result (λ back. HasRoom back self.new.grid) }
         ensures err { OnErr result (self.new ≡ self.old) }
     {
@@ -93,7 +96,9 @@ impl RowTable {
     /// Memory: none.
     pub(crate) fn put_rows_again(&mut self, back: TakenRows)
         requires { HasRoom back self.old.grid }
-        ensures { self.new ≡ on_grid (on_rows (rows_again back.taken.items) (cells_again back.taken.items)) self.old }
+        ensures { self.new
+            ≡ on_grid (on_rows (rows_again back.taken.items)
+            (cells_again back.taken.items)) self.old }
     {
         let mut rows = move_to(&mut self.rows, back.rows);
         let mut cells = move_to(&mut self.cells, back.cells);

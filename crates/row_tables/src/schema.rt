@@ -71,7 +71,9 @@ fn joined(alloc: Global, word: &str, table: &Name) -> Result<CellText, AllocErro
 
 // Adds the cells that say what a column is.
 fn add_info(alloc: Global, cells: &mut Vec<CellValue>, info: &ColInfo) -> Result<(), AllocError>
-    ensures { IfOk result (λ _. cells.new.items ≡ cells.old.items ++ Text (type_text info.now.ty) ∷ Bool info.now.is_formula ∷ Text info.now.formula ∷ []) }
+    ensures { IfOk result
+        (λ _. cells.new.items ≡ cells.old.items ++ Text (type_text info.now.ty)
+        ∷ Bool info.now.is_formula ∷ Text info.now.formula ∷ []) }
 {
     add_cell(cells, CellValue::Text(type_text(alloc, &info.ty)?))?;
     add_cell(cells, CellValue::Bool(info.is_formula))?;
@@ -110,8 +112,10 @@ pub(crate) struct SchemaTables {
 ///
 /// Cost: the square of the number of columns.
 pub(crate) fn schema_tables(alloc: Global, plain: &[RowTable]) -> Result<SchemaTables, AllocError>
-    ensures tables { IfOk result (λ schema. schema.tables ≡ metadata_table tables_id (tables_grid plain.now)) }
-    ensures columns { IfOk result (λ schema. schema.columns ≡ metadata_table columns_id (columns_grid plain.now)) }
+    ensures tables { IfOk result
+        (λ schema. schema.tables ≡ metadata_table tables_id (tables_grid plain.now)) }
+    ensures columns { IfOk result
+        (λ schema. schema.columns ≡ metadata_table columns_id (columns_grid plain.now)) }
 {
     Ok(SchemaTables {
         tables: table_of_tables(alloc, plain)?,

@@ -60,7 +60,9 @@ pub(crate) fn changed_table(table: &RowTable, action: &DocAction) -> Result<RowT
 ///
 /// Memory: none. Cost: linear in the tables.
 pub(crate) fn index_of_table(tables: &[RowTable], id: &Name) -> Option<usize>
-    ensures { MatchOption result (find_id table_id id.now tables.now ≡ None) (λ k. (k < length tables.now) × (slice_get tables.now k ≡ find_id table_id id.now tables.now)) }
+    ensures { MatchOption result (find_id table_id id.now tables.now ≡ None)
+        (λ k. (k < length tables.now)
+        × (slice_get tables.now k ≡ find_id table_id id.now tables.now)) }
 {
     for (index, table) in tables.iter().enumerate() {
         if table.id().as_str() == id.as_str() {

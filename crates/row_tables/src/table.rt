@@ -35,7 +35,12 @@ impl Model for RowTable {
 
     ghost coded = { coded_table };
 
-    ghost view = { λ a. record { id = a.id; row = a.row; grid = record { columns = a.columns.items; rows = a.rows.items; cells = a.cells.items } } };
+    ghost view = { λ a.
+        record {
+          id = a.id;
+          row = a.row;
+          grid = record { columns = a.columns.items; rows = a.rows.items; cells = a.cells.items };
+        } };
 }
 
 impl RowTable {
@@ -110,7 +115,16 @@ impl RowTable {
         id: &Name,
         columns: Vec<ColDef>,
     ) -> Result<RowTable, AllocError>
-        ensures { IfOk result (λ t. t ≡ record { id = id.now; row = self.now.row; grid = record { columns = columns.items; rows = self.now.grid.rows; cells = self.now.grid.cells } }) }
+        ensures { IfOk result (λ t.
+            t ≡ record {
+              id = id.now;
+              row = self.now.row;
+              grid = record {
+                columns = columns.items;
+                rows = self.now.grid.rows;
+                cells = self.now.grid.cells;
+              };
+            }) }
     {
         let cells = copy_of_cells(self.alloc(), &self.cells)?;
         let rows = self.rows_copy()?;
@@ -151,7 +165,13 @@ impl RowTable {
         rows: Vec<u32>,
         source: &S,
     ) -> Result<RowTable, AllocError>
-        ensures { IfOk result (λ t. t ≡ record { id = self.now.id; row = self.now.row; grid = grid_of columns.items rows.items (S.value_at source.now) }) }
+        ensures { IfOk result (λ t. t
+            ≡ record {
+              id = self.now.id;
+              row = self.now.row;
+              grid = grid_of columns.items rows.items
+                  (S.value_at source.now);
+            }) }
     {
         let cells = filled(self.alloc(), &columns, &rows, source)?;
         Ok(RowTable {

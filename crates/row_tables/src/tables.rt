@@ -50,7 +50,8 @@ const FIRST_TABLES: [Known; 5] = [
 
 // Those tables without rows.
 fn empty_tables(alloc: Global) -> Result<Vec<RowTable>, AllocError>
-    ensures { IfOk result (λ v. v.items ≡ map empty_table (Tables ∷ Columns ∷ Resources ∷ Rules ∷ Table1 ∷ [])) }
+    ensures { IfOk result
+        (λ v. v.items ≡ map empty_table (Tables ∷ Columns ∷ Resources ∷ Rules ∷ Table1 ∷ [])) }
 {
     all_made(alloc, &FIRST_TABLES, |known| empty_table(alloc, *known))
 }
@@ -75,8 +76,8 @@ fn find_table<'a>(tables: &'a [RowTable], id: &Name) -> Option<&'a RowTable>
 }
 
 impl RowTables {
-    /// The new document: `Table1` with columns `A`, `B` and `C`, and no rows but those that describe
-    /// it.
+    /// The new document: `Table1` with columns `A`, `B` and `C`, and no rows but those that
+    /// describe it.
     pub fn new_document(alloc: Global) -> Result<RowTables, AllocError>
         ensures { IfOk result (λ s. s ≡ new_document) }
     {

@@ -45,7 +45,9 @@ fn note_column(
     values: &[CellValue],
 ) -> Result<(), AllocError>
     requires { IsAscending there.now }
-    ensures { OnOk result (writes.new.items ≡ writes.old.items ++ column_writes there.now column rows.now values.now) }
+    ensures { OnOk result
+        (writes.new.items ≡ writes.old.items
+        ++ column_writes there.now column rows.now values.now) }
 {
     for (index, row) in rows.iter().enumerate() {
         let Some(value) = values.get(index) else {
@@ -77,7 +79,9 @@ fn swap_cell(cells: &mut Vec<ValueList>, write: &mut Write)
     ensures cells { cells.new.items ≡ set_cell write.old cells.old.items }
     ensures row { write.new.row ≡ write.old.row }
     ensures column { write.new.column ≡ write.old.column }
-    ensures value { write.new.value ≡ slice_index_or (slice_index_or cells.old.items write.old.row []) write.old.column write.old.value }
+    ensures value { write.new.value
+        ≡ slice_index_or
+        (slice_index_or cells.old.items write.old.row []) write.old.column write.old.value }
 {
     let alloc = *cells.allocator();
     if write.row < cells.len() {
@@ -130,8 +134,10 @@ impl RowTable {
         given: &[CellColumn],
     ) -> Result<Vec<Write>, AllocError>
         requires { IsGrid column_id self.old.grid }
-        ensures ok { OnOk result (self.new ≡ on_grid (update_rows column_id rows.now given.now) self.old) }
-        ensures back { IfOk result (λ ws. on_grid (on_rows (λ rows. rows) (written_back ws.items)) self.new ≡ self.old) }
+        ensures ok { OnOk result
+            (self.new ≡ on_grid (update_rows column_id rows.now given.now) self.old) }
+        ensures back { IfOk result
+            (λ ws. on_grid (on_rows (λ rows. rows) (written_back ws.items)) self.new ≡ self.old) }
         ensures err { OnErr result (self.new ≡ self.old) }
     {
         let mut writes = self.writes(rows, given)?;

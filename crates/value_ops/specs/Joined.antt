@@ -18,7 +18,8 @@ bounded_text t = if nat_le (length t) text_bound then Ok (value.Text t) else Err
 
 -- a list, where it is within the bound
 abbrev pub bounded_list : List CellItem → Result CellValue ErrKind
-bounded_list items = if nat_le (length items) joined_list_bound then Ok (value.List items) else Err Overflow
+bounded_list items =
+    if nat_le (length items) joined_list_bound then Ok (value.List items) else Err Overflow
 
 -- left + right
 abbrev pub sum_of : CellValue → CellValue → Result CellValue ErrKind

@@ -31,7 +31,8 @@ abbrev pub in_64_bits : ℤ → Result CellValue ErrKind
 in_64_bits n = if fits_64_bits n then Ok (value.Int n) else Err Overflow
 
 -- an operation on two numbers; where one of them is none, a wrong type
-abbrev pub on_numbers : (ℤ → ℤ → Result CellValue ErrKind) → Option ℤ → Option ℤ → Result CellValue ErrKind
+abbrev pub on_numbers : (ℤ → ℤ → Result CellValue ErrKind) → Option ℤ → Option ℤ
+    → Result CellValue ErrKind
 on_numbers operation None right = Err WrongType
 on_numbers operation (Some a) None = Err WrongType
 on_numbers operation (Some a) (Some b) = operation a b
@@ -42,7 +43,8 @@ divided part a b = if int_eq b (pos 0) then Err ZeroDivision else in_64_bits (pa
 
 -- left - right
 abbrev pub difference_of : CellValue → CellValue → Result CellValue ErrKind
-difference_of left right = on_numbers (λ a b. in_64_bits (a -ℤ b)) (number_of left) (number_of right)
+difference_of left right =
+    on_numbers (λ a b. in_64_bits (a -ℤ b)) (number_of left) (number_of right)
 
 -- left * right
 abbrev pub product_of : CellValue → CellValue → Result CellValue ErrKind

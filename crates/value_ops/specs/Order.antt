@@ -9,8 +9,8 @@ use Rattle.cell_types.specs.declared.value.ErrKind.{ErrKind}
 use Rattle.cell_types.specs.declared.value.ErrKind.TheVariants.{WrongType}
 use Rattle.value_ops.specs.Numbers.{number_of}
 
--- the first byte that differs decides, which in UTF-8 is the first character that differs; a text is less
--- than what goes on after it
+-- the first byte that differs decides, which in UTF-8 is the first character that differs; a text
+-- is less than what goes on after it
 abbrev pub is_less_text : List ℕ → List ℕ → Bool
 is_less_text t u = is_lt (slice_cmp nat_cmp t u)
 

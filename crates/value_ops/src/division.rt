@@ -4,16 +4,17 @@ ghost use Rattle.std.specs.Prelude.{◌≡◌, ◌↔◌, IsTrue, SomeIff, FitsS
 ghost use Rattle.std.specs.Int.{IsNonZero, w64};
 ghost use Rattle.value_ops.specs.Division.{floored_quotient, floored_remainder, LeansAway, DivisionLaw};
 
-/// A dividend is its quotient times the divisor, with the remainder; and the remainder lies from 0 on
-/// toward the divisor.
+/// A dividend is its quotient times the divisor, with the remainder; and the remainder lies from 0
+/// on toward the divisor.
 pub fn division_law()
     ensures { DivisionLaw }
 {}
 
-// The quotient, where 64 bits hold it: the one that they do not hold is that of the least number by -1.
+// The quotient, where 64 bits hold it: they do not hold that of the least number by -1 alone.
 pub(crate) fn quotient(dividend: i64, divisor: i64) -> Option<i64>
     requires { IsNonZero w64 divisor }
-    ensures { SomeIff result (FitsSigned w64 (floored_quotient dividend divisor)) (floored_quotient dividend divisor) }
+    ensures { SomeIff result (FitsSigned w64 (floored_quotient dividend divisor))
+        (floored_quotient dividend divisor) }
 {
     let toward_zero = dividend.checked_div(divisor)?;
     if leans_away(dividend.wrapping_rem(divisor), divisor) {

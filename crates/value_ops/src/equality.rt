@@ -10,8 +10,8 @@ ghost use Rattle.value_ops.specs.Numbers.{number_of};
 use crate::numbers::number;
 use cell_types::{CellItem, CellValue, RowRef, RowSet, Same};
 
-/// `left == right`. Numbers are equal across their kinds, and so are lists whose items are: `True == 1`
-/// and `[True] == [1]`. Values of any other two kinds are unequal.
+/// `left == right`. Numbers are equal across their kinds, and so are lists whose items are:
+/// `True == 1` and `[True] == [1]`. Values of any other two kinds are unequal.
 ///
 /// Memory: none. Cost: linear in the smaller of the two.
 pub fn equal(left: &CellValue, right: &CellValue) -> bool

@@ -15,8 +15,8 @@ pub const MAX_JOINED_ITEMS: usize = 1_000_000;
 
 /// `left + right`: the sum of two numbers, or two texts or two lists one after the other.
 ///
-/// Errors: `WrongType` for every other pair; `Overflow` for a sum outside 64 bits, a text of more than
-/// 65,536 bytes or a list of more than 1,000,000 items, before any memory is taken.
+/// Errors: `WrongType` for every other pair; `Overflow` for a sum outside 64 bits, a text of more
+/// than 65,536 bytes or a list of more than 1,000,000 items, before any memory is taken.
 /// Memory: the joined text or list, made in one piece. Cost: linear in it.
 pub fn add(alloc: Global, left: &CellValue, right: &CellValue) -> Result<CellValue, OpFault>
     ensures { AnswersWithMemory result (sum_of left.now right.now) }

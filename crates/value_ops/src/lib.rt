@@ -3,10 +3,10 @@
 //! Stands on `cell_types` (values). For whatever evaluates formulas, or compares values as they do;
 //! no crate uses it yet.
 //!
-//! Promises: each operator gives exactly what its table in specs/ says for every two values, and every
-//! error of that table where it stands there. Only `add` takes memory, for what it joins; comparing
-//! and joining are linear, and no operand is copied to be read. Division rounds down, and its law
-//! holds for all whole numbers.
+//! Promises: each operator gives exactly what its table in specs/ says for every two values, and
+//! every error of that table where it stands there. Only `add` takes memory, for what it joins;
+//! comparing and joining are linear, and no operand is copied to be read. Division rounds down, and
+//! its law holds for all whole numbers.
 //! Not promised: that `add` finds memory.
 //! Read first: numbers.rt, then equality.rt.
 #![tactic(auto)]

@@ -10,8 +10,8 @@ use crate::equality::item_equals;
 use crate::numbers::number;
 use cell_types::{CellItem, CellValue, ErrKind, RowSet, Same};
 
-/// `left in right`: any value in a list, by `==`; a text in a text; in a set of records, a record of its
-/// table or a number, which is a row id. No other value is in a set of records.
+/// `left in right`: any value in a list, by `==`; a text in a text; in a set of records, a record
+/// of its table or a number, which is a row id. No other value is in a set of records.
 ///
 /// Errors: `WrongType` for every other pair.
 /// Memory: none. Cost: linear in the list or set.

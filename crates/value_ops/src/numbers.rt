@@ -37,8 +37,8 @@ pub fn mul(left: &CellValue, right: &CellValue) -> Result<CellValue, OpFault>
 
 /// `left // right`, rounded down.
 ///
-/// Errors: `WrongType` where one of them is no number, `ZeroDivision` by 0 or False, `Overflow` outside
-/// 64 bits.
+/// Errors: `WrongType` where one of them is no number, `ZeroDivision` by 0 or False, `Overflow`
+/// outside 64 bits.
 /// Memory: none.
 pub fn floor_div(left: &CellValue, right: &CellValue) -> Result<CellValue, OpFault>
     ensures { result ≡ answer (quotient_of left.now right.now) }
@@ -94,7 +94,9 @@ pub(crate) fn number(value: &CellValue) -> Option<i64>
 ///
 /// Memory: none.
 pub(crate) fn within_64_bits(number: Option<i64>) -> Result<CellValue, OpFault>
-    ensures { (exact : ℤ) → SomeIff number (FitsSigned w64 exact) exact → result ≡ answer (in_64_bits exact) }
+    ensures { (exact : ℤ)
+        → SomeIff number (FitsSigned w64 exact) exact
+        → result ≡ answer (in_64_bits exact) }
 {
     match number {
         Some(number) => Ok(CellValue::Int(number)),

@@ -6,8 +6,8 @@ ghost use Rattle.value_ops.specs.Order.{less_of};
 use crate::numbers::number;
 use cell_types::{CellValue, ErrKind};
 
-/// `left < right`, of two numbers, two dates or two texts. Texts go by their characters: the order of
-/// the bytes of UTF-8 is that of the characters.
+/// `left < right`, of two numbers, two dates or two texts. Texts go by their characters: the order
+/// of the bytes of UTF-8 is that of the characters.
 ///
 /// Errors: `WrongType` for every other pair.
 /// Memory: none. Cost: linear in the shorter text.

@@ -5,8 +5,8 @@ ghost use Rattle.value_ops.specs.Truth.{truth_of};
 
 use cell_types::CellValue;
 
-/// Whether a value is true, as a condition sees it: all is but 0, False, None, the empty text, list and
-/// set of records, and a record of row 0, which is no row.
+/// Whether a value is true, as a condition sees it: all is but 0, False, None, the empty text, list
+/// and set of records, and a record of row 0, which is no row.
 ///
 /// Memory: none.
 pub fn truth(value: &CellValue) -> bool

@@ -43,7 +43,8 @@ pub(crate) fn without_column(
     id: &Name,
 ) -> Result<ViewTable, AllocError>
     requires { IsShown (grid table.now) }
-    ensures { IfOk result (λ t. t ≡ table_of table.now.id (edited (remove_column id.now) (grid table.now))) }
+    ensures { IfOk result
+        (λ t. t ≡ table_of table.now.id (edited (remove_column id.now) (grid table.now))) }
 {
     let columns = columns_without(&table.columns, id)?;
     rebuilt(alloc, table, columns, rows_copy(&table.rows)?, &[], &[])
@@ -59,7 +60,10 @@ pub(crate) fn with_column(
     column: &ViewCol,
 ) -> Result<ViewTable, AllocError>
     requires { IsShown (grid table.now) }
-    ensures { IfOk result (λ t. t ≡ table_of table.now.id (grid_of (put_by_id shown_id column.now table.now.columns) table.now.rows (new_cell (grid table.now) [] []))) }
+    ensures { IfOk result
+        (λ t. t ≡ table_of table.now.id
+        (grid_of (put_by_id shown_id column.now table.now.columns) table.now.rows
+        (new_cell (grid table.now) [] []))) }
 {
     let columns = columns_with(&table.columns, column)?;
     rebuilt(alloc, table, columns, rows_copy(&table.rows)?, &[], &[])
@@ -74,7 +78,8 @@ pub(crate) fn without_rows(
     rows: &[u32],
 ) -> Result<ViewTable, AllocError>
     requires { IsShown (grid table.now) }
-    ensures { IfOk result (λ t. t ≡ table_of table.now.id (edited (remove rows.now) (grid table.now))) }
+    ensures { IfOk result
+        (λ t. t ≡ table_of table.now.id (edited (remove rows.now) (grid table.now))) }
 {
     let left = rows_without(alloc, rows, is_ascending(rows), table.rows.as_slice())?;
     rebuilt(alloc, table, columns_copy(&table.columns)?, left, &[], &[])
@@ -92,7 +97,8 @@ pub(crate) fn with_rows(
     requires table { IsShown (grid table.now) }
     requires new { none_in rows.now table.now.rows ≡ true }
     requires full { AreFull rows.now columns.now }
-    ensures { IfOk result (λ t. t ≡ table_of table.now.id (edited (add rows.now columns.now) (grid table.now))) }
+    ensures { IfOk result
+        (λ t. t ≡ table_of table.now.id (edited (add rows.now columns.now) (grid table.now))) }
 {
     let all = rows_with(rows_copy(&table.rows)?.into_vec(), rows)?;
     rebuilt(
@@ -116,7 +122,8 @@ pub(crate) fn with_values(
 ) -> Result<ViewTable, AllocError>
     requires table { IsShown (grid table.now) }
     requires full { AreFull rows.now columns.now }
-    ensures { IfOk result (λ t. t ≡ table_of table.now.id (edited (update rows.now columns.now) (grid table.now))) }
+    ensures { IfOk result
+        (λ t. t ≡ table_of table.now.id (edited (update rows.now columns.now) (grid table.now))) }
 {
     let kept = rows_copy(&table.rows)?;
     rebuilt(

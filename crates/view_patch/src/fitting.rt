@@ -17,7 +17,8 @@ use plain_view::named::{are_distinct, find_id, is_there};
 
 // Whether the table has each of the columns.
 fn has_each(table: &ViewTable, columns: &[CellColumn]) -> bool
-    ensures { result ≡ list_all (λ (k : CellColumn). has_id shown_id table.now.columns k.id) columns.now }
+    ensures { result
+        ≡ list_all (λ (k : CellColumn). has_id shown_id table.now.columns k.id) columns.now }
 {
     let known = table.columns.as_slice();
     columns.iter().all(|column| is_there(known, &column.id))

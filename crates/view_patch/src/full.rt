@@ -8,7 +8,8 @@ ghost use Rattle.view_patch.specs.Given.{IsFull};
 use doc_model::{CellColumn, ViewAction, ViewActionList};
 
 fn are_columns_full(count: usize, columns: &[CellColumn]) -> bool
-    ensures { IsTrue result ↔ AllByRecursion (λ (k : CellColumn). length k.values ≡ count) columns.now }
+    ensures { IsTrue result
+        ↔ AllByRecursion (λ (k : CellColumn). length k.values ≡ count) columns.now }
 {
     for column in columns {
         if column.values.len() != count {

@@ -76,7 +76,8 @@ fn step(
     requires few { index < 2 ^ 32 }
     ensures ok { OnOk result (tables.new.items ≡ patched action.now tables.old.items) }
     ensures fits { OnOk result (fits action.now tables.old.items ≡ true) }
-    ensures err { IfErr result (λ fault. tells_here fault (fits action.now tables.old.items) index) }
+    ensures err { IfErr result
+        (λ fault. tells_here fault (fits action.now tables.old.items) index) }
 {
     if !fits(tables, action) {
         return Err(PatchFault::Unfit {
@@ -115,7 +116,8 @@ fn add_table(
     id: &Name,
     columns: &[ViewCol],
 ) -> Result<(), AllocError>
-    ensures { OnOk result (tables.new.items ≡ patched (AddTable id.now columns.now) tables.old.items) }
+    ensures { OnOk result
+        (tables.new.items ≡ patched (AddTable id.now columns.now) tables.old.items) }
 {
     let table = ViewTable {
         id: name_copy(id)?,
@@ -135,7 +137,8 @@ fn edit_table(
     requires view { IsView tables.old.items }
     requires fits { fits_there id.now action.now tables.old.items ≡ true }
     requires full { IsFull action.now }
-    ensures { OnOk result (tables.new.items ≡ with_id shown_table_id id.now (act action.now) tables.old.items) }
+    ensures { OnOk result
+        (tables.new.items ≡ with_id shown_table_id id.now (act action.now) tables.old.items) }
 {
     match index_of(tables, id) {
         Some(index) => {

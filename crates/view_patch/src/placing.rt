@@ -14,7 +14,8 @@ use std::cmp::Ordering;
 
 // The index of the thing of an id, or else where one of that id goes.
 fn spot<T: Named>(things: &[T], id: &Name) -> Result<usize, usize>
-    ensures { MatchResult result (GoesOver T.id_of id.now things.now) (GoesBefore T.id_of id.now things.now) }
+    ensures { MatchResult result (GoesOver T.id_of id.now things.now)
+        (GoesBefore T.id_of id.now things.now) }
 {
     for index in 0..things.len() {
         match id.cmp(things[index].id()) {

@@ -98,7 +98,10 @@ fn sourced_row(
 ) -> Result<ValueList, AllocError>
     requires table { IsShown (grid table.now) }
     requires ascending { OnTrue given.now.is_ascending (IsAscending given.now.rows.now) }
-    ensures { IfOk result (λ l. l ≡ map (sourced_cell (row_cells (grid table.now) row) given.now.columns.now (last_row given.now.rows.now row)) sources.now) }
+    ensures { IfOk result
+        (λ l. l ≡ map
+        (sourced_cell (row_cells (grid table.now) row) given.now.columns.now
+        (last_row given.now.rows.now row)) sources.now) }
 {
     let before = row_cells(table, row);
     let index = last_index(given.rows, given.is_ascending, row);
@@ -118,7 +121,10 @@ fn sourced_rows(
 ) -> Result<CellRowList, AllocError>
     requires table { IsShown (grid table.now) }
     requires ascending { OnTrue given.now.is_ascending (IsAscending given.now.rows.now) }
-    ensures { IfOk result (λ l. l ≡ map (λ r. map (sourced_cell (row_cells (grid table.now) r) given.now.columns.now (last_row given.now.rows.now r)) sources.now) rows.now) }
+    ensures { IfOk result
+        (λ l. l ≡ map
+        (λ r. map (sourced_cell (row_cells (grid table.now) r) given.now.columns.now
+        (last_row given.now.rows.now r)) sources.now) rows.now) }
 {
     let cells = all_made(
         alloc,
@@ -139,7 +145,9 @@ fn cells_of(
 ) -> Result<CellRowList, AllocError>
     requires table { IsShown (grid table.now) }
     requires given { AreFull given_rows.now given.now }
-    ensures { IfOk result (λ l. l ≡ (grid_of columns.now rows.now (new_cell (grid table.now) given_rows.now given.now)).cells) }
+    ensures { IfOk result
+        (λ l. l ≡ (grid_of columns.now rows.now
+        (new_cell (grid table.now) given_rows.now given.now)).cells) }
 {
     let sources = sources_of(alloc, table.columns.as_slice(), given, columns)?;
     let told = Given {
@@ -165,7 +173,9 @@ pub(crate) fn rebuilt(
 ) -> Result<ViewTable, AllocError>
     requires table { IsShown (grid table.now) }
     requires given { AreFull given_rows.now given.now }
-    ensures { IfOk result (λ t. t ≡ table_of table.now.id (grid_of columns rows (new_cell (grid table.now) given_rows.now given.now))) }
+    ensures { IfOk result
+        (λ t. t ≡ table_of table.now.id
+        (grid_of columns rows (new_cell (grid table.now) given_rows.now given.now))) }
 {
     let cells = cells_of(
         alloc,

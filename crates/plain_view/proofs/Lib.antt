@@ -3,3 +3,7 @@ pub mod RowIndexes
 pub mod CellIndexes
 pub mod ShapedCells
 pub mod Revisions
+pub mod PartLemmas
+pub mod PartLemmasCells
+pub mod PartLemmasEdits
+pub mod PartLemmasChanges

@@ -14,10 +14,12 @@ mod actions;
 pub mod cells;
 mod columns;
 pub mod copies;
+mod laws;
 pub mod named;
 mod records;
 mod revision;
 pub mod rows;
 mod view_changes;
 
+pub use laws::changes_same_law;
 pub use view_changes::changes;

@@ -1,7 +1,7 @@
 //! The columns of a record action.
-ghost use Rattle.std.specs.Prelude.{◌≡◌, Some, IfOk, option_map};
+ghost use Rattle.std.specs.Prelude.{◌≡◌, IfOk, option_map};
 ghost use Rattle.serde_json.specs.View.{view, members_view};
-ghost use Rattle.action_lines.specs.Columns.{is_after, filled, cells_from, filled_from, columns_from, columns_in};
+ghost use Rattle.action_lines.specs.Columns.{is_after, cells_from, filled_from, columns_from, columns_in};
 
 use crate::fields::Fields;
 use crate::spelled::read_given;
@@ -55,17 +55,11 @@ fn filled_of(
     if !is_after(before, name) {
         return Ok(None);
     }
+    let id = CellText::copy_of(alloc, name)?;
     match cells_of(alloc, single, count, value)? {
-        Some(values) => column(alloc, name, values),
+        Some(values) => Ok(Some(UserColumn { id, values })),
         None => Ok(None),
     }
-}
-
-fn column(alloc: Global, name: &str, values: ValueList) -> Result<Option<UserColumn>, AllocError>
-    ensures { IfOk result (λ o. o ≡ Some (filled name.now values)) }
-{
-    let id = CellText::copy_of(alloc, name)?;
-    Ok(Some(UserColumn { id, values }))
 }
 
 // The columns that the members name, each with a value for each row.

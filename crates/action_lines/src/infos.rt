@@ -1,5 +1,5 @@
 //! What is said of columns, as lines spell it.
-ghost use Rattle.std.specs.Prelude.{◌≡◌, Some, IfOk, option_map};
+ghost use Rattle.std.specs.Prelude.{◌≡◌, IfOk, option_map};
 ghost use Rattle.serde_json.specs.Find.{as_str, as_bool};
 ghost use Rattle.serde_json.specs.View.{view, members_view};
 ghost use Rattle.action_lines.specs.Infos.{maybe, col_from, said_from, info_from, column_from};
@@ -36,26 +36,6 @@ fn maybe_bool(value: Option<&Value>) -> Option<Option<bool>>
     }
 }
 
-// The column of that id.
-fn named(
-    alloc: Global,
-    id: &str,
-    ty: Option<CellText>,
-    is_formula: Option<bool>,
-    formula: Option<CellText>,
-) -> Result<Option<UserCol>, AllocError>
-    ensures { IfOk result (λ o.
-        o ≡ Some (record { id = id.now; ty = ty; is_formula = is_formula; formula = formula })) }
-{
-    let id = CellText::copy_of(alloc, id)?;
-    Ok(Some(UserCol {
-        id,
-        ty,
-        is_formula,
-        formula,
-    }))
-}
-
 // The column of that id which the formula, the flag and the type describe.
 #[tactic(auto, unfolding(crate::specs::Infos::col_from))]
 fn col_of(
@@ -74,8 +54,14 @@ fn col_of(
     let Some(formula) = maybe_text(alloc, formula)? else {
         return Ok(None);
     };
+    let id = CellText::copy_of(alloc, id)?;
     match maybe_text(alloc, ty)? {
-        Some(ty) => named(alloc, id, ty, is_formula, formula),
+        Some(ty) => Ok(Some(UserCol {
+            id,
+            ty,
+            is_formula,
+            formula,
+        })),
         None => Ok(None),
     }
 }

@@ -1,14 +1,13 @@
 //! Actions on records, as lines spell them.
-ghost use Rattle.std.specs.Prelude.{◌≡◌, Some, IfOk};
+ghost use Rattle.std.specs.Prelude.{◌≡◌, IfOk};
 ghost use Rattle.serde_json.specs.View.{view, items_view};
-ghost use Rattle.doc_model.specs.declared.user_action.UserAction.TheVariants.{Add, Update, Remove};
 ghost use Rattle.action_lines.specs.RecordActions.{is_explicit, count_from, new_rows_from, add_from, update_from, remove_from};
 
 use crate::columns::columns_in;
 use crate::items::Items;
 use crate::spelled::read_given;
 use cell_types::CellText;
-use doc_model::{IdList, UserAction, UserColumnList};
+use doc_model::{IdList, UserAction};
 use serde_json::Value;
 use std::alloc::{AllocError, Global};
 
@@ -41,26 +40,6 @@ fn new_rows_of(alloc: Global, single: bool, rows: &Value) -> Result<Option<(u32,
     }
 }
 
-fn adding(
-    alloc: Global,
-    table: &str,
-    single: bool,
-    count: u32,
-    has_row_ids: bool,
-    columns: UserColumnList,
-) -> Result<Option<UserAction>, AllocError>
-    ensures { IfOk result (λ o. o ≡ Some (Add table.now single count has_row_ids columns)) }
-{
-    let table = CellText::copy_of(alloc, table)?;
-    Ok(Some(UserAction::Add {
-        table,
-        single,
-        count,
-        has_row_ids,
-        columns,
-    }))
-}
-
 /// The action that adds records, from what stands behind its table.
 #[tactic(auto, unfolding(crate::specs::RecordActions::add_from))]
 pub(crate) fn add_of(
@@ -77,28 +56,17 @@ pub(crate) fn add_of(
     let Some((count, has_row_ids)) = new_rows_of(alloc, single, rows)? else {
         return Ok(None);
     };
+    let table = CellText::copy_of(alloc, table)?;
     match columns_in(alloc, single, count as usize, members)? {
-        Some(columns) => adding(alloc, table, single, count, has_row_ids, columns),
+        Some(columns) => Ok(Some(UserAction::Add {
+            table,
+            single,
+            count,
+            has_row_ids,
+            columns,
+        })),
         None => Ok(None),
     }
-}
-
-fn updating(
-    alloc: Global,
-    table: &str,
-    single: bool,
-    rows: IdList,
-    columns: UserColumnList,
-) -> Result<Option<UserAction>, AllocError>
-    ensures { IfOk result (λ o. o ≡ Some (Update table.now single rows columns)) }
-{
-    let table = CellText::copy_of(alloc, table)?;
-    Ok(Some(UserAction::Update {
-        table,
-        single,
-        rows,
-        columns,
-    }))
 }
 
 /// The action that changes records, from what stands behind its table.
@@ -118,26 +86,16 @@ pub(crate) fn update_of(
     let Some(ids) = read_given::<i64>(alloc, single, rows)? else {
         return Ok(None);
     };
+    let table = CellText::copy_of(alloc, table)?;
     match columns_in(alloc, single, ids.len(), members)? {
-        Some(columns) => updating(alloc, table, single, IdList::from(ids), columns),
+        Some(columns) => Ok(Some(UserAction::Update {
+            table,
+            single,
+            rows: IdList::from(ids),
+            columns,
+        })),
         None => Ok(None),
     }
-}
-
-fn removing(
-    alloc: Global,
-    table: &str,
-    single: bool,
-    rows: IdList,
-) -> Result<Option<UserAction>, AllocError>
-    ensures { IfOk result (λ o. o ≡ Some (Remove table.now single rows)) }
-{
-    let table = CellText::copy_of(alloc, table)?;
-    Ok(Some(UserAction::Remove {
-        table,
-        single,
-        rows,
-    }))
 }
 
 /// The action that removes records, from what stands behind its table.
@@ -154,8 +112,13 @@ pub(crate) fn remove_of(
     let Some(rows) = items.only() else {
         return Ok(None);
     };
+    let table = CellText::copy_of(alloc, table)?;
     match read_given::<i64>(alloc, single, rows)? {
-        Some(ids) => removing(alloc, table, single, IdList::from(ids)),
+        Some(ids) => Ok(Some(UserAction::Remove {
+            table,
+            single,
+            rows: IdList::from(ids),
+        })),
         None => Ok(None),
     }
 }

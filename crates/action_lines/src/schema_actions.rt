@@ -1,7 +1,6 @@
 //! Actions on tables and columns, as lines spell them.
-ghost use Rattle.std.specs.Prelude.{◌≡◌, Some, IfOk, option_map};
+ghost use Rattle.std.specs.Prelude.{◌≡◌, IfOk, option_map};
 ghost use Rattle.serde_json.specs.View.{items_view};
-ghost use Rattle.doc_model.specs.declared.user_action.UserAction.TheVariants.{AddTable, RenameColumn};
 ghost use Rattle.action_lines.specs.SchemaActions.{add_table_from, remove_table_from, rename_table_from, beside_from, add_column_from, remove_column_from, rename_column_from, modify_column_from};
 
 use crate::infos::info_of;
@@ -19,17 +18,6 @@ fn copies_of(alloc: Global, first: &str, second: &str) -> Result<(CellText, Cell
     Ok((first, CellText::copy_of(alloc, second)?))
 }
 
-fn adding_table(
-    alloc: Global,
-    table: &str,
-    columns: UserColList,
-) -> Result<Option<UserAction>, AllocError>
-    ensures { IfOk result (λ o. o ≡ Some (AddTable table.now columns)) }
-{
-    let table = CellText::copy_of(alloc, table)?;
-    Ok(Some(UserAction::AddTable { table, columns }))
-}
-
 /// The action that adds a table, from what stands behind its name.
 #[tactic(auto, unfolding(crate::specs::SchemaActions::add_table_from))]
 pub(crate) fn add_table_of(
@@ -42,8 +30,12 @@ pub(crate) fn add_table_of(
     let Some(infos) = items.only() else {
         return Ok(None);
     };
+    let table = CellText::copy_of(alloc, table)?;
     match read_given::<UserCol>(alloc, false, infos)? {
-        Some(columns) => adding_table(alloc, table, UserColList::from(columns)),
+        Some(columns) => Ok(Some(UserAction::AddTable {
+            table,
+            columns: UserColList::from(columns),
+        })),
         None => Ok(None),
     }
 }
@@ -156,19 +148,6 @@ pub(crate) fn remove_column_of(
     Ok(Some(UserAction::RemoveColumn { table, column }))
 }
 
-fn renaming_column(
-    alloc: Global,
-    table: &str,
-    column: &str,
-    new: &str,
-) -> Result<Option<UserAction>, AllocError>
-    ensures { IfOk result (λ o. o ≡ Some (RenameColumn table.now column.now new.now)) }
-{
-    let table = CellText::copy_of(alloc, table)?;
-    let (column, new) = copies_of(alloc, column, new)?;
-    Ok(Some(UserAction::RenameColumn { table, column, new }))
-}
-
 /// The action that renames a column, from what stands behind its table.
 #[tactic(auto, unfolding(crate::specs::SchemaActions::rename_column_from))]
 pub(crate) fn rename_column_of(
@@ -182,8 +161,10 @@ pub(crate) fn rename_column_of(
     let Some((column, new)) = items.text_beside() else {
         return Ok(None);
     };
-    match new.as_str() {
-        Some(new) => renaming_column(alloc, table, column, new),
-        None => Ok(None),
-    }
+    let Some(new) = new.as_str() else {
+        return Ok(None);
+    };
+    let table = CellText::copy_of(alloc, table)?;
+    let (column, new) = copies_of(alloc, column, new)?;
+    Ok(Some(UserAction::RenameColumn { table, column, new }))
 }

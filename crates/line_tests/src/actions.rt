@@ -1,6 +1,6 @@
 //! Plan: the action that JSON stands for, in each form (`spelled_actions`), the values in one
-//! (`spelled_values`), and JSON that stands for none (`no_actions`). What is expected is written out
-//! by hand from the protocol, a row a line, as `Debug` shows it; `-` stands for no actions.
+//! (`spelled_values`), and JSON that stands for none (`no_actions`). What is expected is written
+//! out by hand from the protocol, a row a line, as `Debug` shows it; `-` stands for no actions.
 
 use crate::texts::is_text;
 use action_lines::*;
@@ -8,22 +8,50 @@ use doc_model::{UserAction, UserActionList};
 use serde_json::Value;
 use std::alloc::{AllocError, Global};
 
-const ACTIONS: &str =
-    r#"["AddRecord","T",null,{}] => [Add { table: CellText { text: "T" }, single: true, count: 1, has_row_ids: false, columns: Sequence { items: [] } }]
-["AddRecord","T",-5,{"b":2,"a":1,"b":3}] => [Add { table: CellText { text: "T" }, single: true, count: 1, has_row_ids: true, columns: Sequence { items: [UserColumn { id: CellText { text: "a" }, values: Sequence { items: [Int(1)] } }, UserColumn { id: CellText { text: "b" }, values: Sequence { items: [Int(3)] } }] } }]
-["BulkAddRecord","T",[null,7],{"B":[1,2],"A":["x",null]}] => [Add { table: CellText { text: "T" }, single: false, count: 2, has_row_ids: true, columns: Sequence { items: [UserColumn { id: CellText { text: "A" }, values: Sequence { items: [Text(CellText { text: "x" }), Null] } }, UserColumn { id: CellText { text: "B" }, values: Sequence { items: [Int(1), Int(2)] } }] } }]
-["BulkAddRecord","",[],{"A":[]}] => [Add { table: CellText { text: "" }, single: false, count: 0, has_row_ids: false, columns: Sequence { items: [UserColumn { id: CellText { text: "A" }, values: Sequence { items: [] } }] } }]
-["UpdateRecord","T",3,{"A":false}] => [Update { table: CellText { text: "T" }, single: true, rows: Sequence { items: [3] }, columns: Sequence { items: [UserColumn { id: CellText { text: "A" }, values: Sequence { items: [Bool(false)] } }] } }]
-["BulkUpdateRecord","T",[2,-1],{"A":[5,6]}] => [Update { table: CellText { text: "T" }, single: false, rows: Sequence { items: [2, -1] }, columns: Sequence { items: [UserColumn { id: CellText { text: "A" }, values: Sequence { items: [Int(5), Int(6)] } }] } }]
-["RemoveRecord","T",3] => [Remove { table: CellText { text: "T" }, single: true, rows: Sequence { items: [3] } }]
-["BulkRemoveRecord","T",[3,3,0]] => [Remove { table: CellText { text: "T" }, single: false, rows: Sequence { items: [3, 3, 0] } }]
-["AddTable","T",[{"id":"A"},{"id":"","type":"Int","isFormula":true,"formula":"1"}]] => [AddTable { table: CellText { text: "T" }, columns: Sequence { items: [UserCol { id: CellText { text: "A" }, ty: None, is_formula: None, formula: None }, UserCol { id: CellText { text: "" }, ty: Some(CellText { text: "Int" }), is_formula: Some(true), formula: Some(CellText { text: "1" }) }] } }]
+const ACTIONS: &str = concat!(
+    r#"["AddRecord","T",null,{}] => [Add { table: CellText { text: "T" }, single: true, count: "#,
+    r#"1, has_row_ids: false, columns: Sequence { items: [] } }]
+["AddRecord","T",-5,{"b":2,"a":1,"b":3}] => [Add { table: CellText { text: "T" }, single: true, "#,
+    r#"count: 1, has_row_ids: true, columns: Sequence { items: [UserColumn { id: CellText { "#,
+    r#"text: "a" }, values: Sequence { items: [Int(1)] } }, UserColumn { id: CellText { text: "#,
+    r#""b" }, values: Sequence { items: [Int(3)] } }] } }]
+["BulkAddRecord","T",[null,7],{"B":[1,2],"A":["x",null]}] => [Add { table: CellText { text: "T" "#,
+    r#"}, single: false, count: 2, has_row_ids: true, columns: Sequence { items: [UserColumn { "#,
+    r#"id: CellText { text: "A" }, values: Sequence { items: [Text(CellText { text: "x" }), "#,
+    r#"Null] } }, UserColumn { id: CellText { text: "B" }, values: Sequence { items: [Int(1), "#,
+    r#"Int(2)] } }] } }]
+["BulkAddRecord","",[],{"A":[]}] => [Add { table: CellText { text: "" }, single: false, count: "#,
+    r#"0, has_row_ids: false, columns: Sequence { items: [UserColumn { id: CellText { text: "A" "#,
+    r#"}, values: Sequence { items: [] } }] } }]
+["UpdateRecord","T",3,{"A":false}] => [Update { table: CellText { text: "T" }, single: true, "#,
+    r#"rows: Sequence { items: [3] }, columns: Sequence { items: [UserColumn { id: CellText { "#,
+    r#"text: "A" }, values: Sequence { items: [Bool(false)] } }] } }]
+["BulkUpdateRecord","T",[2,-1],{"A":[5,6]}] => [Update { table: CellText { text: "T" }, single: "#,
+    r#"false, rows: Sequence { items: [2, -1] }, columns: Sequence { items: [UserColumn { id: "#,
+    r#"CellText { text: "A" }, values: Sequence { items: [Int(5), Int(6)] } }] } }]
+["RemoveRecord","T",3] => [Remove { table: CellText { text: "T" }, single: true, rows: Sequence "#,
+    r#"{ items: [3] } }]
+["BulkRemoveRecord","T",[3,3,0]] => [Remove { table: CellText { text: "T" }, single: false, "#,
+    r#"rows: Sequence { items: [3, 3, 0] } }]
+["AddTable","T",[{"id":"A"},{"id":"","type":"Int","isFormula":true,"formula":"1"}]] => [AddTable "#,
+    r#"{ table: CellText { text: "T" }, columns: Sequence { items: [UserCol { id: CellText { "#,
+    r#"text: "A" }, ty: None, is_formula: None, formula: None }, UserCol { id: CellText { text: "#,
+    r#""" }, ty: Some(CellText { text: "Int" }), is_formula: Some(true), formula: Some(CellText "#,
+    r#"{ text: "1" }) }] } }]
 ["RemoveTable","T"] => [RemoveTable { table: CellText { text: "T" } }]
-["RenameTable","T","U"] => [RenameTable { table: CellText { text: "T" }, new: CellText { text: "U" } }]
-["AddColumn","T","D",{"type":"Text"}] => [AddColumn { table: CellText { text: "T" }, column: UserCol { id: CellText { text: "D" }, ty: Some(CellText { text: "Text" }), is_formula: None, formula: None } }]
-["RemoveColumn","T","D"] => [RemoveColumn { table: CellText { text: "T" }, column: CellText { text: "D" } }]
-["RenameColumn","T","D","E"] => [RenameColumn { table: CellText { text: "T" }, column: CellText { text: "D" }, new: CellText { text: "E" } }]
-["ModifyColumn","T","D",{"formula":"$A","isFormula":false}] => [ModifyColumn { table: CellText { text: "T" }, column: UserCol { id: CellText { text: "D" }, ty: None, is_formula: Some(false), formula: Some(CellText { text: "$A" }) } }]"#;
+["RenameTable","T","U"] => [RenameTable { table: CellText { text: "T" }, new: CellText { text: "#,
+    r#""U" } }]
+["AddColumn","T","D",{"type":"Text"}] => [AddColumn { table: CellText { text: "T" }, column: "#,
+    r#"UserCol { id: CellText { text: "D" }, ty: Some(CellText { text: "Text" }), is_formula: "#,
+    r#"None, formula: None } }]
+["RemoveColumn","T","D"] => [RemoveColumn { table: CellText { text: "T" }, column: CellText { "#,
+    r#"text: "D" } }]
+["RenameColumn","T","D","E"] => [RenameColumn { table: CellText { text: "T" }, column: CellText "#,
+    r#"{ text: "D" }, new: CellText { text: "E" } }]
+["ModifyColumn","T","D",{"formula":"$A","isFormula":false}] => [ModifyColumn { table: CellText { "#,
+    r#"text: "T" }, column: UserCol { id: CellText { text: "D" }, ty: None, is_formula: "#,
+    r#"Some(false), formula: Some(CellText { text: "$A" }) } }]"#,
+);
 
 const NO_ACTIONS: &str = r#"["addRecord","T",null,{}]
 ["AddRecord"]
@@ -66,7 +94,8 @@ const NO_ACTIONS: &str = r#"["addRecord","T",null,{}]
 {}
 [["RemoveTable"]]"#;
 
-const VALUES: &str = r#"null => [Null]
+const VALUES: &str = concat!(
+    r#"null => [Null]
 true => [Bool(true)]
 -9223372036854775808 => [Int(-9223372036854775808)]
 9223372036854775808 => -
@@ -74,7 +103,9 @@ true => [Bool(true)]
 1.0 => -
 1e3 => -
 "é" => [Text(CellText { text: "é" })]
-["L",null,1,"a",true,["d",5],["R","U",3]] => [List(Sequence { items: [Null, Int(1), Text(CellText { text: "a" }), Bool(true), Date(5), Rec(RowRef { table: Name { text: CellText { text: "U" } }, row: 3 })] })]
+["L",null,1,"a",true,["d",5],["R","U",3]] => [List(Sequence { items: [Null, Int(1), "#,
+    r#"Text(CellText { text: "a" }), Bool(true), Date(5), Rec(RowRef { table: Name { text: "#,
+    r#"CellText { text: "U" } }, row: 3 })] })]
 ["L",["L"]] => -
 ["L",["r","U",[]]] => -
 ["L",["C"]] => -
@@ -83,13 +114,17 @@ true => [Bool(true)]
 ["d",1.0] => -
 ["d"] => -
 ["d",1,2] => -
-["R","éééééééééééééééééééééééééééééééééééééééééééééééééééééééééééééééé",4294967295] => [Rec(RowRef { table: Name { text: CellText { text: "éééééééééééééééééééééééééééééééééééééééééééééééééééééééééééééééé" } }, row: 4294967295 })]
+["R","éééééééééééééééééééééééééééééééééééééééééééééééééééééééééééééééé",4294967295] => "#,
+    r#"[Rec(RowRef { table: Name { text: CellText { text: "#,
+    r#""éééééééééééééééééééééééééééééééééééééééééééééééééééééééééééééééé" } }, row: 4294967295 "#,
+    r#"})]
 ["R","ééééééééééééééééééééééééééééééééééééééééééééééééééééééééééééééééx",1] => -
 ["R","",1] => -
 ["R","U",4294967296] => -
 ["R","U",-1] => -
 ["R",5,1] => -
-["r","U",[2,1,0]] => [RecSet(RowSet { table: Name { text: CellText { text: "U" } }, rows: Sequence { items: [2, 1, 0] } })]
+["r","U",[2,1,0]] => [RecSet(RowSet { table: Name { text: CellText { text: "U" } }, rows: "#,
+    r#"Sequence { items: [2, 1, 0] } })]
 ["r","U",2] => -
 ["r","U",[-1]] => -
 ["E","KeyError"] => [Err(Key)]
@@ -101,7 +136,8 @@ true => [Bool(true)]
 ["x",1] => -
 [] => -
 {} => -
-{"A":1.5} => -"#;
+{"A":1.5} => -"#,
+);
 
 fn are_shown(alloc: Global, actions: &[UserAction], want: &str) -> bool {
     is_text(&format!(in alloc; "{actions:?}"), want)
@@ -159,7 +195,10 @@ fn update(alloc: Global, value: &str) -> Result<String, AllocError> {
 // What `Debug` shows of an action with these values.
 fn shown_update(alloc: Global, values: &str) -> Result<String, AllocError> {
     format!(in alloc;
-        "[Update {{ table: CellText {{ text: \"T\" }}, single: true, rows: Sequence {{ items: [1] }}, columns: Sequence {{ items: [UserColumn {{ id: CellText {{ text: \"A\" }}, values: Sequence {{ items: {values} }} }}] }} }}]"
+        "[Update {{ table: CellText {{ text: \"T\" }}, single: true, \
+            rows: Sequence {{ items: [1] }}, columns: Sequence {{ items: \
+            [UserColumn {{ id: CellText {{ text: \"A\" }}, \
+            values: Sequence {{ items: {values} }} }}] }} }}]"
     )
 }
 

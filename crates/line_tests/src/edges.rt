@@ -1,7 +1,7 @@
-//! Plan: lines in whatever pieces (`gives_lines`, `keeps_a_front_of_a_long_line`), the listed faults
-//! of sources and sinks (`fails_at_listed_calls`, `sink_keeps_its_room`), the buffer in front of a
-//! sink (`outbox_gathers`, `outbox_hands_on_faults`), the edge over readers and writers of std
-//! (`std_streams`).
+//! Plan: lines in whatever pieces (`gives_lines`, `keeps_a_front_of_a_long_line`), the listed
+//! faults of sources and sinks (`fails_at_listed_calls`, `sink_keeps_its_room`), the buffer in
+//! front of a sink (`outbox_gathers`, `outbox_hands_on_faults`), the edge over readers and writers
+//! of std (`std_streams`).
 
 use crate::texts::is_text;
 use io_edges::*;

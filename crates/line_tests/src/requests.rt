@@ -1,7 +1,7 @@
 //! Plan: what lines spell (`spelled_requests`, `lines_that_spell_none`, `spelled_frames`,
 //! `spelled_users`), and what is printed (`printed_values`, `printed_columns`, `printed_replies`,
-//! `printed_refusals`, `printed_frame`). The expected texts are those of the stored cases and of the
-//! protocol, a row a line; what is read is shown as `Debug` shows it.
+//! `printed_refusals`, `printed_frame`). The expected texts are those of the stored cases and of
+//! the protocol, a row a line; what is read is shown as `Debug` shows it.
 
 use crate::texts::{is_line, is_text};
 use cell_types::*;
@@ -9,13 +9,19 @@ use doc_model::*;
 use grist_json::*;
 use std::alloc::{AllocError, Global};
 
-const REQUESTS: &str =
+const REQUESTS: &str = concat!(
     r#"{"method":"openDoc","token":"ta"} => Open { token: CellText { text: "ta" } }
   {"token":"", "method":"openDoc"}  => Open { token: CellText { text: "" } }
 {"method":"sync"} => Sync
 {"method":"closeDoc"} => Close
 {"actions":[],"method":"applyUserActions"} => Apply { actions: Sequence { items: [] } }
-{"method":"applyUserActions","actions":[["AddRecord","T",null,{"A":1.5,"B":7,"A":2}],["RemoveTable","U"]]} => Apply { actions: Sequence { items: [Add { table: CellText { text: "T" }, single: true, count: 1, has_row_ids: false, columns: Sequence { items: [UserColumn { id: CellText { text: "A" }, values: Sequence { items: [Int(2)] } }, UserColumn { id: CellText { text: "B" }, values: Sequence { items: [Int(7)] } }] } }, RemoveTable { table: CellText { text: "U" } }] } }"#;
+{"method":"applyUserActions","actions":[["AddRecord","T",null,{"A":1.5,"B":7,"A":2}],"#,
+    r#"["RemoveTable","U"]]} => Apply { actions: Sequence { items: [Add { table: CellText { "#,
+    r#"text: "T" }, single: true, count: 1, has_row_ids: false, columns: Sequence { items: "#,
+    r#"[UserColumn { id: CellText { text: "A" }, values: Sequence { items: [Int(2)] } }, "#,
+    r#"UserColumn { id: CellText { text: "B" }, values: Sequence { items: [Int(7)] } }] } }, "#,
+    r#"RemoveTable { table: CellText { text: "U" } }] } }"#,
+);
 
 // The first is the empty line.
 const NO_REQUESTS: &str = r#"
@@ -38,25 +44,38 @@ null
 {"actions":[["RemoveTable","T"],["RemoveTable"]],"method":"applyUserActions"}
 {"actions":[["AddRecord","T",null,{"A":-0}]],"method":"applyUserActions"}"#;
 
-const FRAMES: &str = r#"nonsense => -
+const FRAMES: &str = concat!(
+    r#"nonsense => -
 {"line":{"method":"sync"},"session":"s1","x":1} => -
 {"line":{"method":"sync"},"session":"_"} => -
 {"line":{"method":"sync"},"session":"1s"} => -
 {"line":{"method":"sync"},"session":"rec"} => -
-{"line":{"method":"sync"},"session":"sssssssssssssssssssssssssssssssssssssssssssssssssssssssssssssssss"} => -
+{"line":{"method":"sync"},"session":"ssssssssssssssssssssssssssssssssssssssssssssssssssssssssssss"#,
+    r#"sssss"} => -
 {"line":{"method":"sync"},"session":"s1"} x => -
-{"line":{"method":"sync"},"session":"ssssssssssssssssssssssssssssssssssssssssssssssssssssssssssssssss"} => ssssssssssssssssssssssssssssssssssssssssssssssssssssssssssssssss Sync
+{"line":{"method":"sync"},"session":"ssssssssssssssssssssssssssssssssssssssssssssssssssssssssssss"#,
+    r#"ssss"} => ssssssssssssssssssssssssssssssssssssssssssssssssssssssssssssssss Sync
 {"line":{"method":"sync"},"session":"séance"} => séance Sync
 {"line":{"method":"sync"},"session":"٣x"} => -
 {"line":{"method":"sync"},"session":"ж"} => ж Sync
-{"line":[[[[[[[[[[[[[[[[[[[[[[[[[[[[[[[[[[[[[[[[[[[[[[[[[[[[[[[[[[[[[[[[[[[[[[[[[[[[[[[[[[[[[[[[[[[[[[[[[[[[[[[[[[[[[[[[[[[[[[[[[[[[[[]]]]]]]]]]]]]]]]]]]]]]]]]]]]]]]]]]]]]]]]]]]]]]]]]]]]]]]]]]]]]]]]]]]]]]]]]]]]]]]]]]]]]]]]]]]]]]]]]]]]]]]]]]]]]]]]]]]]]]]]]]]]]],"session":"s1"} => s1 Bad
-{"line":[[[[[[[[[[[[[[[[[[[[[[[[[[[[[[[[[[[[[[[[[[[[[[[[[[[[[[[[[[[[[[[[[[[[[[[[[[[[[[[[[[[[[[[[[[[[[[[[[[[[[[[[[[[[[[[[[[[[[[[[[[[[[[[]]]]]]]]]]]]]]]]]]]]]]]]]]]]]]]]]]]]]]]]]]]]]]]]]]]]]]]]]]]]]]]]]]]]]]]]]]]]]]]]]]]]]]]]]]]]]]]]]]]]]]]]]]]]]]]]]]]]]]]]]]]]]]],"session":"s1"} => -
+{"line":[[[[[[[[[[[[[[[[[[[[[[[[[[[[[[[[[[[[[[[[[[[[[[[[[[[[[[[[[[[[[[[[[[[[[[[[[[[[[[[[[[[[[[[[["#,
+    r#"[[[[[[[[[[[[[[[[[[[[[[[[[[[[[[[[[[[[[]]]]]]]]]]]]]]]]]]]]]]]]]]]]]]]]]]]]]]]]]]]]]]]]]]]]]"#,
+    r#"]]]]]]]]]]]]]]]]]]]]]]]]]]]]]]]]]]]]]]]]]]]]]]]]]]]]]]]]]]]]]]]]]]]]]]]]],"session":"s1"} "#,
+    r#"=> s1 Bad
+{"line":[[[[[[[[[[[[[[[[[[[[[[[[[[[[[[[[[[[[[[[[[[[[[[[[[[[[[[[[[[[[[[[[[[[[[[[[[[[[[[[[[[[[[[[[["#,
+    r#"[[[[[[[[[[[[[[[[[[[[[[[[[[[[[[[[[[[[[[]]]]]]]]]]]]]]]]]]]]]]]]]]]]]]]]]]]]]]]]]]]]]]]]]]]]"#,
+    r#"]]]]]]]]]]]]]]]]]]]]]]]]]]]]]]]]]]]]]]]]]]]]]]]]]]]]]]]]]]]]]]]]]]]]]]]]]]],"#,
+    r#""session":"s1"} => -
 {"line":5,"session":"s9"} => s9 Bad
-{"line":{"method":"sync","method":"openDoc","token":"zz","token":"ta"},"session":"s1"} => s1 Open { token: CellText { text: "ta" } }"#;
+{"line":{"method":"sync","method":"openDoc","token":"zz","token":"ta"},"session":"s1"} => s1 "#,
+    r#"Open { token: CellText { text: "ta" } }"#,
+);
 
-const USERS: &str =
-    r#"{"user":{"access":"owners","email":"ann@x.org","id":1,"name":"Ann","token":"ta"}} => Ann ann@x.org 1 ta
-{"user":5,"user":{"access":"owners","email":"no","email":"ann@x.org","id":1,"name":"Ann","token":"zz","token":"ta"}} => Ann ann@x.org 1 ta
+const USERS: &str = concat!(
+    r#"{"user":{"access":"owners","email":"ann@x.org","id":1,"name":"Ann","token":"ta"}} => Ann "#,
+    r#"ann@x.org 1 ta
+{"user":5,"user":{"access":"owners","email":"no","email":"ann@x.org","id":1,"name":"Ann","#,
+    r#""token":"zz","token":"ta"}} => Ann ann@x.org 1 ta
 {"user":null} => bad
 {"user":{"access":"owners","email":"b@x.org","id":-1,"name":"B","token":"tb"}} => bad
 {"user":{"access":"owners","email":"b@x.org","id":2,"name":"B","token":""}} => bad
@@ -64,7 +83,8 @@ const USERS: &str =
 {"user":{"access":null,"email":"nel@x.org","id":4,"name":"Nel","token":"tn"}} => bad
 {"user":{"access":"editors","email":"e","id":1,"name":"E","token":"te"}} => bad
 nonsense => -
-{"line":{"method":"sync"},"session":"s1"} => -"#;
+{"line":{"method":"sync"},"session":"s1"} => -"#,
+);
 
 fn is_shown(alloc: Global, request: &Request, want: &str) -> bool {
     is_text(&format!(in alloc; "{request:?}"), want)
@@ -309,10 +329,15 @@ fn is_sent(alloc: Global, sent: Sent, want: &str) -> bool {
 }
 
 const SENT_ROWS: &str =
-    "{\"actions\":[[\"BulkAddRecord\",\"T\",[1,2],{\"A\":[[\"r\",\"T\",[1,4294967295]],[\"L\",-1,[\"d\",5]],[\"E\",\"TypeError\"],[\"C\"]],\"B\":[null,-9223372036854775808,false,\"\\u0001\u{7f}\\n\\\"\\\\/é\",[\"d\",86400]]}]],\"seq\":7}";
+    "{\"actions\":[[\"BulkAddRecord\",\"T\",[1,2],{\"A\":[[\"r\",\"T\",[1,4294967295]],\
+    [\"L\",-1,[\"d\",5]],[\"E\",\"TypeError\"],[\"C\"]],\
+    \"B\":[null,-9223372036854775808,false,\"\\u0001\u{7f}\\n\\\"\\\\/é\",\
+    [\"d\",86400]]}]],\"seq\":7}";
 
-const SENT_COLUMN: &str =
-    r#"{"actions":[["AddColumn","T","F",{"formula":null,"isFormula":true,"type":"Ref:U"}]],"seq":7}"#;
+const SENT_COLUMN: &str = concat!(
+    r#"{"actions":[["AddColumn","T","F",{"formula":null,"isFormula":true,"type":"Ref:U"}]],"#,
+    r#""seq":7}"#,
+);
 
 const SENT_TABLE: &str = r#"{"actions":[["AddTable","T",[]]],"seq":7}"#;
 

@@ -11,7 +11,7 @@ ghost use Rattle.action_limits.specs.Capped.{IsCapped, all_moved, all_moved_at, 
 
 use crate::limits::{Counted, no_counts};
 use crate::weighing::{
-    column_count, column_weight, rows_weight, table_cells, table_weight, values_weight,
+    column_count, column_weight, rows_weight, table_cells, table_weight, total, values_weight,
 };
 use cell_types::Name;
 use doc_model::{CellColumn, ColDef, DocAction, DocTables, Step};
@@ -24,21 +24,16 @@ fn cells_given<D: DocTables>(tables: &D, table: &Name, rows: &[u32], columns: &[
         (map (λ (k : CellColumn). column_weight
         (grid_at (D.document tables.now) table.now) rows.now k.id) columns.now)) }
 {
-    let mut weight = 0u64;
-    for column in columns {
-        weight = weight.saturating_add(column_weight(tables, table, &column.id, rows));
-    }
-    weight
+    total(
+        columns,
+        |column| column_weight(tables, table, &column.id, rows),
+    )
 }
 
 fn given_weight(columns: &[CellColumn]) -> u64
     ensures { result ≡ capped (given_weight columns.now) }
 {
-    let mut weight = 0u64;
-    for column in columns {
-        weight = weight.saturating_add(values_weight(column.values.as_slice()));
-    }
-    weight
+    total(columns, |column| values_weight(column.values.as_slice()))
 }
 
 fn formulas_given(columns: &[ColDef]) -> u64

@@ -1,6 +1,7 @@
 //! What cells and formulas weigh, as far as 64 bits can tell.
 
-ghost use Rattle.std.specs.Prelude.{◌≡◌, ◌<◌, Some, length, map, slice_get};
+ghost use Rattle.std.specs.Fn.{FnReturnsAt};
+ghost use Rattle.std.specs.Prelude.{ℕ, ◌≡◌, ◌<◌, Some, length, map, slice_get};
 ghost use Rattle.doc_model.specs.Column.{column_id};
 ghost use Rattle.doc_model.specs.CountLaws.{column_weight, rows_weight};
 ghost use Rattle.doc_model.specs.Counts.{formula_bytes, grid_cells, grid_weight, item_weight, row_weight, total, value_weight};
@@ -13,6 +14,20 @@ use cell_types::{CellItem, CellValue, Name};
 use doc_model::{ColDef, DocTables};
 use doc_readers::rows_in;
 
+/// The sum of what is counted of each item, where a function tells that.
+pub(crate) fn total<T, F: Fn(&T) -> u64>(items: &[T], count: F) -> u64
+    requires { F.IsAlwaysCallable count }
+    ensures { (f : T → ℕ)
+        → ((x : T) (n : ℕ) → FnReturnsAt F.Fn count x n → n ≡ capped (f x))
+        → result ≡ capped (total (map f items.now)) }
+{
+    let mut sum = 0u64;
+    for item in items {
+        sum = sum.saturating_add(count(item));
+    }
+    sum
+}
+
 fn item_weight(item: &CellItem) -> u64
     ensures { result ≡ capped (item_weight item.now) }
 {
@@ -22,22 +37,12 @@ fn item_weight(item: &CellItem) -> u64
     }
 }
 
-fn items_weight(items: &[CellItem]) -> u64
-    ensures { result ≡ capped (total (map item_weight items.now)) }
-{
-    let mut weight = 0u64;
-    for item in items {
-        weight = weight.saturating_add(item_weight(item));
-    }
-    weight
-}
-
 fn value_weight(value: &CellValue) -> u64
     ensures { result ≡ capped (value_weight value.now) }
 {
     match value {
         CellValue::Text(text) => text.len() as u64,
-        CellValue::List(items) => items_weight(items.as_slice()),
+        CellValue::List(items) => total(items.as_slice(), |item| item_weight(item)),
         _ => 0,
     }
 }
@@ -46,11 +51,7 @@ fn value_weight(value: &CellValue) -> u64
 pub(crate) fn values_weight(values: &[CellValue]) -> u64
     ensures { result ≡ capped (row_weight values.now) }
 {
-    let mut weight = 0u64;
-    for value in values {
-        weight = weight.saturating_add(value_weight(value));
-    }
-    weight
+    total(values, |value| value_weight(value))
 }
 
 fn cell_weight<D: DocTables>(tables: &D, table: &Name, column: &Name, row: u32) -> u64
@@ -73,11 +74,7 @@ pub(crate) fn column_weight<D: DocTables>(
     ensures { result
         ≡ capped (column_weight (grid_at (D.document tables.now) table.now) rows.now column.now) }
 {
-    let mut weight = 0u64;
-    for row in rows {
-        weight = weight.saturating_add(cell_weight(tables, table, column, *row));
-    }
-    weight
+    total(rows, |row| cell_weight(tables, table, column, *row))
 }
 
 fn row_of(column: &ColDef) -> u32

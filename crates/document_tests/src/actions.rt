@@ -9,9 +9,9 @@ use doc_model::{CellColumn, ColDef, ColDefList, ColInfo, ColumnList, DocAction};
 use std::alloc::{AllocError, Global};
 
 /// An action: the table first, then rows, the id of a column, and what it gives. Records have whole
-/// numbers in one column; a new table has columns `X` and `Y` of the last two rows, `Y` given first;
-/// a modified column has the formula, or none where that is empty. The wide table has one column more
-/// than a table may have.
+/// numbers in one column; a new table has columns `X` and `Y` of the last two rows, `Y` given
+/// first; a modified column has the formula, or none where that is empty. The wide table has one
+/// column more than a table may have.
 pub(crate) enum Change {
     Add(&'static str, [u32; 2], &'static str, [i64; 2]),
     Update(&'static str, [u32; 2], &'static str, [i64; 2]),

@@ -1,10 +1,11 @@
-//! Plan: what user actions come to in documents that accepted bundles do not lead to. A table is wider
-//! than it may be: keeping and growing actions are past the limit (`brings_nothing_above_the_limits`),
-//! and so are those that take something else away, not those that take what is too much
-//! (`takes_away_what_is_above_the_limits`). The last row id is taken, of a record or of a row that
-//! describes a column (`no_record_comes_behind_the_last_row`, `no_column_comes_behind_the_last_row`).
-//! An end is the bound of the limit that would be passed, 0 for steps; what is refused has none. Want
-//! of memory counts as false.
+//! Plan: what user actions come to in documents that accepted bundles do not lead to. A table is
+//! wider than it may be: keeping and growing actions are past the limit
+//! (`brings_nothing_above_the_limits`), and so are those that take something else away, not those
+//! that take what is too much (`takes_away_what_is_above_the_limits`). The last row id is taken, of
+//! a record or of a row that describes a column (`no_record_comes_behind_the_last_row`,
+//! `no_column_comes_behind_the_last_row`). The limit after one document action, from the tally
+//! before it (`one_action_passes_its_limit`). An end is the bound of the limit that would be passed,
+//! 0 for steps; what is refused has none. Out of memory counts as false.
 
 ghost use Rattle.std.specs.Prelude.{◌≡◌, true};
 ghost use Rattle.doc_model.specs.DocumentLaws.{IsWhole};
@@ -12,22 +13,25 @@ ghost use Rattle.doc_model.specs.WellFormed.{has_whole_columns};
 ghost use Rattle.user_actions.specs.Allowed.{is_allowed};
 
 use crate::actions::Change;
-use crate::tests::{Deed, does};
+use crate::tests::{Deed, does, single};
 use Asked::{
     AddColumn, AddFullTable, AddRecord, AddTable, RemoveColumn, RemoveRecord, RemoveTable,
     RenameTable,
 };
 use action_limits::{Expansion, Tally, expand};
 use cell_types::CellText;
+use doc_actions::is_valid;
 use doc_model::laws::new_document_law;
-use doc_model::{IdList, UserAction, UserCol, UserColList, UserColumnList};
+use doc_model::{
+    DocAction, DocActionList, IdList, LimitKind, UserAction, UserCol, UserColList, UserColumnList,
+};
 use row_tables::RowTables;
 use std::alloc::{AllocError, Global};
 use user_actions::refuse;
 use view_parts::{allowed_law, whole_view};
 
-// User actions: of records and columns of `Table1`, where no table is named, a new column `D`, and a
-// new table `New` of no columns or of that one.
+// User actions: of records and columns of `Table1`, where no table is named, a new column `D`, and
+// a new table `New` of no columns or of that one.
 enum Asked {
     AddRecord,
     RemoveRecord(i64),
@@ -259,4 +263,61 @@ static METADATA_ROWS: [Row; 3] = [
 #[test]
 fn no_column_comes_behind_the_last_row(rt: HostRuntime) {
     assert!(rt; come_to(rt.alloc(), &LAST_COLUMN, &METADATA_ROWS));
+}
+
+fn is_passed(after: &Result<Tally, LimitKind>, bound: u64) -> bool {
+    match after {
+        Ok(_) => bound == 0,
+        Err(kind) => kind.bound() == bound,
+    }
+}
+
+fn passes(alloc: Global, document: &RowTables, action: &DocAction, bound: u64) -> bool
+    requires { IsWhole document.now }
+{
+    let Some(tally) = Tally::of(document) else {
+        return false;
+    };
+    is_valid(alloc, document, action) && is_passed(&tally.after(document, action), bound)
+}
+
+// Whether each of the actions passes the limit of this bound, or none where it is 0.
+fn all_pass(alloc: Global, document: &RowTables, actions: &[DocAction], bound: u64) -> bool
+    requires { IsWhole document.now }
+{
+    for action in actions {
+        if !passes(alloc, document, action, bound) {
+            return false;
+        }
+    }
+    true
+}
+
+fn made_passes(alloc: Global, actions: &Result<DocActionList, AllocError>, bound: u64) -> bool {
+    new_document_law();
+    let Ok(document) = RowTables::new_document(alloc) else {
+        return false;
+    };
+    match actions {
+        Ok(actions) => all_pass(alloc, &document, actions.as_slice(), bound),
+        Err(_) => false,
+    }
+}
+
+// Document actions, and the bound of the limit that each passes in a new document.
+static FIRST: [(Change, u64); 3] = [
+    (Change::AddWideTable, 1024),
+    (Change::Add("Table1", [1, 4_294_967_295], "A", [1, 2]), 0),
+    (Change::RemoveTable("Table1"), 0),
+];
+
+#[test]
+fn one_action_passes_its_limit(rt: HostRuntime) {
+    for row in &FIRST {
+        assert!(rt;
+            made_passes(rt.alloc(), &single(rt.alloc(), &row.0), row.1),
+            "not {}",
+            row.1
+        );
+    }
 }

@@ -144,7 +144,7 @@ fn is_undone(
         && reads_as(alloc, document, before)
 }
 
-/// What has to come of an action: it is done, it is told to be not valid, or it is undone where the
+/// What an action has to come to: it is done, it is told to be not valid, or it is undone where the
 /// document reads so before and after it.
 #[derive(Clone, Copy)]
 pub(crate) enum Deed {
@@ -164,9 +164,9 @@ fn meets(alloc: Global, document: &mut RowTables, action: &DocAction, deed: Deed
     }
 }
 
-// The action that the words stand for, as a list: one way out that drops a list is proved sooner than
-// one that drops an action.
-fn single(alloc: Global, change: &Change) -> Result<DocActionList, AllocError> {
+/// The action that the words stand for, as a list: one way out that drops a list is proved sooner
+/// than one that drops an action.
+pub(crate) fn single(alloc: Global, change: &Change) -> Result<DocActionList, AllocError> {
     let mut actions = DocActionList::new(alloc);
     actions.push(action_of(alloc, change)?)?;
     Ok(actions)

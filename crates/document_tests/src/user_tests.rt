@@ -1,5 +1,5 @@
-//! Plan: that `steps` finds memory, and makes the id and the metadata row that were worked out by hand
-//! (`a_new_table_is_one_step`).
+//! Plan: that `steps` finds memory, and makes the id and the metadata row that were worked out by
+//! hand (`a_new_table_is_one_step`).
 
 ghost use Rattle.doc_model.specs.DocumentLaws.{IsWhole};
 

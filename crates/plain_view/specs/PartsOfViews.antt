@@ -49,7 +49,7 @@ AreSame r t u = SameRow shown_id r (grid t) (grid u)
 
 -- two views that agree in all other tables, and in all other rows of these
 pub record AgreeOutside
-      (affected : List ℕ → Bool) (test : List ℕ → ℕ → Bool) (v w : List ViewTable) : Type 0 where
+    (affected : List ℕ → Bool) (test : List ℕ → ℕ → Bool) (v w : List ViewTable) : Type 0 where
   pub others : (c : List ℕ) → affected c ≡ false
       → find_id shown_table_id c w ≡ find_id shown_table_id c v
   pub rows : (c : List ℕ) (r : ℕ) → test c r ≡ false

@@ -1,4 +1,4 @@
-//! Things with ids: whether one is there, and where.
+//! Items with ids: whether one is there, and where.
 
 ghost use Rattle.std.specs.Prelude.{◌≡◌, bytes_eq};
 ghost use Rattle.std.specs.List.{position};
@@ -8,7 +8,7 @@ ghost use Rattle.doc_model.specs.ByIds.{are_distinct, find_id, has_id};
 use cell_types::Name;
 use doc_model::{CellColumn, ViewCol, ViewTable};
 
-/// A thing that has an id.
+/// An item that has an id.
 pub trait Named: Drop {
     ghost use Rattle.std.specs.Prelude.{ℕ, List};
 
@@ -52,7 +52,7 @@ impl Named for CellColumn {
     }
 }
 
-/// Whether the thing has that id.
+/// Whether the item has that id.
 ///
 /// Memory: none.
 pub fn has_id<T: Named>(thing: &T, id: &Name) -> bool
@@ -61,9 +61,9 @@ pub fn has_id<T: Named>(thing: &T, id: &Name) -> bool
     thing.id().as_str() == id.as_str()
 }
 
-/// The thing of an id.
+/// The item of an id.
 ///
-/// Memory: none. Cost: linear in the things.
+/// Memory: none. Cost: linear in the items.
 pub fn find_id<'a, T: Named>(things: &'a [T], id: &Name) -> Option<&'a T>
     ensures { option_copied result ≡ find_id T.id_of id.now things.now }
 {
@@ -75,18 +75,18 @@ pub fn find_id<'a, T: Named>(things: &'a [T], id: &Name) -> Option<&'a T>
     None
 }
 
-/// The index of the thing of an id.
+/// The index of the item of an id.
 ///
-/// Memory: none. Cost: linear in the things.
+/// Memory: none. Cost: linear in the items.
 pub fn index_of<T: Named>(things: &[T], id: &Name) -> Option<usize>
     ensures { result ≡ position (λ t. bytes_eq (T.id_of t) id.now) things.now }
 {
     things.iter().position(|thing| has_id(thing, id))
 }
 
-/// Whether there is a thing of that id.
+/// Whether there is an item of that id.
 ///
-/// Memory: none. Cost: linear in the things.
+/// Memory: none. Cost: linear in the items.
 pub fn is_there<T: Named>(things: &[T], id: &Name) -> bool
     ensures { result ≡ has_id T.id_of things.now id.now }
 {
@@ -98,9 +98,9 @@ pub fn is_there<T: Named>(things: &[T], id: &Name) -> bool
     false
 }
 
-/// Whether no two things have one id.
+/// Whether no two items have one id.
 ///
-/// Memory: none. Cost: the square of the things.
+/// Memory: none. Cost: the square of the items.
 pub fn are_distinct<T: Named>(things: &[T]) -> bool
     ensures { result ≡ are_distinct T.id_of things.now }
 {

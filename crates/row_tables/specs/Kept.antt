@@ -6,7 +6,7 @@ use Rattle.doc_model.specs.declared.column.ColDef.{ColDef}
 use Rattle.doc_model.specs.Column.{column_id}
 use Rattle.doc_model.specs.Grid.{Grid, beside}
 
--- the thing that stands beside the first key that passes, where there is one
+-- the item that stands beside the first key that passes, where there is one
 abbrev pub found_beside : {K V : Type 0} → (K → Bool) → List K → List V → Option V
 found_beside test [] vs = None
 found_beside test (k ∷ ks) [] = None

@@ -26,13 +26,13 @@ new_indexes [] rows = []
 new_indexes (q ∷ new) rows =
     row_index q rows ∷ new_indexes new (insert rows (row_index q rows) q)
 
--- whether each index is within a list to which one thing comes at each
+-- whether each index is within a list to which one item comes at each
 abbrev pub AreWithin : List ℕ → ℕ → Type 0
 AreWithin [] n = ⊤
 AreWithin (p ∷ indexes) n = (p ≤ n) × AreWithin indexes (n + 1)
 
 module _ {X : Type 0} where
-  -- the things put in at their places, one after the other
+  -- the items put in at their places, one after the other
   abbrev pub put_at : List ℕ → List X → List X → List X
   put_at [] new xs = xs
   put_at (p ∷ indexes) [] xs = xs

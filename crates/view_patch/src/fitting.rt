@@ -10,7 +10,7 @@ ghost use Rattle.doc_model.specs.Rows.{IsAscending, all_in};
 ghost use Rattle.doc_model.specs.ViewEdits.{IsShown, add, shown_id};
 ghost use Rattle.view_patch.specs.Acts.{act_fits, fits_there};
 
-use crate::rows::{are_all_in, are_none_in, are_once};
+use crate::rows::{are_all_in, are_none_in, has_no_duplicates};
 use cell_types::Name;
 use doc_model::{CellColumn, ViewAction, ViewTable};
 use plain_view::named::{are_distinct, find_id, is_there};
@@ -28,7 +28,7 @@ fn takes_rows(table: &ViewTable, rows: &[u32], columns: &[CellColumn]) -> bool
     requires { IsAscending table.now.rows }
     ensures { result ≡ edit_fits (add rows.now columns.now) (grid table.now) }
 {
-    are_once(rows)
+    has_no_duplicates(rows)
         && are_none_in(rows, table.rows.as_slice())
         && are_distinct(columns)
         && has_each(table, columns)

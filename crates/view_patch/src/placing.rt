@@ -1,4 +1,4 @@
-//! Things put in their places by id, and removed.
+//! Items put in their places by id, and removed.
 
 ghost use Rattle.std.specs.Prelude.{◌≡◌, IfOk, MatchResult, OnOk};
 ghost use Rattle.doc_model.specs.ByIds.{AreDistinct, by_id, put_by_id, without_id};
@@ -12,7 +12,7 @@ use plain_view::named::{Named, index_of};
 use std::alloc::{AllocError, Global};
 use std::cmp::Ordering;
 
-// The index of the thing of an id, or else where one of that id goes.
+// The index of the item of an id, or else where one of that id goes.
 fn spot<T: Named>(things: &[T], id: &Name) -> Result<usize, usize>
     ensures { MatchResult result (GoesOver T.id_of id.now things.now)
         (GoesBefore T.id_of id.now things.now) }
@@ -27,9 +27,9 @@ fn spot<T: Named>(things: &[T], id: &Name) -> Result<usize, usize>
     Err(things.len())
 }
 
-/// Puts a thing in its place by id, instead of one of its id.
+/// Puts an item in its place by id, instead of one of its id.
 ///
-/// Errors: out of memory; what the things are then is not said. Cost: linear in the things.
+/// Errors: out of memory; what the items are then is not said. Cost: linear in the items.
 pub(crate) fn put_by_id<T: Named>(things: &mut Vec<T>, thing: T) -> Result<(), AllocError>
     ensures { OnOk result (things.new.items ≡ put_by_id T.id_of thing things.old.items) }
 {
@@ -40,9 +40,9 @@ pub(crate) fn put_by_id<T: Named>(things: &mut Vec<T>, thing: T) -> Result<(), A
     Ok(())
 }
 
-/// Removes the thing of an id, where it is there.
+/// Removes the item of an id, where it is there.
 ///
-/// Memory: none. Cost: linear in the things.
+/// Memory: none. Cost: linear in the items.
 pub(crate) fn remove_by_id<T: Named>(things: &mut Vec<T>, id: &Name)
     requires { AreDistinct T.id_of things.old.items }
     ensures { things.new.items ≡ without_id T.id_of id.now things.old.items }

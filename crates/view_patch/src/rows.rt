@@ -80,7 +80,7 @@ pub(crate) fn are_none_in(new: &[u32], rows: &[u32]) -> bool
 /// Whether no row stands twice.
 ///
 /// Memory: none. Cost: linear where the rows ascend, and else their square.
-pub(crate) fn are_once(rows: &[u32]) -> bool
+pub(crate) fn has_no_duplicates(rows: &[u32]) -> bool
     ensures { result ≡ has_no_duplicates rows.now }
 {
     is_ascending(rows) || have_no_duplicates(rows)

@@ -2,9 +2,10 @@
 use Rattle.std.proofs.Common.{◌≡◌, ℕ, List, Some, refl}
 use Rattle.cell_types.specs.declared.value.ErrKind.{ErrKind}
 use Rattle.cell_types.specs.declared.value.ErrKind.TheVariants as kind
+use Rattle.cell_types.specs.ValueText.{err_text}
 use Rattle.action_lines.specs.declared.marks.Mark.{Mark}
 use Rattle.action_lines.specs.declared.marks.Mark.TheVariants as mark
-use Rattle.action_lines.specs.Marks.{mark_text, mark_from, error_name, error_from}
+use Rattle.action_lines.specs.Marks.{mark_text, mark_from, error_from}
 use Rattle.action_lines.proofs.StepLemmas.{name_step, name_end}
 
 pub mark_takes : (t : List ℕ) (m : Mark) → mark_from t ≡ Some m → t ≡ mark_text m
@@ -12,13 +13,13 @@ mark_takes t =
     name_step mark_text t mark.List _ (name_step mark_text t mark.Date _ (name_step mark_text t mark.Rec _
     (name_step mark_text t mark.Rows _ (name_step mark_text t mark.Err _ (name_step mark_text t mark.Censored _ (name_end mark_text t))))))
 
-pub error_takes : (t : List ℕ) (k : ErrKind) → error_from t ≡ Some k → t ≡ error_name k
+pub error_takes : (t : List ℕ) (k : ErrKind) → error_from t ≡ Some k → t ≡ err_text k
 error_takes t =
-    name_step error_name t kind.Circular _ (name_step error_name t kind.ZeroDivision _ (name_step error_name t kind.WrongType _
-    (name_step error_name t kind.Attribute _ (name_step error_name t kind.Key _ (name_step error_name t kind.Name _
-    (name_step error_name t kind.Overflow _ (name_step error_name t kind.Syntax _ (name_end error_name t))))))))
+    name_step err_text t kind.Circular _ (name_step err_text t kind.ZeroDivision _ (name_step err_text t kind.WrongType _
+    (name_step err_text t kind.Attribute _ (name_step err_text t kind.Key _ (name_step err_text t kind.Name _
+    (name_step err_text t kind.Overflow _ (name_step err_text t kind.Syntax _ (name_end err_text t))))))))
 
-pub error_again : (k : ErrKind) → error_from (error_name k) ≡ Some k
+pub error_again : (k : ErrKind) → error_from (err_text k) ≡ Some k
 error_again kind.Circular = refl
 error_again kind.ZeroDivision = refl
 error_again kind.WrongType = refl

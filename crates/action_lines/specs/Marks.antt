@@ -1,4 +1,4 @@
--- The words that mark values, and the names of errors.
+-- The words that mark values, and errors by their names.
 use Rattle.std.specs.Prelude.{ℕ, List, codes, Option, Some, None, if◌then◌else◌}
 use Rattle.std.specs.Str.{bytes_eq}
 use Rattle.cell_types.specs.declared.value.ErrKind.{ErrKind}
@@ -22,17 +22,6 @@ mark_from t =
     else if bytes_eq t (codes "r") then Some mark.Rows
     else if bytes_eq t (codes "E") then Some mark.Err
     else if bytes_eq t (codes "C") then Some mark.Censored else None
-
--- an error by its name
-abbrev pub error_name : ErrKind → List ℕ
-error_name kind.Circular = codes "CircularRefError"
-error_name kind.ZeroDivision = codes "ZeroDivisionError"
-error_name kind.WrongType = codes "TypeError"
-error_name kind.Attribute = codes "AttributeError"
-error_name kind.Key = codes "KeyError"
-error_name kind.Name = codes "NameError"
-error_name kind.Overflow = codes "OverflowError"
-error_name kind.Syntax = codes "SyntaxError"
 
 abbrev pub error_from : List ℕ → Option ErrKind
 error_from t =

@@ -8,11 +8,12 @@ use Rattle.cell_types.specs.declared.value.CellValue.{CellValue}
 use Rattle.cell_types.specs.declared.value.CellValue.TheVariants as value
 use Rattle.cell_types.specs.declared.value.RowRef.{RowRef}
 use Rattle.cell_types.specs.declared.value.RowSet.{RowSet}
+use Rattle.cell_types.specs.ValueText.{err_text}
 use Rattle.action_lines.specs.declared.marks.Mark.{Mark}
 use Rattle.action_lines.specs.declared.marks.Mark.TheVariants as mark
 use Rattle.action_lines.specs.Items.{AreAll}
 use Rattle.action_lines.specs.Numbers.{IsInt, IsRow}
-use Rattle.action_lines.specs.Marks.{mark_text, error_name}
+use Rattle.action_lines.specs.Marks.{mark_text}
 
 -- 1 to 64 characters
 abbrev pub has_name_length : List ℕ → Bool
@@ -57,5 +58,5 @@ IsValue (value.Date z) d = IsDate z d
 IsValue (value.Rec r) d = IsRef r d
 IsValue (value.RecSet s) d = IsSet s d
 IsValue (value.List items) d = (ds : Items) × AreAll IsItem items ds × (d ≡ marked mark.List ds)
-IsValue (value.Err e) d = d ≡ marked mark.Err (item (string (error_name e)) no_items)
+IsValue (value.Err e) d = d ≡ marked mark.Err (item (string (err_text e)) no_items)
 IsValue value.Censored d = d ≡ marked mark.Censored no_items

@@ -8,8 +8,8 @@ use Rattle.cell_types.specs.declared.value.CellValue.{CellValue}
 use Rattle.cell_types.specs.declared.value.CellValue.TheVariants as value
 use Rattle.cell_types.specs.declared.value.RowRef.{RowRef}
 use Rattle.cell_types.specs.declared.value.RowSet.{RowSet}
+use Rattle.cell_types.specs.ValueText.{err_text}
 use Rattle.action_lines.specs.Numbers.{int_data, row_data}
-use Rattle.action_lines.specs.Marks.{error_name}
 
 -- things as an array
 abbrev pub array_of : {X : Type 0} → (X → Data) → List X → Data
@@ -59,7 +59,7 @@ value_data (value.Date n) = date_data n
 value_data (value.Rec r) = ref_data r
 value_data (value.RecSet s) = set_data s
 value_data (value.List items) = list_data items
-value_data (value.Err e) = error_data (error_name e)
+value_data (value.Err e) = error_data (err_text e)
 value_data value.Censored = array (item (string (codes "C")) no_items)
 
 abbrev pub values_data : List CellValue → Data

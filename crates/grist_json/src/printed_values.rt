@@ -1,32 +1,17 @@
 //! Values of cells as JSON.
 ghost use Rattle.std.specs.Prelude.{◌≡◌, IfOk};
 ghost use Rattle.serde_json.specs.View.{view};
-ghost use Rattle.action_lines.specs.Marks.{error_name};
+ghost use Rattle.cell_types.specs.ValueText.{err_text};
 ghost use Rattle.grist_json.specs.Values.{date_data, ref_data, set_data, error_data, item_data, value_data, list_data, rows_data, values_data};
 
 use crate::json_parts::{array_with, texts_of_one, texts_of_two};
-use cell_types::{CellItem, CellValue, ErrKind, RowRef, RowSet};
+use cell_types::{CellItem, CellValue, ErrKind, RowRef, RowSet, error_name};
 use serde_json::Value;
 use std::alloc::{AllocError, Global};
 
-fn error_name(kind: ErrKind) -> &'static str
-    ensures { result.now ≡ error_name kind }
-{
-    match kind {
-        ErrKind::Circular => "CircularRefError",
-        ErrKind::ZeroDivision => "ZeroDivisionError",
-        ErrKind::WrongType => "TypeError",
-        ErrKind::Attribute => "AttributeError",
-        ErrKind::Key => "KeyError",
-        ErrKind::Name => "NameError",
-        ErrKind::Overflow => "OverflowError",
-        ErrKind::Syntax => "SyntaxError",
-    }
-}
-
 // An error: ["E",name].
 fn error_value(alloc: Global, kind: ErrKind) -> Result<Value, AllocError>
-    ensures { IfOk result (λ v. view v ≡ error_data (error_name kind)) }
+    ensures { IfOk result (λ v. view v ≡ error_data (err_text kind)) }
 {
     let mark = texts_of_one(alloc, "E")?;
     array_with(mark, Value::try_from_str(alloc, error_name(kind))?)

@@ -1,4 +1,5 @@
-//! What a store tells of a document, and the tests of ids, rows and values that several crates make.
+//! What a store tells of a document, and the tests of ids, rows and values that several crates
+//! make.
 //!
 //! Stands on `cell_types` (values and names) and `doc_model` (documents, and what a store answers).
 //! Used by the crates that test, expand and apply actions.

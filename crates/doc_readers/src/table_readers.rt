@@ -39,7 +39,8 @@ pub fn rows_in<'a, D: DocTables>(tables: &'a D, table: &Name) -> &'a [u32]
 /// Memory: none. Cost: linear in the columns.
 pub fn find_column<'a, D: DocTables>(tables: &'a D, table: &Name, id: &Name) -> Option<&'a ColDef>
     requires { IsWhole (D.document tables.now) }
-    ensures { option_copied result ≡ find_id column_id id.now (grid_at (D.document tables.now) table.now).columns }
+    ensures { option_copied result ≡ find_id column_id id.now
+        (grid_at (D.document tables.now) table.now).columns }
 {
     let mut index = 0;
     while let Some(column) = tables.column(table, index) {
@@ -71,7 +72,8 @@ pub fn cell_in<D: DocTables>(
     column: &Name,
     row: u32,
 ) -> Result<CellValue, AllocError>
-    ensures { IfOk result (λ v. v ≡ cell column_id (grid_at (D.document tables.now) table.now) column.now row) }
+    ensures { IfOk result
+        (λ v. v ≡ cell column_id (grid_at (D.document tables.now) table.now) column.now row) }
 {
     match tables.cell(table, column, row) {
         Some(value) => copy_of(value),

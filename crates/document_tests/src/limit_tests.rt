@@ -4,8 +4,8 @@
 //! that take what is too much (`takes_away_what_is_above_the_limits`). The last row id is taken, of
 //! a record or of a row that describes a column (`no_record_comes_behind_the_last_row`,
 //! `no_column_comes_behind_the_last_row`). The limit after one document action, from the tally
-//! before it (`one_action_passes_its_limit`). An end is the bound of the limit that would be passed,
-//! 0 for steps; what is refused has none. Out of memory counts as false.
+//! before it (`one_action_passes_its_limit`). An end is the bound of the limit that would be
+//! passed, 0 for steps; what is refused has none. Out of memory counts as false.
 
 ghost use Rattle.std.specs.Prelude.{◌≡◌, true};
 ghost use Rattle.doc_model.specs.DocumentLaws.{IsWhole};

@@ -1,7 +1,7 @@
 // The plan. `calls_of_two_threads_make_one_history`: two passes in two threads over a machine that
-// keeps its events and counts its steps, so that a step taken twice, an entry lost or counted twice,
-// and an older machine written over a newer one would each show. Expected, whatever the schedule: each
-// pass's events in their order and no others; with a pass out, `close` asks for it.
+// keeps its events and counts its steps, so that a step taken twice, an entry lost or counted
+// twice, and an older machine written over a newer one would each show. Expected, whatever the
+// schedule: each pass's events in their order and no others; with a pass out, `close` asks for it.
 // `numbers_of_one_pass_rise`: a caller that proves something of its own from the clauses of `call`.
 ghost use Rattle.std.specs.Prelude.{◌≡◌, ◌≤◌, ◌+◌, ◌^◌, ◌<◌, ◌++◌, ◌∷◌, [], length, All, vec_len, IfOk};
 ghost use Rattle.std.specs.Thread.{IsSync};

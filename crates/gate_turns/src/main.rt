@@ -1,8 +1,9 @@
 //! Turns of a gate, counted and timed: one, two and four threads step one counting machine.
 //!
 //! Stands on `session_gate`. Standard output has the entries that were made, the same whatever the
-//! schedule. Given a number of turns, the program makes about that many with each number of threads,
-//! and standard error then says how fast they were, in thousands a second, and against one thread.
+//! schedule. Given a number of turns, the program makes about that many with each number of
+//! threads, and standard error then says how fast they were, in thousands a second, and against one
+//! thread.
 //!
 //! Promises: none beyond those of the gate, whose entries are counted here.
 //! Not promised: any time. What is printed on standard error is what one run measured.

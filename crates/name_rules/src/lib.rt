@@ -1,7 +1,7 @@
 //! Names: which texts may be one, and which one is free beside taken ones.
 //!
-//! Stands on `cell_types` (names, and the definition of a good one) and `unicode_ident`; proofs name
-//! `ucd_derived` and `ucd_table`, which that stands on.
+//! Stands on `cell_types` (names, and the definition of a good one) and `unicode_ident`; proofs
+//! name `ucd_derived` and `ucd_table`, which that stands on.
 //! Used by the crates that read lines and put actions.
 //!
 //! Promises: `is_name` is the definition in specs/NameRule.antt of `cell_types`, and takes no

@@ -44,8 +44,8 @@ impl<M: Machine> Gate<M> {
     /// Waits for a turn, and steps the machine in it.
     ///
     /// The answer is the machine's at that point of one legal history, which begins with all that
-    /// the pass had seen. The call's own entry, where the step adds one, stands at its end, one more
-    /// of the pass's calls. `close` shows that all passes saw beginnings of one history.
+    /// the pass had seen. The call's own entry, where the step adds one, stands at its end, one
+    /// more of the pass's calls. `close` shows that all passes saw beginnings of one history.
     ///
     /// It may wait: a thread that finds the turn held sleeps until one is returned and spends no
     /// processor time. That it is ever served, or in which order, is not promised.

@@ -37,7 +37,8 @@ pub trait Machine {
 
     /// The answers that it may give: of the opening, the history before and after the step, the
     /// event and the answer.
-    ghost answers: { Self.Opening → List Self.Entry → List Self.Entry → Self.Event → Self.Out → Type 0 };
+    ghost answers: { Self.Opening → List Self.Entry → List Self.Entry → Self.Event → Self.Out
+        → Type 0 };
 
     /// Takes one event, and answers it.
     ///

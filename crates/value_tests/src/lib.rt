@@ -3,8 +3,8 @@
 //! Stands on `cell_types`, `name_rules` and `value_ops`. Nothing stands on it; it is a crate of its
 //! own, so that none of those is proved a second time with its tests.
 //!
-//! Promises: nothing. What is tested is what no clause says: that the tables of conversion, names and
-//! operators are the ones meant, and that calls succeed where there is memory.
+//! Promises: nothing. What is tested is what no clause says: that the tables of conversion, names
+//! and operators are the ones meant, and that calls succeed where there is memory.
 //! Read first: conversions.rt, names.rt or operators.rt.
 #![tactic(auto)]
 

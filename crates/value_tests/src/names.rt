@@ -1,6 +1,6 @@
 //! `tells_names` follows the rule of names in docs/DEFINITIONS.md by hand. `finds_free_ids` has ids
-//! of one and of 64 characters, also of two bytes each; `passes_numbers_that_give_one_text` has an id
-//! whose numbers 2 to 9 give the texts that 22 to 29 give.
+//! of one and of 64 characters, also of two bytes each; `passes_numbers_that_give_one_text` has an
+//! id whose numbers 2 to 9 give the texts that 22 to 29 give.
 
 use crate::samples::name;
 use cell_types::Name;

@@ -1,10 +1,10 @@
-//! Operators on values, by tables of what the clauses are meant to say: kinds and errors are from the
-//! users' page on operators, numbers and comparisons are what Python 3 gives (`+`, `-`, `*`, `//`, `%`,
-//! `<`, `in`), with `o` for what 64 bits do not hold.
+//! Operators on values, by tables of what the clauses are meant to say: kinds and errors are from
+//! the users' page on operators, numbers and comparisons are what Python 3 gives (`+`, `-`, `*`,
+//! `//`, `%`, `<`, `in`), with `o` for what 64 bits do not hold.
 //!
 //! `numbers_are_those_of_python` has the ends of 64 bits and each pair of signs;
-//! `kinds_meet_as_the_page_says` has each operator at each pair of kinds; the others have the rest of
-//! the page, and what is told of a fault.
+//! `kinds_meet_as_the_page_says` has each operator at each pair of kinds; the others have the rest
+//! of the page, and what is told of a fault.
 
 use crate::samples::{Part, Sample, is_text, value_of};
 use Answer::{Letter, Number};
@@ -50,7 +50,8 @@ fn apply(
     }
 }
 
-// A letter for a result: true, false, another value; a wrong type, overflow, division by zero, no memory.
+// A letter for a result: true, false, another value; a wrong type, overflow, division by zero, no
+// memory.
 fn letter(outcome: &Result<CellValue, OpFault>) -> char {
     match outcome {
         Ok(CellValue::Bool(true)) => 't',

@@ -4,8 +4,8 @@ use cell_types::CellText;
 use doc_model::{IdList, UserAction, UserActionList, UserCol, UserColList, UserColumnList};
 use std::alloc::{AllocError, Global};
 
-/// A user action: the row 1 twice in a table; a table that is removed; or a new one with a column of
-/// this id, type and formula.
+/// A user action: the row 1 twice in a table; a table that is removed; or a new one with a column
+/// of this id, type and formula.
 #[derive(Clone, Copy)]
 pub enum Asked {
     Update(&'static str),

@@ -1,11 +1,11 @@
 //! Tests of views: their parts, their changes, and what stands against user actions in them.
 //!
-//! Stands on `doc_model`, `row_tables`, `plain_view`, `view_patch`, `user_actions` and `view_parts`.
-//! Nothing stands on it; it is a crate of its own, so that none of those is proved a second time with
-//! its tests.
+//! Stands on `doc_model`, `row_tables`, `plain_view`, `view_patch`, `user_actions` and
+//! `view_parts`. Nothing stands on it; it is a crate of its own, so that none of those is proved a
+//! second time with its tests.
 //!
-//! Promises: nothing. What is tested is what no clause says: that the definitions mean what is meant,
-//! by values that were worked out by hand, and that calls succeed where there is memory.
+//! Promises: nothing. What is tested is what no clause says: that the definitions mean what is
+//! meant, by values that were worked out by hand, and that calls succeed where there is memory.
 //! Read first: changes.rt, then parts.rt and refusals.rt. What they try is made in steps.rt and
 //! asking.rt, and shown in shown.rt.
 #![tactic(auto)]

@@ -1,8 +1,8 @@
 -- One more turn of a loop over a list, and what is told of what is made.
-use Rattle.std.proofs.Common.{ℕ, ◌+◌, ◌<◌, ◌≤◌, Bool, true, false, cond, List, [], ◌∷◌, ◌++◌, map, filter, take, drop, length, min, get_or, ◌≡◌, refl, sym, ap, subst, ◌∙◌, add-one, Option, Some, None, arith}
+use Rattle.std.proofs.Common.{ℕ, ◌+◌, ◌<◌, ◌≤◌, Bool, true, false, cond, List, [], ◌∷◌, ◌++◌, filter, drop, length, min, get_or, ◌≡◌, refl, sym, ap, subst, ◌∙◌, add-one, Option, Some, None, arith}
 use Rattle.std.proofs.Math.Seq.{drop-cons}
 use Rattle.std.proofs.lemmas.Bool.{false≢true}
-use Rattle.std.proofs.lemmas.List.{append_assoc, append-nil, drop_all, map_more}
+use Rattle.std.proofs.lemmas.List.{append_assoc, append-nil, drop_all}
 use Rattle.std.specs.Bool.{IsTrue}
 use Rattle.std.specs.Option.{MatchOption}
 use Rattle.doc_model.specs.declared.column.ColDef.{ColDef}
@@ -11,11 +11,6 @@ use Rattle.doc_model.specs.ViewEdits.{if_any}
 use Rattle.name_rules.specs.FreeName.{IsFresh, free_name}
 use Rattle.user_actions.specs.StepLaws.{AreFresh}
 use Rattle.user_actions.specs.Steps.{new_column, new_columns}
-
--- one more value beside one more number
-pub mapped_more : {X Y : Type 0} (f : X → Y) (xs : List X) (i : ℕ) (d : X) (ys zs : List Y) (y : Y) → i < length xs → ys ≡ map f (take i xs) → zs ≡ ys ++ y ∷ [] → y ≡ f (get_or xs i d) → zs ≡ map f (take (i + 1) xs)
-mapped_more f xs i d ys zs y lt so pushed is =
-    pushed ∙ ap (λ l. l ++ y ∷ []) so ∙ ap (λ v. map f (take i xs) ++ v ∷ []) is ∙ sym (map_more f xs i d lt)
 
 -- what is left begins with the next one
 next_left : {X : Type 0} (xs : List X) (i : ℕ) (d : X) → i < length xs → drop i xs ≡ get_or xs i d ∷ drop (i + 1) xs

@@ -18,6 +18,7 @@ use doc_model::{
     CellColumn, ColumnList, DocAction, DocTables, LAST_ROW_ID, Step, StepList, UserColumn,
 };
 use doc_readers::find_column;
+use list_ops::all_made;
 use name_rules::name_of;
 use std::alloc::{AllocError, Global};
 
@@ -39,10 +40,7 @@ fn new_rows(alloc: Global, last: u32, count: u32) -> Result<RowList, AllocError>
 pub fn row_ids(alloc: Global, rows: &[i64]) -> Result<RowList, AllocError>
     ensures { IfOk result (λ l. l ≡ row_ids rows.now) }
 {
-    let mut ids = Vec::with_capacity(alloc, rows.len())?;
-    for row in rows {
-        ids.push(row_id(row))?;
-    }
+    let ids = all_made(alloc, rows, |row| Ok(row_id(row)))?;
     Ok(RowList::from(ids))
 }
 
@@ -59,10 +57,7 @@ fn row_id(number: &i64) -> u32
 fn fit_values(alloc: Global, ty: &ColType, values: &[CellValue]) -> Result<ValueList, AllocError>
     ensures { IfOk result (λ l. l ≡ map (fit ty.now) values.now) }
 {
-    let mut made = Vec::with_capacity(alloc, values.len())?;
-    for value in values {
-        made.push(convert(alloc, ty, value)?)?;
-    }
+    let made = all_made(alloc, values, |value| convert(alloc, ty, value))?;
     Ok(ValueList::from(made))
 }
 

@@ -17,6 +17,7 @@ use crate::schema_steps::{info_said, type_said};
 use cell_types::{CellValue, ColType, Name, RowList, Same, ValueList, convert};
 use doc_model::{CellColumn, ColDef, ColumnList, DocAction, DocTables, Step, StepList, UserCol};
 use doc_readers::{cell_in, find_column, rows_in};
+use list_ops::all_made;
 use name_rules::name_of;
 use std::alloc::{AllocError, Global};
 
@@ -110,10 +111,11 @@ fn column_refitted<D: DocTables>(
         (λ k. k ≡ column_refitted
         (grid_at (D.document tables.now) table.now) column.now ty.now rows.now) }
 {
-    let mut values = Vec::with_capacity(alloc, rows.len())?;
-    for row in rows {
-        values.push(refitted(alloc, tables, table, column, ty, *row)?)?;
-    }
+    let values = all_made(
+        alloc,
+        rows,
+        |row| refitted(alloc, tables, table, column, ty, *row),
+    )?;
     let id = column.clone()?;
     let values = ValueList::from(values);
     Ok(CellColumn { id, values })

@@ -3,7 +3,8 @@ use Rattle.std.proofs.Common.{ℕ, true, false, cond, not, ◌&&◌, List, ◌�
 use Rattle.std.specs.Option.{is_some}
 use Rattle.cell_types.specs.declared.value.CellValue.{CellValue}
 use Rattle.doc_model.specs.ByIds.{find_id, has_id}
-use Rattle.doc_model.specs.Column.{column_id, is_null}
+use Rattle.doc_model.specs.Column.{column_id}
+use Rattle.cell_types.specs.ColumnRange.{is_null}
 use Rattle.doc_model.specs.Document.{Document, table_id}
 use Rattle.doc_model.specs.Grid.{cell}
 use Rattle.doc_model.specs.MetadataIds.{is_schema_id, is_metadata_id}

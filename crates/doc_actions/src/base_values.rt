@@ -2,7 +2,8 @@
 
 ghost use Rattle.std.specs.Prelude.{◌≡◌};
 ghost use Rattle.cell_types.specs.declared.column_type.ColType.TheVariants.{Ref};
-ghost use Rattle.doc_model.specs.Column.{is_null, is_sound_info, is_sound_type};
+ghost use Rattle.doc_model.specs.Column.{is_sound_info, is_sound_type};
+ghost use Rattle.cell_types.specs.ColumnRange.{is_null};
 
 use cell_types::{CellValue, ColType, Name};
 use doc_model::ColInfo;

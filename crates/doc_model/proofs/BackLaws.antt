@@ -13,7 +13,8 @@ use Rattle.doc_model.specs.ByIds.{find_id, has_id, AreDistinct, are_distinct, by
 use Rattle.doc_model.specs.Rows.{has, insert_rows, without, all_in, none_in, IsAscending}
 use Rattle.doc_model.specs.Grid.{Grid, IsGrid, cell}
 use Rattle.doc_model.specs.Records.{given, given_id, add_rows, update_rows, remove_rows, column_of}
-use Rattle.doc_model.specs.Column.{column_id, column_row, default_of, start_of, is_base}
+use Rattle.doc_model.specs.Column.{column_id, column_row, start_of, is_base}
+use Rattle.cell_types.specs.Conversion.{default_value}
 use Rattle.doc_model.specs.Document.{put_by_row}
 use Rattle.doc_model.specs.Sound.{IsSoundGrid}
 use Rattle.doc_model.specs.Valid.{passes, is_data, gives_column, gives_data}
@@ -71,7 +72,7 @@ given_data g rows d r s found here there =
     ap (λ o. unwrap_or o (start_of d)) (given_own column_id g rows column_id (by_id column_id (filter test g.columns)) d.id r there
     ∙ ap (λ b. cond b (Some (at g d.id r)) None) (has_id-by_id column_id (filter test g.columns) d.id ∙ has_id-find column_id d.id (filter test g.columns)
     ∙ ap is_some (find-filtered column_id test d.id g.columns s.is_grid.distinct ∙ ap (keep test) found)))
-    ∙ elim d.info.is_formula as (λ b. d.info.is_formula ≡ b → unwrap_or (cond (is_some (cond (not b) (Some d) None)) (Some (at g d.id r)) None) (cond b Null (default_of d.info.ty)) ≡ at g d.id r) [
+    ∙ elim d.info.is_formula as (λ b. d.info.is_formula ≡ b → unwrap_or (cond (is_some (cond (not b) (Some d) None)) (Some (at g d.id r)) None) (cond b Null (default_value d.info.ty)) ≡ at g d.id r) [
       | true ↦ λ formula. sym (null_held d (at g d.id r) formula (s.holds d r found here))
       | false ↦ λ _. refl
     ] refl

@@ -14,7 +14,9 @@ use Rattle.doc_model.specs.ByIds.{find_id, has_id, with_id, without_id}
 use Rattle.doc_model.specs.Rows.{has, has_no_duplicates, all_in, IsAscending}
 use Rattle.doc_model.specs.Grid.{Grid, cell}
 use Rattle.doc_model.specs.Records.{update_rows, column_of}
-use Rattle.doc_model.specs.Column.{column_id, column_row, default_of, start_of, is_null, is_sound_info}
+use Rattle.doc_model.specs.Column.{column_id, column_row, start_of, is_sound_info}
+use Rattle.cell_types.specs.Conversion.{default_value}
+use Rattle.cell_types.specs.ColumnRange.{is_null}
 use Rattle.doc_model.specs.Document.{Table, Document, table_id, on_grid, with_table, put_by_row}
 use Rattle.doc_model.specs.Schema.{with_schema}
 use Rattle.doc_model.specs.Sound.{IsSoundGrid, has_names}
@@ -197,7 +199,7 @@ module _ (r u : Grid ColDef) (p : List Table) (good : IsGood r u p) (table : Lis
       column_back =
           elim d.info.is_formula as (λ b. d.info.is_formula ≡ b → LeadsBack after whole (AddColumn table d ∷ cond b [] (if_any t.grid.rows (BulkUpdate table t.grid.rows mine)))) [
             | true ↦ λ formula. back_alone (λ q here.
-                cond_true d.info.is_formula Null (default_of d.info.ty) formula ∙ sym (null_held d (cell column_id t.grid d.id q) formula (sound_t.holds d q is_there here)))
+                cond_true d.info.is_formula Null (default_value d.info.ty) formula ∙ sym (null_held d (cell column_id t.grid d.id q) formula (sound_t.holds d q is_there here)))
             | false ↦ λ data'. elim t.grid.rows as (λ rows. t.grid.rows ≡ rows → LeadsBack after whole (AddColumn table d ∷ if_any rows (BulkUpdate table t.grid.rows mine))) [
               | [] ↦ λ none. back_alone (λ q here. absurd (false≢true (ap (λ rows. has rows q) (sym none) ∙ here)))
               | q ∷ rows ↦ λ _. back_filled data'

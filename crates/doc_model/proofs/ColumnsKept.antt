@@ -10,7 +10,8 @@ use Rattle.doc_model.specs.declared.column.ColInfo.{ColInfo}
 use Rattle.doc_model.specs.ByIds.{has_id, AreDistinct, with_id}
 use Rattle.doc_model.specs.Rows.{has}
 use Rattle.doc_model.specs.Grid.{Grid, beside, cell}
-use Rattle.doc_model.specs.Column.{column_id, is_base, is_null, is_sound_info, may_hold}
+use Rattle.doc_model.specs.Column.{column_id, is_base, is_sound_info, may_hold}
+use Rattle.cell_types.specs.ColumnRange.{is_null}
 use Rattle.doc_model.specs.Sound.{IsSoundGrid}
 use Rattle.doc_model.specs.Valid.{all_null}
 use Rattle.doc_model.specs.Apply.{with_column, with_name, with_info}

@@ -14,7 +14,9 @@ use Rattle.doc_model.specs.ByIds.{find_id, has_id, AreDistinct, are_distinct, wi
 use Rattle.doc_model.specs.Rows.{has, insert_rows, without, IsAscending}
 use Rattle.doc_model.specs.Grid.{Grid, grid_of, cell}
 use Rattle.doc_model.specs.Records.{or_else, value_for, given, given_id, add_rows, update_rows, remove_rows}
-use Rattle.doc_model.specs.Column.{column_id, column_row, default_of, start_of, is_base, is_null, is_sound_info, may_hold}
+use Rattle.doc_model.specs.Column.{column_id, column_row, start_of, is_base, is_sound_info, may_hold}
+use Rattle.cell_types.specs.Conversion.{default_value}
+use Rattle.cell_types.specs.ColumnRange.{is_null}
 use Rattle.doc_model.specs.Document.{put_by_row}
 use Rattle.doc_model.specs.Sound.{IsSoundGrid}
 use Rattle.doc_model.specs.Valid.{passes, from_one, is_data, gives_column, gives_data}
@@ -33,7 +35,7 @@ null_is _ e = absurd (false≢true e)
 pub base_null : (v : CellValue) → is_null v ≡ true → is_base v ≡ true
 base_null v e = ap is_base (null_is v e)
 
-pub base_default : (t : ColType) → is_base (default_of t) ≡ true
+pub base_default : (t : ColType) → is_base (default_value t) ≡ true
 base_default type.Any = refl
 base_default type.Text = refl
 base_default type.Int = refl
@@ -59,7 +61,7 @@ held_base d v plain e = cond_false d.info.is_formula (is_null v) (is_base v) pla
 
 -- a new cell may stand in its column
 pub held_start : (d : ColDef) → may_hold d (start_of d) ≡ true
-held_start d = elim d.info.is_formula as (λ b. cond b (is_null (cond b Null (default_of d.info.ty))) (is_base (cond b Null (default_of d.info.ty))) ≡ true) [ true ↦ refl | false ↦ base_default d.info.ty ]
+held_start d = elim d.info.is_formula as (λ b. cond b (is_null (cond b Null (default_value d.info.ty))) (is_base (cond b Null (default_value d.info.ty))) ≡ true) [ true ↦ refl | false ↦ base_default d.info.ty ]
 
 -- base, where there is a value
 abbrev base_or_none : Option CellValue → Bool

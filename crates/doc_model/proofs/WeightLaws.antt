@@ -13,7 +13,8 @@ use Rattle.doc_model.specs.ByIds.{find_id, has_id, AreDistinct}
 use Rattle.doc_model.specs.Rows.{has, insert_rows, without, has_no_duplicates, all_in, none_in}
 use Rattle.doc_model.specs.Grid.{Grid, grid_of, IsGrid, cell}
 use Rattle.doc_model.specs.Records.{or_else, value_for, given, given_id, add_rows, update_rows, remove_rows}
-use Rattle.doc_model.specs.Column.{column_id, default_of, start_of}
+use Rattle.doc_model.specs.Column.{column_id, start_of}
+use Rattle.cell_types.specs.Conversion.{default_value}
 use Rattle.doc_model.specs.Counts.{total, value_weight, row_weight, formula_bytes, grid_weight}
 use Rattle.doc_model.proofs.Choices.{not_true, each_weaker, map-map}
 use Rattle.doc_model.proofs.ByIdsLaws.{bytes_apart, found_has, has_apart, each_found}
@@ -41,9 +42,9 @@ pub grid_weight-own : (g : Grid ColDef) → IsGrid column_id g → grid_weight g
 grid_weight-own g s = ap grid_weight (sym (grid_of-cell column_id g s)) ∙ grid_weight-grid_of g.columns g.rows (λ d r. at g d.id r)
 
 pub start_weight : (d : ColDef) → value_weight (start_of d) ≡ 0
-start_weight d = elim d.info.is_formula as (λ b. value_weight (cond b Rattle.cell_types.specs.declared.value.CellValue.TheVariants.Null (default_of d.info.ty)) ≡ 0) [ true ↦ refl | false ↦ default_weight d.info.ty ]
+start_weight d = elim d.info.is_formula as (λ b. value_weight (cond b Rattle.cell_types.specs.declared.value.CellValue.TheVariants.Null (default_value d.info.ty)) ≡ 0) [ true ↦ refl | false ↦ default_weight d.info.ty ]
   where
-    default_weight : (t : ColType) → value_weight (default_of t) ≡ 0
+    default_weight : (t : ColType) → value_weight (default_value t) ≡ 0
     default_weight type.Any = refl
     default_weight type.Text = refl
     default_weight type.Int = refl

@@ -1,7 +1,9 @@
 -- Columns of a document, and what their cells may hold.
-use Rattle.std.specs.Prelude.{ℕ, pos, Bool, true, false, cond, ◌&&◌, ◌||◌, nat_le, List, [], length}
+use Rattle.std.specs.Prelude.{ℕ, Bool, true, false, cond, ◌&&◌, ◌||◌, nat_le, List, [], length}
 use Rattle.std.specs.List.{list_all}
 use Rattle.cell_types.specs.NameRule.{is_name}
+use Rattle.cell_types.specs.ColumnRange.{is_null}
+use Rattle.cell_types.specs.Conversion.{default_value}
 use Rattle.cell_types.specs.declared.column_type.ColType.{ColType}
 use Rattle.cell_types.specs.declared.column_type.ColType.TheVariants as type
 use Rattle.cell_types.specs.declared.value.CellItem.{CellItem}
@@ -18,19 +20,9 @@ column_id d = d.id
 abbrev pub column_row : ColDef → ℕ
 column_row d = d.row
 
--- the default of a type
-abbrev pub default_of : ColType → CellValue
-default_of type.Any = value.Null
-default_of type.Text = value.Text []
-default_of type.Int = value.Int (pos 0)
-default_of type.Bool = value.Bool false
-default_of type.Date = value.Null
-default_of (type.Ref t) = value.Int (pos 0)
-default_of (type.RefList t) = value.Null
-
 -- what a new cell of the column holds
 abbrev pub start_of : ColDef → CellValue
-start_of d = cond d.info.is_formula value.Null (default_of d.info.ty)
+start_of d = cond d.info.is_formula value.Null (default_value d.info.ty)
 
 -- whether a text is no longer than texts may be
 abbrev pub is_short : List ℕ → Bool
@@ -54,10 +46,6 @@ is_base (value.RecSet rs) = false
 is_base (value.List items) = nat_le (length items) 10000 && list_all is_base_item items
 is_base (value.Err e) = false
 is_base value.Censored = false
-
-abbrev pub is_null : CellValue → Bool
-is_null value.Null = true
-is_null _ = false
 
 -- whether a type's table is named by a name or is a metadata table
 abbrev pub is_sound_type : ColType → Bool

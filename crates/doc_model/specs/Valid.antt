@@ -11,7 +11,8 @@ use Rattle.doc_model.specs.ByIds.{find_id, has_id, are_distinct}
 use Rattle.doc_model.specs.Rows.{has_no_duplicates, all_in, none_in}
 use Rattle.doc_model.specs.Grid.{Grid, cell}
 use Rattle.doc_model.specs.Records.{given_id}
-use Rattle.doc_model.specs.Column.{column_id, column_row, is_base, is_null, is_sound_info}
+use Rattle.doc_model.specs.Column.{column_id, column_row, is_base, is_sound_info}
+use Rattle.cell_types.specs.ColumnRange.{is_null}
 use Rattle.doc_model.specs.Document.{Table, Document, table_id}
 
 -- whether the thing is there and passes the test

@@ -4,7 +4,7 @@ use Rattle.std.specs.Str.{bytes_eq}
 use Rattle.cell_types.specs.declared.value.CellValue.{CellValue}
 use Rattle.doc_model.specs.declared.column.CellColumn.{CellColumn}
 use Rattle.doc_model.specs.declared.view.ViewCol.{ViewCol}
-use Rattle.doc_model.specs.Column.{default_of}
+use Rattle.cell_types.specs.Conversion.{default_value}
 use Rattle.doc_model.specs.ByIds.{IsByIds, find_id, has_id, put_by_id, without_id}
 use Rattle.doc_model.specs.Rows.{without}
 use Rattle.doc_model.specs.Grid.{Grid, grid_of, cell, IsGrid}
@@ -16,7 +16,7 @@ shown_id d = d.id
 
 -- what a new cell of a shown column holds, a formula column's too
 abbrev pub shown_start : ViewCol → CellValue
-shown_start d = default_of d.ty
+shown_start d = default_value d.ty
 
 -- a table's columns stand by id, its rows ascend, and there is one cell for each row and column
 pub record IsShown (g : Grid ViewCol) : Type 0 where

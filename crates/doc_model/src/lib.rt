@@ -18,6 +18,7 @@ mod refusal;
 mod request;
 mod rows;
 mod tables;
+mod type_texts;
 mod user;
 mod user_action;
 mod verdict;
@@ -34,6 +35,7 @@ pub use refusal::Refusal;
 pub use request::Request;
 pub use rows::{have_no_duplicates, index_of_column};
 pub use tables::{DocCells, DocTables};
+pub use type_texts::type_text;
 pub use user::{User, UserList};
 pub use user_action::{
     IdList, UserAction, UserActionList, UserCol, UserColList, UserColumn, UserColumnList,

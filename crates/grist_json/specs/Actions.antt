@@ -1,23 +1,12 @@
 -- The JSON of changes of views.
-use Rattle.std.specs.Prelude.{ℕ, List, ◌++◌, codes, Option, Some, None, fold}
+use Rattle.std.specs.Prelude.{ℕ, List, codes, Option, Some, None, fold}
 use Rattle.serde_json.specs.Data.{Data, null, boolean, string, array, object, Items, no_items, item, Members, no_members, member, put}
-use Rattle.cell_types.specs.declared.column_type.ColType.{ColType}
-use Rattle.cell_types.specs.declared.column_type.ColType.TheVariants as ty
 use Rattle.doc_model.specs.declared.column.CellColumn.{CellColumn}
 use Rattle.doc_model.specs.declared.view.ViewCol.{ViewCol}
 use Rattle.doc_model.specs.declared.view.ViewAction.{ViewAction}
 use Rattle.doc_model.specs.declared.view.ViewAction.TheVariants as action
+use Rattle.doc_model.specs.Schema.{type_text}
 use Rattle.grist_json.specs.Values.{array_of, rows_data, values_data}
-
--- a type by its name
-abbrev pub type_text : ColType → List ℕ
-type_text ty.Any = codes "Any"
-type_text ty.Text = codes "Text"
-type_text ty.Int = codes "Int"
-type_text ty.Bool = codes "Bool"
-type_text ty.Date = codes "Date"
-type_text (ty.Ref t) = codes "Ref:" ++ t
-type_text (ty.RefList t) = codes "RefList:" ++ t
 
 -- a formula that is hidden is null
 abbrev pub formula_data : Option (List ℕ) → Data

@@ -1,31 +1,17 @@
 //! Changes of views as JSON.
-ghost use Rattle.std.specs.Prelude.{◌≡◌, IfOk, string_bytes};
+ghost use Rattle.std.specs.Prelude.{◌≡◌, IfOk};
 ghost use Rattle.doc_model.specs.declared.view.ViewAction.TheVariants.{AddTable, RemoveTable, RemoveColumn, BulkRemove};
 ghost use Rattle.serde_json.specs.Data.{item, no_items, string};
 ghost use Rattle.serde_json.specs.View.{view, members_view};
-ghost use Rattle.grist_json.specs.Actions.{action_of, type_text, formula_data, column_data, info_members, info_data, infos_data, columns_data, action_data, actions_data};
+ghost use Rattle.grist_json.specs.Actions.{action_of, formula_data, column_data, info_members, info_data, infos_data, columns_data, action_data, actions_data};
 ghost use Rattle.grist_json.specs.Values.{rows_data};
 
 use crate::json_parts::{array_with, texts_of_two, with, with_member};
 use crate::printed_values::{rows_value, values_value};
-use cell_types::{CellText, ColType, Name, RowList};
-use doc_model::{CellColumn, ColumnList, ViewAction, ViewCol, ViewColList};
+use cell_types::{CellText, Name, RowList};
+use doc_model::{CellColumn, ColumnList, ViewAction, ViewCol, ViewColList, type_text};
 use serde_json::{Map, Value};
 use std::alloc::{AllocError, Global};
-
-fn type_text(alloc: Global, ty: &ColType) -> Result<String, AllocError>
-    ensures { IfOk result (λ s. string_bytes s ≡ type_text ty.now) }
-{
-    match ty {
-        ColType::Any => String::from_str(alloc, "Any"),
-        ColType::Text => String::from_str(alloc, "Text"),
-        ColType::Int => String::from_str(alloc, "Int"),
-        ColType::Bool => String::from_str(alloc, "Bool"),
-        ColType::Date => String::from_str(alloc, "Date"),
-        ColType::Ref(table) => format!(in alloc; "Ref:{}", table.as_str()),
-        ColType::RefList(table) => format!(in alloc; "RefList:{}", table.as_str()),
-    }
-}
 
 fn formula_value(alloc: Global, formula: &Option<CellText>) -> Result<Value, AllocError>
     ensures { IfOk result (λ v. view v ≡ formula_data formula.now) }
@@ -43,7 +29,7 @@ fn info_members(alloc: Global, column: &ViewCol) -> Result<Map<String, Value>, A
     let formula = formula_value(alloc, &column.formula)?;
     let info = with_member(alloc, Map::new(alloc), "formula", formula)?;
     let info = with_member(alloc, info, "isFormula", Value::Bool(column.is_formula))?;
-    let ty = type_text(alloc, &column.ty)?;
+    let ty = type_text(alloc, &column.ty)?.into_string();
     with_member(alloc, info, "type", Value::String(ty))
 }
 

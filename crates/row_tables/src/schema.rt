@@ -11,8 +11,8 @@ use crate::described::{Described, columns_in_order};
 use crate::in_place::swap_at;
 use crate::known::Known;
 use crate::metadata::known_table;
-use cell_types::{CellText, CellValue, ColType, Name, ValueList};
-use doc_model::ColInfo;
+use cell_types::{CellText, CellValue, Name, ValueList};
+use doc_model::{ColInfo, type_text};
 use list_ops::all_made;
 use std::alloc::{AllocError, Global};
 
@@ -44,29 +44,6 @@ fn table_of_tables(alloc: Global, plain: &[RowTable]) -> Result<RowTable, AllocE
     let rows = all_made(alloc, plain, |table| Ok(table.row()))?;
     let cells = all_made(alloc, plain, |table| name_cells(alloc, table.id()))?;
     known_table(alloc, Known::Tables, rows, cells)
-}
-
-// A type as it is written.
-fn type_text(alloc: Global, ty: &ColType) -> Result<CellText, AllocError>
-    ensures { IfOk result (λ t. t ≡ type_text ty.now) }
-{
-    match ty {
-        ColType::Any => CellText::copy_of(alloc, "Any"),
-        ColType::Text => CellText::copy_of(alloc, "Text"),
-        ColType::Int => CellText::copy_of(alloc, "Int"),
-        ColType::Bool => CellText::copy_of(alloc, "Bool"),
-        ColType::Date => CellText::copy_of(alloc, "Date"),
-        ColType::Ref(table) => joined(alloc, "Ref:", table),
-        ColType::RefList(table) => joined(alloc, "RefList:", table),
-    }
-}
-
-fn joined(alloc: Global, word: &str, table: &Name) -> Result<CellText, AllocError>
-    ensures { IfOk result (λ t. t ≡ word.now ++ table.now) }
-{
-    let mut text = String::from_str(alloc, word)?;
-    text.push_str(table.as_str())?;
-    Ok(CellText::from(text))
 }
 
 // Adds the cells that say what a column is.

@@ -28,7 +28,7 @@ use doc_model::{
 use row_tables::RowTables;
 use std::alloc::{AllocError, Global};
 use user_actions::refuse;
-use view_parts::{allowed_law, whole_view};
+use view_parts::{Viewer, allowed_law, whole_view};
 
 // User actions: of records and columns of `Table1`, where no table is named, a new column `D`, and
 // a new table `New` of no columns or of that one.
@@ -146,7 +146,7 @@ fn is_unrefused(alloc: Global, document: &RowTables, action: &UserAction) -> boo
     requires { IsWhole document.now }
     ensures { result ≡ true → is_allowed document.now action.now ≡ true }
 {
-    let Ok(view) = whole_view(alloc, document, true) else {
+    let Ok(view) = whole_view(alloc, document, Viewer { is_owner: true }) else {
         return false;
     };
     allowed_law();

@@ -43,7 +43,7 @@ module _ (all : List ColDef) (ys : List ViewCol) (n : ℕ) (d : ColDef) (v : Vie
   pub columns_next : (zs : List ViewCol) → zs ≡ put_by_id shown_id v ys → length zs ≡ length ys + 1 → zs ≡ by_id shown_id (map shown_column (take (length zs) all))
   columns_next zs placed longer =
       let next : n + 1 ≡ length zs = omega (arith, counts, longer) in
-      placed ∙ ap (λ w. index shown_id w ys) is ∙ ap (put_by_id shown_id (shown_column d)) before
+      placed ∙ ap (λ w. put_by_id shown_id w ys) is ∙ ap (put_by_id shown_id (shown_column d)) before
       ∙ sym (by_id-last shown_id (map shown_column (take n all)) (shown_column d) absent)
       ∙ ap (by_id shown_id) (sym (map-append shown_column (take n all) (d ∷ [])))
       ∙ ap (λ l. by_id shown_id (map shown_column l)) (sym (take_next all n d at))

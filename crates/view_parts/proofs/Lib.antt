@@ -1,16 +1,12 @@
-mod AskedLemmas
+mod RequestedLemmas
 pub mod ColumnWalk
 pub mod NameLengths
-mod PartLemmas
-mod PartLemmasCells
-mod PartLemmasChanges
 mod PartLemmasDocument
-mod PartLemmasEdits
 mod PartLemmasViews
 pub mod PlacedLemmas
 pub mod SeenLemmas
 pub mod SeenParts
 pub mod SortedRows
 pub mod TableWalk
-pub mod TouchedRows
+pub mod AffectedRows
 pub mod ViewLemmas

@@ -28,8 +28,9 @@ use Rattle.doc_model.proofs.GridLaws.{cell-grid_of}
 use Rattle.doc_model.proofs.InverseLaws.{IsWhole-apply}
 use Rattle.doc_model.proofs.RecordsLaws.{given_absent}
 use Rattle.doc_model.proofs.RowsLaws.{has-insert_rows, has-filter}
-use Rattle.view_parts.specs.Parts.{names_table, is_about, is_touched, is_row_touched}
-use Rattle.view_parts.proofs.PartLemmas.{SameRow, SameRow-itself, SameRow-trans, Both, both_itself, both_trans}
+use Rattle.plain_view.specs.PartsOfViews.{Both, SameRow}
+use Rattle.plain_view.proofs.PartLemmas.{SameRow-itself, SameRow-trans, both_itself, both_trans}
+use Rattle.view_parts.specs.Parts.{names_table, is_about, is_affected, is_row_affected}
 
 -- ---- record actions leave other rows
 
@@ -193,8 +194,8 @@ module _ (s : Document) (whole : IsWhole s) (c : List ℕ) (past : is_schema_id 
 -- ---- what actions leave of it, one after another
 
 pub record LeavesAll (actions : List DocAction) (c : List ℕ) (old now : Option Table) : Type 0 where
-  pub others : is_touched actions c ≡ false → now ≡ old
-  pub rows : (r : ℕ) → is_row_touched actions c r ≡ false → RowsAgree r old now
+  pub others : is_affected actions c ≡ false → now ≡ old
+  pub rows : (r : ℕ) → is_row_affected actions c r ≡ false → RowsAgree r old now
 
 pub apply_all_leaves : (s : Document) (actions : List DocAction) → IsWhole s → all_valid s actions ≡ true → (c : List ℕ) → is_schema_id c ≡ false → LeavesAll actions c (find_id table_id c s) (find_id table_id c (apply_all s actions))
 apply_all_leaves s [] whole v c past = record {
@@ -208,9 +209,9 @@ apply_all_leaves s (a ∷ more) whole v c past =
     let later : LeavesAll more c between (find_id table_id c (apply_all (apply s a) more)) = apply_all_leaves (apply s a) more (IsWhole-apply s a whole both.0) both.1 c past in
     record {
       others = λ no.
-          let two : (names_table a c ≡ false) × (is_touched more c ≡ false) = or_parts (names_table a c) (is_touched more c) no in
+          let two : (names_table a c ≡ false) × (is_affected more c ≡ false) = or_parts (names_table a c) (is_affected more c) no in
           later.others two.1 ∙ first.others two.0;
       rows = λ r no.
-          let two : ((names_table a c && is_about a r) ≡ false) × (is_row_touched more c r ≡ false) = or_parts (names_table a c && is_about a r) (is_row_touched more c r) no in
+          let two : ((names_table a c && is_about a r) ≡ false) × (is_row_affected more c r ≡ false) = or_parts (names_table a c && is_about a r) (is_row_affected more c r) no in
           both_trans (AreSameTables r) (λ t u w. SameRow-trans column_id r t.grid u.grid w.grid) (find_id table_id c s) between (find_id table_id c (apply_all (apply s a) more)) (first.rows r two.0) (later.rows r two.1);
     }

@@ -17,11 +17,13 @@ use Rattle.doc_model.proofs.Choices.{not_true}
 use Rattle.doc_model.proofs.ByIdsLaws.{found_id}
 use Rattle.doc_model.proofs.GridLaws.{cell-grid_of}
 use Rattle.doc_model.proofs.InverseLaws.{IsWhole-apply_all}
+use Rattle.plain_view.specs.PartsOfViews.{AgreeOutside, AreSame, Both}
+use Rattle.plain_view.proofs.PartLemmas.{both_mapped}
+use Rattle.plain_view.proofs.PartLemmasChanges.{changes_same}
+use Rattle.view_parts.specs.declared.viewers.Viewer.{Viewer}
 use Rattle.view_parts.specs.PartLaws.{PartLaw}
-use Rattle.view_parts.specs.Parts.{is_touched, is_row_touched}
+use Rattle.view_parts.specs.Parts.{is_affected, is_row_affected}
 use Rattle.view_parts.specs.Shown.{is_shown, shown_column, shown_columns, shown_table, view}
-use Rattle.view_parts.proofs.PartLemmas.{Both, both_mapped}
-use Rattle.view_parts.proofs.PartLemmasChanges.{AreSame, AgreeOutside, changes_same}
 use Rattle.view_parts.proofs.PartLemmasDocument.{AreSameTables, apply_all_leaves}
 use Rattle.view_parts.proofs.ViewLemmas.{IsView-view, find-view, find-shown_columns}
 
@@ -49,32 +51,32 @@ shown_same r t u same =
           ∙ sym (cell-grid_of shown_id (shown_columns u) u.grid.rows (λ d r. cell column_id u.grid d.id r) d r (ap (find_id shown_id (shown_id d)) (sym columns) ∙ found) (sym same.rows ∙ here));
     }
 
-past_schema : (owner : Bool) (c : List ℕ) → is_shown owner c ≡ true → is_schema_id c ≡ false
-past_schema owner c is = not_true (is_schema_id c) (and_parts (not (is_schema_id c)) (owner || not (is_metadata_id c)) is).0
+past_schema : (viewer : Viewer) (c : List ℕ) → is_shown viewer c ≡ true → is_schema_id c ≡ false
+past_schema viewer c is = not_true (is_schema_id c) (and_parts (not (is_schema_id c)) (viewer.is_owner || not (is_metadata_id c)) is).0
 
-views_agree : (owner : Bool) (s : Document) (actions : List DocAction) → IsWhole s → all_valid s actions ≡ true → AgreeOutside (is_touched actions) (is_row_touched actions) (view owner s) (view owner (apply_all s actions))
-views_agree owner s actions whole v =
+views_agree : (viewer : Viewer) (s : Document) (actions : List DocAction) → IsWhole s → all_valid s actions ≡ true → AgreeOutside (is_affected actions) (is_row_affected actions) (view viewer s) (view viewer (apply_all s actions))
+views_agree viewer s actions whole v =
     let now : Document = apply_all s actions in
     let still : IsWhole now = IsWhole-apply_all s actions whole v in
     record {
       others = λ c no.
-          find-view owner now still c
-          ∙ elim (is_shown owner c) as (λ b. is_shown owner c ≡ b → option_map shown_table (cond b (find_id table_id c now) None) ≡ option_map shown_table (cond b (find_id table_id c s) None)) [
-            | true ↦ λ is. ap (option_map shown_table) ((apply_all_leaves s actions whole v c (past_schema owner c is)).others no)
+          find-view viewer now still c
+          ∙ elim (is_shown viewer c) as (λ b. is_shown viewer c ≡ b → option_map shown_table (cond b (find_id table_id c now) None) ≡ option_map shown_table (cond b (find_id table_id c s) None)) [
+            | true ↦ λ is. ap (option_map shown_table) ((apply_all_leaves s actions whole v c (past_schema viewer c is)).others no)
             | false ↦ λ _. refl
           ] refl
-          ∙ sym (find-view owner s whole c);
+          ∙ sym (find-view viewer s whole c);
       rows = λ c r no.
-          subst (λ o. Both (AreSame r) o (find_id shown_table_id c (view owner now))) (sym (find-view owner s whole c))
-          (subst (λ o. Both (AreSame r) (option_map shown_table (cond (is_shown owner c) (find_id table_id c s) None)) o) (sym (find-view owner now still c))
-          (elim (is_shown owner c) as (λ b. is_shown owner c ≡ b → Both (AreSame r) (option_map shown_table (cond b (find_id table_id c s) None)) (option_map shown_table (cond b (find_id table_id c now) None))) [
-            | true ↦ λ is. both_mapped (AreSameTables r) (AreSame r) shown_table (shown_same r) (find_id table_id c s) (find_id table_id c now) ((apply_all_leaves s actions whole v c (past_schema owner c is)).rows r no)
+          subst (λ o. Both (AreSame r) o (find_id shown_table_id c (view viewer now))) (sym (find-view viewer s whole c))
+          (subst (λ o. Both (AreSame r) (option_map shown_table (cond (is_shown viewer c) (find_id table_id c s) None)) o) (sym (find-view viewer now still c))
+          (elim (is_shown viewer c) as (λ b. is_shown viewer c ≡ b → Both (AreSame r) (option_map shown_table (cond b (find_id table_id c s) None)) (option_map shown_table (cond b (find_id table_id c now) None))) [
+            | true ↦ λ is. both_mapped (AreSameTables r) (AreSame r) shown_table (shown_same r) (find_id table_id c s) (find_id table_id c now) ((apply_all_leaves s actions whole v c (past_schema viewer c is)).rows r no)
             | false ↦ λ _. tt
           ] refl));
     }
 
-pub changes-part : PartLaw
-changes-part owner s actions whole v =
+pub changes-affected_part : PartLaw
+changes-affected_part viewer s actions whole v =
     let now : Document = apply_all s actions in
-    changes_same (is_touched actions) (is_row_touched actions) (view owner s) (view owner now)
-    (IsView-view owner s whole) (IsView-view owner now (IsWhole-apply_all s actions whole v)) (views_agree owner s actions whole v)
+    changes_same (is_affected actions) (is_row_affected actions) (view viewer s) (view viewer now)
+    (IsView-view viewer s whole) (IsView-view viewer now (IsWhole-apply_all s actions whole v)) (views_agree viewer s actions whole v)

@@ -22,7 +22,8 @@ use Rattle.doc_model.proofs.Choices.{cond_false, cond_true, each_filter, each_ma
 use Rattle.doc_model.proofs.RowsLaws.{IsAscending-filter}
 use Rattle.doc_readers.specs.Parts.{grid_at}
 use Rattle.doc_readers.proofs.ToldLemmas.{rows_ascend, rows_read}
-use Rattle.view_parts.specs.Parts.{is_row_touched}
+use Rattle.view_parts.specs.declared.viewers.Viewer.{Viewer}
+use Rattle.view_parts.specs.Parts.{is_row_affected}
 use Rattle.view_parts.specs.Shown.{is_column_shown, is_shown, rows_shown, shown_column, shown_table, view}
 use Rattle.view_parts.specs.Wanted.{cells_at, columns_of, is_wanted, rows_wanted, shown_with, table_wanted, wanted}
 use Rattle.view_parts.proofs.PlacedLemmas.{find-by_id}
@@ -37,39 +38,39 @@ find-shown c (t ∷ s) =
       | false ↦ find-shown c s
     ]
 
-kept : (owner : Bool) (s : Document) (c : List ℕ) (o : Option Table) → find_id table_id c s ≡ o
-    → option_map shown_table (keep (λ (t : Table). is_shown owner t.id) o) ≡ cond (is_shown owner c) (option_map shown_table o) None
-kept owner s c None found = elim (is_shown owner c) as (λ b. ◌≡◌ {A = Option ViewTable} None (cond b None None)) [ true ↦ refl | false ↦ refl ]
-kept owner s c (Some t) found =
-    ap (λ i. option_map shown_table (cond (is_shown owner i) (Some t) None)) (found_id table_id c s t found)
-    ∙ elim (is_shown owner c) as (λ b. option_map shown_table (cond b (Some t) None) ≡ cond b (Some (shown_table t)) None) [ true ↦ refl | false ↦ refl ]
+kept : (viewer : Viewer) (s : Document) (c : List ℕ) (o : Option Table) → find_id table_id c s ≡ o
+    → option_map shown_table (keep (λ (t : Table). is_shown viewer t.id) o) ≡ cond (is_shown viewer c) (option_map shown_table o) None
+kept viewer s c None found = elim (is_shown viewer c) as (λ b. ◌≡◌ {A = Option ViewTable} None (cond b None None)) [ true ↦ refl | false ↦ refl ]
+kept viewer s c (Some t) found =
+    ap (λ i. option_map shown_table (cond (is_shown viewer i) (Some t) None)) (found_id table_id c s t found)
+    ∙ elim (is_shown viewer c) as (λ b. option_map shown_table (cond b (Some t) None) ≡ cond b (Some (shown_table t)) None) [ true ↦ refl | false ↦ refl ]
 
 -- an id finds a table of the document where it is seen
-pub find_seen : (owner : Bool) (s : Document) → IsWhole s → (c : List ℕ) → find_id shown_table_id c (view owner s) ≡ cond (is_shown owner c) (option_map shown_table (find_id table_id c s)) None
-find_seen owner s whole c =
-    let seen : Table → Bool = λ t. is_shown owner t.id in
+pub find_seen : (viewer : Viewer) (s : Document) → IsWhole s → (c : List ℕ) → find_id shown_table_id c (view viewer s) ≡ cond (is_shown viewer c) (option_map shown_table (find_id table_id c s)) None
+find_seen viewer s whole c =
+    let seen : Table → Bool = λ t. is_shown viewer t.id in
     find-by_id shown_table_id c (map shown_table (filter seen s))
     ∙ find-shown c (filter seen s)
     ∙ ap (option_map shown_table) (find-filtered table_id seen c s whole.sound.distinct)
-    ∙ kept owner s c (find_id table_id c s) refl
+    ∙ kept viewer s c (find_id table_id c s) refl
 
 -- the rows of a table of a view
 abbrev rows_of_found : Option ViewTable → Option (List ℕ)
 rows_of_found o = elim o [ None ↦ None | Some t ↦ Some t.rows ]
 
-pub rows_hidden : (owner : Bool) (s : Document) → IsWhole s → (c : List ℕ) → is_shown owner c ≡ false → rows_shown (view owner s) c ≡ None
-rows_hidden owner s whole c hidden =
-    ap rows_of_found (find_seen owner s whole c ∙ cond_false (is_shown owner c) (option_map shown_table (find_id table_id c s)) None hidden)
+pub rows_hidden : (viewer : Viewer) (s : Document) → IsWhole s → (c : List ℕ) → is_shown viewer c ≡ false → rows_shown (view viewer s) c ≡ None
+rows_hidden viewer s whole c hidden =
+    ap rows_of_found (find_seen viewer s whole c ∙ cond_false (is_shown viewer c) (option_map shown_table (find_id table_id c s)) None hidden)
 
-pub rows_seen : (owner : Bool) (s : Document) → IsWhole s → (c : List ℕ) → is_shown owner c ≡ true → rows_shown (view owner s) c ≡ rows_at s c
-rows_seen owner s whole c seen =
-    ap rows_of_found (find_seen owner s whole c ∙ cond_true (is_shown owner c) (option_map shown_table (find_id table_id c s)) None seen)
+pub rows_seen : (viewer : Viewer) (s : Document) → IsWhole s → (c : List ℕ) → is_shown viewer c ≡ true → rows_shown (view viewer s) c ≡ rows_at s c
+rows_seen viewer s whole c seen =
+    ap rows_of_found (find_seen viewer s whole c ∙ cond_true (is_shown viewer c) (option_map shown_table (find_id table_id c s)) None seen)
     ∙ elim (find_id table_id c s) as (λ (o : Option Table). rows_of_found (option_map shown_table o) ≡ elim o as (λ _. Option (List ℕ)) [ None ↦ None | Some t ↦ Some t.grid.rows ]) [ None ↦ refl | Some t ↦ refl ]
 
-pub rows_told_seen : (owner : Bool) (s : Document) → IsWhole s → (c : List ℕ) (o : Option (Bor (List ℕ))) → is_shown owner c ≡ true
+pub rows_told_seen : (viewer : Viewer) (s : Document) → IsWhole s → (c : List ℕ) (o : Option (Bor (List ℕ))) → is_shown viewer c ≡ true
     → MatchOption o (rows_at s c ≡ None) (λ rows. rows_at s c ≡ Some rows.now)
-    → MatchOption o (rows_shown (view owner s) c ≡ None) (λ rows. rows_shown (view owner s) c ≡ Some rows.now)
-rows_told_seen owner s whole c o seen told = subst (λ r. MatchOption o (r ≡ None) (λ rows. r ≡ Some rows.now)) (sym (rows_seen owner s whole c seen)) told
+    → MatchOption o (rows_shown (view viewer s) c ≡ None) (λ rows. rows_shown (view viewer s) c ≡ Some rows.now)
+rows_told_seen viewer s whole c o seen told = subst (λ r. MatchOption o (r ≡ None) (λ rows. r ≡ Some rows.now)) (sym (rows_seen viewer s whole c seen)) told
 
 pub rows_told_ascend : (s : Document) → IsWhole s → (c : List ℕ) (o : Option (Bor (List ℕ)))
     → MatchOption o (rows_at s c ≡ None) (λ rows. rows_at s c ≡ Some rows.now) → IfSome o (λ rows. IsAscending rows.now)
@@ -81,13 +82,13 @@ rows_told_ascend s whole c (Some rows) told = subst IsAscending (sym (rows_read 
 abbrev has_found_column : List ℕ → Option ViewTable → Bool
 has_found_column column o = elim o [ None ↦ false | Some t ↦ has_id shown_id t.columns column ]
 
-pub column_hidden : (owner : Bool) (s : Document) → IsWhole s → (c column : List ℕ) → is_shown owner c ≡ false → is_column_shown (view owner s) c column ≡ false
-column_hidden owner s whole c column hidden =
-    ap (has_found_column column) (find_seen owner s whole c ∙ cond_false (is_shown owner c) (option_map shown_table (find_id table_id c s)) None hidden)
+pub column_hidden : (viewer : Viewer) (s : Document) → IsWhole s → (c column : List ℕ) → is_shown viewer c ≡ false → is_column_shown (view viewer s) c column ≡ false
+column_hidden viewer s whole c column hidden =
+    ap (has_found_column column) (find_seen viewer s whole c ∙ cond_false (is_shown viewer c) (option_map shown_table (find_id table_id c s)) None hidden)
 
-pub column_seen : (owner : Bool) (s : Document) → IsWhole s → (c column : List ℕ) → is_shown owner c ≡ true → is_column_shown (view owner s) c column ≡ has_id column_id (grid_at s c).columns column
-column_seen owner s whole c column seen =
-    ap (has_found_column column) (find_seen owner s whole c ∙ cond_true (is_shown owner c) (option_map shown_table (find_id table_id c s)) None seen)
+pub column_seen : (viewer : Viewer) (s : Document) → IsWhole s → (c column : List ℕ) → is_shown viewer c ≡ true → is_column_shown (view viewer s) c column ≡ has_id column_id (grid_at s c).columns column
+column_seen viewer s whole c column seen =
+    ap (has_found_column column) (find_seen viewer s whole c ∙ cond_true (is_shown viewer c) (option_map shown_table (find_id table_id c s)) None seen)
     ∙ elim (find_id table_id c s) as (λ (o : Option Table). has_found_column column (option_map shown_table o) ≡ has_id column_id (elim o as (λ _. Grid ColDef) [ None ↦ no_grid | Some t ↦ t.grid ]).columns column) [
       | None ↦ refl
       | Some t ↦ has_id-by_id shown_id (map shown_column t.grid.columns) column ∙ has_id-map shown_id shown_column t.grid.columns column
@@ -111,11 +112,11 @@ IsShown-shown_with id g rows ascends =
 
 wanted_ascend : (o : Option (List DocAction)) (id rows : List ℕ) → IsAscending rows → IsAscending (rows_wanted o id rows)
 wanted_ascend None id rows ascends = ascends
-wanted_ascend (Some actions) id rows ascends = IsAscending-filter (is_row_touched actions id) rows ascends
+wanted_ascend (Some actions) id rows ascends = IsAscending-filter (is_row_affected actions id) rows ascends
 
-pub IsView-wanted : (owner : Bool) (o : Option (List DocAction)) (s : Document) → IsWhole s → IsView (wanted owner o s)
-IsView-wanted owner o s whole =
-    let some : Table → Bool = λ t. is_wanted o t.id && is_shown owner t.id in
+pub IsView-wanted : (viewer : Viewer) (o : Option (List DocAction)) (s : Document) → IsWhole s → IsView (wanted viewer o s)
+IsView-wanted viewer o s whole =
+    let some : Table → Bool = λ t. is_wanted o t.id && is_shown viewer t.id in
     record {
       by_ids = IsByIds-by_id shown_table_id (map (table_wanted o) (filter some s));
       tables = each_by_id shown_table_id (λ (t : ViewTable). IsShown (grid t)) (map (table_wanted o) (filter some s))

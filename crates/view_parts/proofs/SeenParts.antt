@@ -20,13 +20,15 @@ use Rattle.doc_model.proofs.ByRowLaws.{AreDistinct-filter}
 use Rattle.doc_model.proofs.Choices.{each_mapped, each_weaker, filter_none, keep, map_each, map-map}
 use Rattle.doc_model.proofs.RowsLaws.{IsAscending-filter}
 use Rattle.doc_readers.specs.Parts.{grid_at}
+use Rattle.plain_view.specs.PartsOfViews.{passing, passing_cells}
 use Rattle.user_actions.specs.Kinds.{table_of}
-use Rattle.view_parts.specs.Parts.{asked, is_row_touched, is_touched, part, passing, passing_cells, rows_asked}
+use Rattle.view_parts.specs.declared.viewers.Viewer.{Viewer}
+use Rattle.view_parts.specs.Parts.{requested_part, is_row_affected, is_affected, affected_part, rows_requested}
 use Rattle.view_parts.specs.Shown.{is_shown, shown_table, view}
 use Rattle.view_parts.specs.Wanted.{cells_at, columns_of, shown_with, table_wanted, wanted}
 use Rattle.view_parts.proofs.PlacedLemmas.{find-by_id}
 use Rattle.view_parts.proofs.SeenLemmas.{find_seen, IsView-one}
-use Rattle.view_parts.proofs.TouchedRows.{everywhere}
+use Rattle.view_parts.proofs.AffectedRows.{everywhere}
 
 -- ---- rows that pass
 
@@ -112,72 +114,72 @@ module _ (test : List ℕ → ℕ → Bool) where
 
 -- ---- the part that actions are about
 
-pub wanted_all : (owner : Bool) (s : Document) → wanted owner None s ≡ view owner s
-wanted_all owner s = refl
+pub wanted_all : (viewer : Viewer) (s : Document) → wanted viewer None s ≡ view viewer s
+wanted_all viewer s = refl
 
-pub wanted_touched : (owner : Bool) (actions : List DocAction) (s : Document) → IsWhole s → wanted owner (Some actions) s ≡ part actions (view owner s)
-wanted_touched owner actions s whole =
-    let seen : Table → Bool = λ t. is_shown owner t.id in
-    let touched : Table → Bool = λ t. is_touched actions t.id in
-    let told : ViewTable → Bool = λ t. is_touched actions t.id in
+pub wanted_affected : (viewer : Viewer) (actions : List DocAction) (s : Document) → IsWhole s → wanted viewer (Some actions) s ≡ affected_part actions (view viewer s)
+wanted_affected viewer actions s whole =
+    let seen : Table → Bool = λ t. is_shown viewer t.id in
+    let affected : Table → Bool = λ t. is_affected actions t.id in
+    let told : ViewTable → Bool = λ t. is_affected actions t.id in
     let shown : List Table = filter seen s in
-    let cut : ViewTable → ViewTable = λ t. passing (is_row_touched actions t.id) t in
+    let cut : ViewTable → ViewTable = λ t. passing (is_row_affected actions t.id) t in
     sym (
     ap (map cut) (
     filter-by_id shown_table_id told (map shown_table shown) (AreDistinct-shown shown (AreDistinct-filter table_id seen s whole.sound.distinct))
-    ∙ ap (by_id shown_table_id) (filter-map told shown_table shown ∙ ap (map shown_table) (filter-filter touched seen s)))
-    ∙ map-by_id (is_row_touched actions) (map shown_table (filter (λ t. touched t && seen t) s))
+    ∙ ap (by_id shown_table_id) (filter-map told shown_table shown ∙ ap (map shown_table) (filter-filter affected seen s)))
+    ∙ map-by_id (is_row_affected actions) (map shown_table (filter (λ t. affected t && seen t) s))
     ∙ ap (by_id shown_table_id) (
-    sym (map-map cut shown_table (filter (λ t. touched t && seen t) s))
-    ∙ map_each (λ t. cut (shown_table t)) (table_wanted (Some actions)) (filter (λ t. touched t && seen t) s)
-    (everywhere (λ (t : Table). cut (shown_table t) ≡ table_wanted (Some actions) t) (λ t. passing-shown (is_row_touched actions t.id) t) (filter (λ t. touched t && seen t) s))))
+    sym (map-map cut shown_table (filter (λ t. affected t && seen t) s))
+    ∙ map_each (λ t. cut (shown_table t)) (table_wanted (Some actions)) (filter (λ t. affected t && seen t) s)
+    (everywhere (λ (t : Table). cut (shown_table t) ≡ table_wanted (Some actions) t) (λ t. passing-shown (is_row_affected actions t.id) t) (filter (λ t. affected t && seen t) s))))
 
--- ---- the part that a user action asks for
+-- ---- the part that a user action requests
 
-asked_found : (owner : Bool) (s : Document) → IsWhole s → (a : UserAction)
-    → asked a (view owner s) ≡ map (passing (has (rows_asked a))) (option_to_list (cond (is_shown owner (table_of a)) (option_map shown_table (find_id table_id (table_of a) s)) None))
-asked_found owner s whole a =
-    ap (map (passing (has (rows_asked a)))) (
-    filter-one shown_table_id (table_of a) (view owner s) (IsByIds-by_id shown_table_id (map shown_table (filter (λ (t : Table). is_shown owner t.id) s)))
-    ∙ ap option_to_list (find_seen owner s whole (table_of a)))
+requested_found : (viewer : Viewer) (s : Document) → IsWhole s → (a : UserAction)
+    → requested_part a (view viewer s) ≡ map (passing (has (rows_requested a))) (option_to_list (cond (is_shown viewer (table_of a)) (option_map shown_table (find_id table_id (table_of a) s)) None))
+requested_found viewer s whole a =
+    ap (map (passing (has (rows_requested a)))) (
+    filter-one shown_table_id (table_of a) (view viewer s) (IsByIds-by_id shown_table_id (map shown_table (filter (λ (t : Table). is_shown viewer t.id) s)))
+    ∙ ap option_to_list (find_seen viewer s whole (table_of a)))
 
-pub asked_hidden : (owner : Bool) (s : Document) → IsWhole s → (a : UserAction) → is_shown owner (table_of a) ≡ false → [] ≡ asked a (view owner s)
-asked_hidden owner s whole a hidden =
-    sym (asked_found owner s whole a
-    ∙ ap (λ b. map (passing (has (rows_asked a))) (option_to_list (cond b (option_map shown_table (find_id table_id (table_of a) s)) None))) hidden)
+pub requested_hidden : (viewer : Viewer) (s : Document) → IsWhole s → (a : UserAction) → is_shown viewer (table_of a) ≡ false → [] ≡ requested_part a (view viewer s)
+requested_hidden viewer s whole a hidden =
+    sym (requested_found viewer s whole a
+    ∙ ap (λ b. map (passing (has (rows_requested a))) (option_to_list (cond b (option_map shown_table (find_id table_id (table_of a) s)) None))) hidden)
 
-pub asked_nowhere : (owner : Bool) (s : Document) → IsWhole s → (a : UserAction) → find_id table_id (table_of a) s ≡ None → [] ≡ asked a (view owner s)
-asked_nowhere owner s whole a none =
-    sym (asked_found owner s whole a
-    ∙ ap (λ o. map (passing (has (rows_asked a))) (option_to_list (cond (is_shown owner (table_of a)) (option_map shown_table o) None))) none
-    ∙ elim (is_shown owner (table_of a)) as (λ b. map (passing (has (rows_asked a))) (option_to_list (cond b None None)) ≡ []) [ true ↦ refl | false ↦ refl ])
+pub requested_nowhere : (viewer : Viewer) (s : Document) → IsWhole s → (a : UserAction) → find_id table_id (table_of a) s ≡ None → [] ≡ requested_part a (view viewer s)
+requested_nowhere viewer s whole a none =
+    sym (requested_found viewer s whole a
+    ∙ ap (λ o. map (passing (has (rows_requested a))) (option_to_list (cond (is_shown viewer (table_of a)) (option_map shown_table o) None))) none
+    ∙ elim (is_shown viewer (table_of a)) as (λ b. map (passing (has (rows_requested a))) (option_to_list (cond b None None)) ≡ []) [ true ↦ refl | false ↦ refl ])
 
-pub asked_absent : (owner : Bool) (s : Document) → IsWhole s → (a : UserAction) → has_id table_id s (table_of a) ≡ false → [] ≡ asked a (view owner s)
-asked_absent owner s whole a none = asked_nowhere owner s whole a (find_absent table_id (table_of a) s none)
+pub requested_absent : (viewer : Viewer) (s : Document) → IsWhole s → (a : UserAction) → has_id table_id s (table_of a) ≡ false → [] ≡ requested_part a (view viewer s)
+requested_absent viewer s whole a none = requested_nowhere viewer s whole a (find_absent table_id (table_of a) s none)
 
-pub asked_seen : (owner : Bool) (s : Document) → IsWhole s → (a : UserAction) → is_shown owner (table_of a) ≡ true → has_id table_id s (table_of a) ≡ true
-    → shown_with (table_of a) (grid_at s (table_of a)) (filter (has (rows_asked a)) (grid_at s (table_of a)).rows) ∷ [] ≡ asked a (view owner s)
-asked_seen owner s whole a seen there =
+pub requested_seen : (viewer : Viewer) (s : Document) → IsWhole s → (a : UserAction) → is_shown viewer (table_of a) ≡ true → has_id table_id s (table_of a) ≡ true
+    → shown_with (table_of a) (grid_at s (table_of a)) (filter (has (rows_requested a)) (grid_at s (table_of a)).rows) ∷ [] ≡ requested_part a (view viewer s)
+requested_seen viewer s whole a seen there =
     let f : (t : Table) × (find_id table_id (table_of a) s ≡ Some t) = found_has table_id (table_of a) s there in
     let t : Table = f.0 in
     let its : grid_at s (table_of a) ≡ t.grid = ap (λ (o : Option Table). elim o as (λ _. Grid ColDef) [ None ↦ no_grid | Some t ↦ t.grid ]) f.1 in
-    ap (λ g. shown_with (table_of a) g (filter (has (rows_asked a)) g.rows) ∷ []) its
-    ∙ ap (λ i. shown_with i t.grid (filter (has (rows_asked a)) t.grid.rows) ∷ []) (sym (found_id table_id (table_of a) s t f.1))
-    ∙ ap (λ w. w ∷ []) (sym (passing-shown (has (rows_asked a)) t))
-    ∙ sym (asked_found owner s whole a
-    ∙ ap (λ b. map (passing (has (rows_asked a))) (option_to_list (cond b (option_map shown_table (find_id table_id (table_of a) s)) None))) seen
-    ∙ ap (λ o. map (passing (has (rows_asked a))) (option_to_list (option_map shown_table o))) f.1)
+    ap (λ g. shown_with (table_of a) g (filter (has (rows_requested a)) g.rows) ∷ []) its
+    ∙ ap (λ i. shown_with i t.grid (filter (has (rows_requested a)) t.grid.rows) ∷ []) (sym (found_id table_id (table_of a) s t f.1))
+    ∙ ap (λ w. w ∷ []) (sym (passing-shown (has (rows_requested a)) t))
+    ∙ sym (requested_found viewer s whole a
+    ∙ ap (λ b. map (passing (has (rows_requested a))) (option_to_list (cond b (option_map shown_table (find_id table_id (table_of a) s)) None))) seen
+    ∙ ap (λ o. map (passing (has (rows_requested a))) (option_to_list (option_map shown_table o))) f.1)
 
--- the table that was made of the rows that are asked for
-module _ (owner : Bool) (s : Document) (whole : IsWhole s) (a : UserAction) (id wanted told rows seen : List ℕ) (t : ViewTable)
+-- the table that was made of the rows that are requested
+module _ (viewer : Viewer) (s : Document) (whole : IsWhole s) (a : UserAction) (id wanted told rows seen : List ℕ) (t : ViewTable)
     (ascends : IsAscending told) (kept : rows ≡ filter (has wanted) told) (read : seen ≡ rows) (made : t ≡ shown_with id (grid_at s id) seen) where
-  pub asked_made : id ≡ table_of a → is_shown owner id ≡ true → has_id table_id s id ≡ true → told ≡ (grid_at s id).rows → wanted ≡ rows_asked a → t ∷ [] ≡ asked a (view owner s)
-  asked_made named shown there its named_rows =
-      ap (λ w. w ∷ []) (made ∙ ap (shown_with id (grid_at s id)) (read ∙ kept ∙ ap (λ l. filter (has l) told) named_rows ∙ ap (filter (has (rows_asked a))) its))
-      ∙ ap (λ i. shown_with i (grid_at s i) (filter (has (rows_asked a)) (grid_at s i).rows) ∷ []) named
-      ∙ asked_seen owner s whole a (ap (is_shown owner) (sym named) ∙ shown) (ap (has_id table_id s) (sym named) ∙ there)
+  pub requested_made : id ≡ table_of a → is_shown viewer id ≡ true → has_id table_id s id ≡ true → told ≡ (grid_at s id).rows → wanted ≡ rows_requested a → t ∷ [] ≡ requested_part a (view viewer s)
+  requested_made named shown there its named_rows =
+      ap (λ w. w ∷ []) (made ∙ ap (shown_with id (grid_at s id)) (read ∙ kept ∙ ap (λ l. filter (has l) told) named_rows ∙ ap (filter (has (rows_requested a))) its))
+      ∙ ap (λ i. shown_with i (grid_at s i) (filter (has (rows_requested a)) (grid_at s i).rows) ∷ []) named
+      ∙ requested_seen viewer s whole a (ap (is_shown viewer) (sym named) ∙ shown) (ap (has_id table_id s) (sym named) ∙ there)
 
-  pub asked_is_view : IsView (t ∷ [])
-  asked_is_view =
+  pub requested_is_view : IsView (t ∷ [])
+  requested_is_view =
       subst (λ w. IsView (w ∷ [])) (sym made)
       (IsView-one id (grid_at s id) seen (subst IsAscending (sym (read ∙ kept)) (IsAscending-filter (has wanted) told ascends)))

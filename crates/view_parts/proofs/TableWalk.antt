@@ -14,6 +14,7 @@ use Rattle.doc_model.specs.Schema.{no_grid}
 use Rattle.doc_model.proofs.ByIdsLaws.{has_id-by_id, has_id-map}
 use Rattle.doc_model.proofs.Choices.{length_map}
 use Rattle.doc_readers.specs.Parts.{grid_at}
+use Rattle.view_parts.specs.declared.viewers.Viewer.{Viewer}
 use Rattle.view_parts.specs.Shown.{is_shown}
 use Rattle.view_parts.specs.Wanted.{is_wanted, rows_wanted, shown_with, table_wanted, wanted}
 use Rattle.view_parts.proofs.PlacedLemmas.{absent-filter, absent_before, by_id-last, found_at, take_next}
@@ -31,27 +32,27 @@ take_whole (x ∷ xs) zero e = absurd (omega (arith, e))
 take_whole (x ∷ xs) (suc n) e = ap (λ l. x ∷ l) (take_whole xs n (omega (arith, e)))
 
 -- whether a table is wanted and seen
-abbrev pub is_taken : Bool → Option (List DocAction) → Table → Bool
-is_taken owner o t = is_wanted o t.id && is_shown owner t.id
+abbrev pub is_taken : Viewer → Option (List DocAction) → Table → Bool
+is_taken viewer o t = is_wanted o t.id && is_shown viewer t.id
 
 -- the first so many tables, as far as they are wanted and seen
-abbrev pub taken : Bool → Option (List DocAction) → Document → ℕ → List ViewTable
-taken owner o s k = by_id shown_table_id (map (table_wanted o) (filter (is_taken owner o) (take k s)))
+abbrev pub taken : Viewer → Option (List DocAction) → Document → ℕ → List ViewTable
+taken viewer o s k = by_id shown_table_id (map (table_wanted o) (filter (is_taken viewer o) (take k s)))
 
-module _ (owner : Bool) (o : Option (List DocAction)) (s : Document) (whole : IsWhole s) (ids : List (List ℕ)) (k : ℕ) (id : List ℕ) (ys : List ViewTable) (named : ids ≡ map table_id s) (lt : k < length ids) (at : id ≡ get_or ids k id) (so : ys ≡ taken owner o s k) where
+module _ (viewer : Viewer) (o : Option (List DocAction)) (s : Document) (whole : IsWhole s) (ids : List (List ℕ)) (k : ℕ) (id : List ℕ) (ys : List ViewTable) (named : ids ≡ map table_id s) (lt : k < length ids) (at : id ≡ get_or ids k id) (so : ys ≡ taken viewer o s k) where
   here : (t : Table) × (slice_get s k ≡ Some t) × (id ≡ t.id)
   here = named_at s k id id (omega (arith, lt, ap length named)) (at ∙ ap (λ l. get_or l k id) named)
 
-  absent : has_id shown_table_id (map (table_wanted o) (filter (is_taken owner o) (take k s))) here.0.id ≡ false
+  absent : has_id shown_table_id (map (table_wanted o) (filter (is_taken viewer o) (take k s))) here.0.id ≡ false
   absent =
-      has_id-map shown_table_id (table_wanted o) (filter (is_taken owner o) (take k s)) here.0.id
-      ∙ absent-filter table_id (is_taken owner o) (take k s) here.0.id (absent_before table_id s k here.0 whole.sound.distinct here.1)
+      has_id-map shown_table_id (table_wanted o) (filter (is_taken viewer o) (take k s)) here.0.id
+      ∙ absent-filter table_id (is_taken viewer o) (take k s) here.0.id (absent_before table_id s k here.0 whole.sound.distinct here.1)
 
   pub table_new : has_id shown_table_id ys id ≡ false
   table_new =
       ap (λ l. has_id shown_table_id l id) so
-      ∙ ap (has_id shown_table_id (taken owner o s k)) here.2
-      ∙ has_id-by_id shown_table_id (map (table_wanted o) (filter (is_taken owner o) (take k s))) here.0.id
+      ∙ ap (has_id shown_table_id (taken viewer o s k)) here.2
+      ∙ has_id-by_id shown_table_id (map (table_wanted o) (filter (is_taken viewer o) (take k s))) here.0.id
       ∙ absent
 
   built : shown_with id (grid_at s id) (rows_wanted o id (grid_at s id).rows) ≡ table_wanted o here.0
@@ -61,21 +62,21 @@ module _ (owner : Bool) (o : Option (List DocAction)) (s : Document) (whole : Is
       ap (λ i. shown_with i (grid_at s i) (rows_wanted o i (grid_at s i).rows)) here.2
       ∙ ap (λ g. shown_with t.id g (rows_wanted o t.id g.rows)) its
 
-  pub tables_next : (zs : List ViewTable) → zs ≡ cond (is_wanted o id && is_shown owner id) (put_by_id shown_table_id (shown_with id (grid_at s id) (rows_wanted o id (grid_at s id).rows)) ys) ys → zs ≡ taken owner o s (k + 1)
+  pub tables_next : (zs : List ViewTable) → zs ≡ cond (is_wanted o id && is_shown viewer id) (put_by_id shown_table_id (shown_with id (grid_at s id) (rows_wanted o id (grid_at s id).rows)) ys) ys → zs ≡ taken viewer o s (k + 1)
   tables_next zs made =
       let t : Table = here.0 in
-      let before : List Table = filter (is_taken owner o) (take k s) in
+      let before : List Table = filter (is_taken viewer o) (take k s) in
       made
-      ∙ ap (λ i. cond (is_wanted o i && is_shown owner i) (put_by_id shown_table_id (shown_with id (grid_at s id) (rows_wanted o id (grid_at s id).rows)) ys) ys) here.2
-      ∙ ap (λ w. cond (is_taken owner o t) (put_by_id shown_table_id w ys) ys) built
-      ∙ ap (λ l. cond (is_taken owner o t) (put_by_id shown_table_id (table_wanted o t) l) l) so
-      ∙ elim (is_taken owner o t) as (λ b. cond b (put_by_id shown_table_id (table_wanted o t) (taken owner o s k)) (taken owner o s k) ≡ by_id shown_table_id (map (table_wanted o) (before ++ cond b (t ∷ []) []))) [
+      ∙ ap (λ i. cond (is_wanted o i && is_shown viewer i) (put_by_id shown_table_id (shown_with id (grid_at s id) (rows_wanted o id (grid_at s id).rows)) ys) ys) here.2
+      ∙ ap (λ w. cond (is_taken viewer o t) (put_by_id shown_table_id w ys) ys) built
+      ∙ ap (λ l. cond (is_taken viewer o t) (put_by_id shown_table_id (table_wanted o t) l) l) so
+      ∙ elim (is_taken viewer o t) as (λ b. cond b (put_by_id shown_table_id (table_wanted o t) (taken viewer o s k)) (taken viewer o s k) ≡ by_id shown_table_id (map (table_wanted o) (before ++ cond b (t ∷ []) []))) [
         | true ↦ sym (by_id-last shown_table_id (map (table_wanted o) before) (table_wanted o t) absent) ∙ ap (by_id shown_table_id) (sym (map-append (table_wanted o) before (t ∷ [])))
         | false ↦ ap (λ l. by_id shown_table_id (map (table_wanted o) l)) (sym (append-nil before))
       ]
-      ∙ ap (λ l. by_id shown_table_id (map (table_wanted o) l)) (sym (filter-append (is_taken owner o) (take k s) (t ∷ [])))
-      ∙ ap (λ l. by_id shown_table_id (map (table_wanted o) (filter (is_taken owner o) l))) (sym (take_next s k t here.1))
+      ∙ ap (λ l. by_id shown_table_id (map (table_wanted o) l)) (sym (filter-append (is_taken viewer o) (take k s) (t ∷ [])))
+      ∙ ap (λ l. by_id shown_table_id (map (table_wanted o) (filter (is_taken viewer o) l))) (sym (take_next s k t here.1))
 
-pub tables_end : (owner : Bool) (o : Option (List DocAction)) (s : Document) (ids : List (List ℕ)) (k : ℕ) (ys : List ViewTable) → ids ≡ map table_id s → k ≡ length ids → ys ≡ taken owner o s k → ys ≡ wanted owner o s
-tables_end owner o s ids k ys named all so =
-    so ∙ ap (λ l. by_id shown_table_id (map (table_wanted o) (filter (is_taken owner o) l))) (take_whole s k (all ∙ ap length named ∙ length_map table_id s))
+pub tables_end : (viewer : Viewer) (o : Option (List DocAction)) (s : Document) (ids : List (List ℕ)) (k : ℕ) (ys : List ViewTable) → ids ≡ map table_id s → k ≡ length ids → ys ≡ taken viewer o s k → ys ≡ wanted viewer o s
+tables_end viewer o s ids k ys named all so =
+    so ∙ ap (λ l. by_id shown_table_id (map (table_wanted o) (filter (is_taken viewer o) l))) (take_whole s k (all ∙ ap length named ∙ length_map table_id s))

@@ -15,6 +15,7 @@ use Rattle.doc_model.proofs.ByIdsLaws.{found_id, found_all, find-put_by_id, IsBy
 use Rattle.doc_model.proofs.GridLaws.{IsGrid-grid_of}
 use Rattle.doc_model.proofs.RowsLaws.{all_in_itself}
 use Rattle.user_actions.specs.Unopposed.{IsColumnOf, IsTableOf}
+use Rattle.view_parts.specs.declared.viewers.Viewer.{Viewer}
 use Rattle.view_parts.specs.Shown.{is_shown, shown_column, shown_columns, shown_table, view}
 
 -- ---- a view of a whole document is a view
@@ -27,14 +28,14 @@ IsShown-shown t sound = record {
       sound.is_grid.ascending;
 }
 
-pub IsView-view : (owner : Bool) (s : Document) → IsWhole s → IsView (view owner s)
-IsView-view owner s whole =
-    let shown : List Table = filter (λ (t : Table). is_shown owner t.id) s in
+pub IsView-view : (viewer : Viewer) (s : Document) → IsWhole s → IsView (view viewer s)
+IsView-view viewer s whole =
+    let shown : List Table = filter (λ (t : Table). is_shown viewer t.id) s in
     record {
       by_ids = IsByIds-by_id shown_table_id (map shown_table shown);
       tables = each_by_id shown_table_id (λ t. IsShown (grid t)) (map shown_table shown)
           (each_mapped (λ t. IsShown (grid t)) shown_table shown
-          (each_filter (λ t. IsShown (grid (shown_table t))) (λ (t : Table). is_shown owner t.id) s
+          (each_filter (λ t. IsShown (grid (shown_table t))) (λ (t : Table). is_shown viewer t.id) s
           (each_weaker (λ t. IsSoundGrid t.grid) (λ t. IsShown (grid (shown_table t))) IsShown-shown s whole.sound.grids)));
     }
 
@@ -47,12 +48,12 @@ columns_of t sound =
     (each_found column_id (λ d. IsColumnOf t (shown_column d)) t.grid.columns sound.is_grid.distinct
     (λ d found. record { column = d; found = found; same_type = refl; same_kind = refl })))
 
-pub each_table_of : (owner : Bool) (s : Document) → IsWhole s → AllByRecursion (IsTableOf s) (view owner s)
-each_table_of owner s whole =
-    let shown : List Table = filter (λ (t : Table). is_shown owner t.id) s in
+pub each_table_of : (viewer : Viewer) (s : Document) → IsWhole s → AllByRecursion (IsTableOf s) (view viewer s)
+each_table_of viewer s whole =
+    let shown : List Table = filter (λ (t : Table). is_shown viewer t.id) s in
     each_by_id shown_table_id (IsTableOf s) (map shown_table shown)
     (each_mapped (IsTableOf s) shown_table shown
-    (each_filter (λ t. IsTableOf s (shown_table t)) (λ (t : Table). is_shown owner t.id) s
+    (each_filter (λ t. IsTableOf s (shown_table t)) (λ (t : Table). is_shown viewer t.id) s
     (each_found table_id (λ t. IsTableOf s (shown_table t)) s whole.sound.distinct
     (λ t found. record {
       table = t;
@@ -82,14 +83,14 @@ pub keep_by_id : {X : Type 0} (id : X → List ℕ) (p : List ℕ → Bool) (c :
 keep_by_id {X = X} id p c None named = elim (p c) as (λ b. ◌≡◌ {A = Option X} None (cond b None None)) [ true ↦ refl | false ↦ refl ]
 keep_by_id id p c (Some x) named = ap (λ n. cond (p n) (Some x) None) (named x refl)
 
-pub find-view : (owner : Bool) (s : Document) → IsWhole s → (c : List ℕ) → find_id shown_table_id c (view owner s) ≡ option_map shown_table (cond (is_shown owner c) (find_id table_id c s) None)
-find-view owner s whole c =
-    let shown : List Table = filter (λ (t : Table). is_shown owner t.id) s in
+pub find-view : (viewer : Viewer) (s : Document) → IsWhole s → (c : List ℕ) → find_id shown_table_id c (view viewer s) ≡ option_map shown_table (cond (is_shown viewer c) (find_id table_id c s) None)
+find-view viewer s whole c =
+    let shown : List Table = filter (λ (t : Table). is_shown viewer t.id) s in
     find-by_id shown_table_id c (map shown_table shown)
     ∙ find-mapped table_id shown_table_id shown_table (λ t. refl) c shown
     ∙ ap (option_map shown_table) (
-    find-filtered table_id (λ (t : Table). is_shown owner t.id) c s whole.sound.distinct
-    ∙ keep_by_id table_id (is_shown owner) c (find_id table_id c s) (λ t found. found_id table_id c s t found))
+    find-filtered table_id (λ (t : Table). is_shown viewer t.id) c s whole.sound.distinct
+    ∙ keep_by_id table_id (is_shown viewer) c (find_id table_id c s) (λ t found. found_id table_id c s t found))
 
 -- so is a column of a shown table
 pub find-shown_columns : (t : Table) (c : List ℕ) → find_id shown_id c (shown_columns t) ≡ option_map shown_column (find_id column_id c t.grid.columns)

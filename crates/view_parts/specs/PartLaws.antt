@@ -1,5 +1,5 @@
 -- What parts of a view tell.
-use Rattle.std.specs.Prelude.{Bool, true, List, ◌≡◌, None}
+use Rattle.std.specs.Prelude.{true, List, ◌≡◌, None}
 use Rattle.doc_model.specs.declared.action.DocAction.{DocAction}
 use Rattle.doc_model.specs.declared.user_action.UserAction.{UserAction}
 use Rattle.doc_model.specs.declared.view.ViewTable.{ViewTable}
@@ -9,26 +9,31 @@ use Rattle.doc_model.specs.Document.{Document}
 use Rattle.doc_model.specs.DocumentLaws.{IsWhole}
 use Rattle.user_actions.specs.Allowed.{is_allowed}
 use Rattle.user_actions.specs.Objections.{objection_to}
+use Rattle.view_parts.specs.declared.viewers.Viewer.{Viewer}
 use Rattle.view_parts.specs.Shown.{view}
-use Rattle.view_parts.specs.Parts.{part, asked}
+use Rattle.view_parts.specs.Parts.{affected_part, requested_part}
 
 -- a view of a whole document is a view
 abbrev pub ViewLaw : Type 0
-ViewLaw = (owner : Bool) (s : Document) → IsWhole s → IsView (view owner s)
+ViewLaw = (viewer : Viewer) (s : Document) → IsWhole s → IsView (view viewer s)
 
 -- the part that actions are about tells all the changes that they make
 abbrev pub PartLaw : Type 0
 PartLaw =
-    (owner : Bool) (s : Document) (actions : List DocAction) → IsWhole s → all_valid s actions ≡ true
-    → changes (part actions (view owner s)) (part actions (view owner (apply_all s actions)))
-    ≡ changes (view owner s) (view owner (apply_all s actions))
+    (viewer : Viewer) (s : Document) (actions : List DocAction) → IsWhole s → all_valid s actions
+    ≡ true
+    → changes (affected_part actions (view viewer s))
+    (affected_part actions (view viewer (apply_all s actions)))
+    ≡ changes (view viewer s) (view viewer (apply_all s actions))
 
 -- what stands against a user action rests on the table and the rows alone that it names
-abbrev pub AskedLaw : Type 0
-AskedLaw = (v : List ViewTable) (a : UserAction) → objection_to (asked a v) a ≡ objection_to v a
+abbrev pub RequestedLaw : Type 0
+RequestedLaw = (v : List ViewTable) (a : UserAction) → objection_to (requested_part a v) a
+    ≡ objection_to v a
 
 -- the document allows what nothing stands against in a view of it
 abbrev pub AllowedLaw : Type 0
 AllowedLaw =
-    (owner : Bool) (s : Document) (a : UserAction) → IsWhole s → objection_to (view owner s) a ≡ None
+    (viewer : Viewer) (s : Document) (a : UserAction) → IsWhole s → objection_to (view viewer s) a
+    ≡ None
     → is_allowed s a ≡ true

@@ -2,13 +2,13 @@
 use Rattle.std.specs.Prelude.{ℕ, Bool, true, cond, ◌&&◌, ◌||◌, List, [], ◌∷◌, map, filter}
 use Rattle.std.specs.List.{list_any}
 use Rattle.std.specs.Str.{bytes_eq}
-use Rattle.cell_types.specs.declared.value.CellValue.{CellValue}
 use Rattle.doc_model.specs.declared.action.DocAction.{DocAction}
 use Rattle.doc_model.specs.declared.action.DocAction.TheVariants.{BulkAdd, BulkUpdate, BulkRemove, AddTable, RemoveTable, RenameTable, AddColumn, RemoveColumn, RenameColumn, ModifyColumn}
 use Rattle.doc_model.specs.declared.user_action.UserAction.{UserAction}
 use Rattle.doc_model.specs.declared.user_action.UserAction.TheVariants.{Update, Remove}
 use Rattle.doc_model.specs.declared.view.ViewTable.{ViewTable}
 use Rattle.doc_model.specs.Rows.{has}
+use Rattle.plain_view.specs.PartsOfViews.{part_of, passing}
 use Rattle.user_actions.specs.Kinds.{table_of}
 use Rattle.user_actions.specs.ObjectionLaws.{only}
 use Rattle.user_actions.specs.Steps.{row_ids}
@@ -34,41 +34,23 @@ is_about (BulkRemove table rows) r = has rows r
 is_about _ r = true
 
 -- whether some action names the table
-abbrev pub is_touched : List DocAction → List ℕ → Bool
-is_touched actions id = list_any (λ a. names_table a id) actions
+abbrev pub is_affected : List DocAction → List ℕ → Bool
+is_affected actions id = list_any (λ a. names_table a id) actions
 
 -- whether some action is about that row of the table
-abbrev pub is_row_touched : List DocAction → List ℕ → ℕ → Bool
-is_row_touched actions id r = list_any (λ a. names_table a id && is_about a r) actions
-
--- the cells of those rows that pass
-abbrev pub passing_cells : (ℕ → Bool) → List ℕ → List (List CellValue) → List (List CellValue)
-passing_cells test [] cells = []
-passing_cells test (r ∷ rows) [] = []
-passing_cells test (r ∷ rows) (c ∷ cells) =
-    cond (test r) (c ∷ passing_cells test rows cells) (passing_cells test rows cells)
-
--- the table with those rows that pass
-abbrev pub passing : (ℕ → Bool) → ViewTable → ViewTable
-passing test t = record {
-  id = t.id;
-  columns = t.columns;
-  rows = filter test t.rows;
-  cells = passing_cells test t.rows t.cells;
-}
+abbrev pub is_row_affected : List DocAction → List ℕ → ℕ → Bool
+is_row_affected actions id r = list_any (λ a. names_table a id && is_about a r) actions
 
 -- the tables that actions name, with the rows that they are about
-abbrev pub part : List DocAction → List ViewTable → List ViewTable
-part actions v =
-    map (λ (t : ViewTable). passing (is_row_touched actions t.id) t)
-    (filter (λ (t : ViewTable). is_touched actions t.id) v)
+abbrev pub affected_part : List DocAction → List ViewTable → List ViewTable
+affected_part actions v = part_of (is_affected actions) (is_row_affected actions) v
 
 -- the rows that a user action names
-abbrev pub rows_asked : UserAction → List ℕ
-rows_asked (Update table single rows ks) = row_ids rows
-rows_asked (Remove table single rows) = row_ids rows
-rows_asked _ = []
+abbrev pub rows_requested : UserAction → List ℕ
+rows_requested (Update table single rows ks) = row_ids rows
+rows_requested (Remove table single rows) = row_ids rows
+rows_requested _ = []
 
 -- the table that a user action names, with the rows that it names
-abbrev pub asked : UserAction → List ViewTable → List ViewTable
-asked a v = map (passing (has (rows_asked a))) (only (table_of a) v)
+abbrev pub requested_part : UserAction → List ViewTable → List ViewTable
+requested_part a v = map (passing (has (rows_requested a))) (only (table_of a) v)

@@ -10,10 +10,11 @@ use Rattle.doc_model.specs.Document.{Document, Table}
 use Rattle.doc_model.specs.Grid.{cell}
 use Rattle.doc_model.specs.MetadataIds.{is_schema_id, is_metadata_id}
 use Rattle.doc_model.specs.ViewEdits.{shown_id}
+use Rattle.view_parts.specs.declared.viewers.Viewer.{Viewer}
 
 -- whether the table is seen: by owners all but the schema tables, by others no metadata table
-abbrev pub is_shown : Bool → List ℕ → Bool
-is_shown owner id = not (is_schema_id id) && (owner || not (is_metadata_id id))
+abbrev pub is_shown : Viewer → List ℕ → Bool
+is_shown viewer id = not (is_schema_id id) && (viewer.is_owner || not (is_metadata_id id))
 
 -- a column with its formula
 abbrev pub shown_column : ColDef → ViewCol
@@ -34,13 +35,14 @@ shown_table t = record {
   id = t.id;
   columns = shown_columns t;
   rows = t.grid.rows;
-  cells = map (λ r. map (λ (d : ViewCol). cell column_id t.grid d.id r) (shown_columns t)) t.grid.rows;
+  cells = map (λ r. map (λ (d : ViewCol). cell column_id t.grid d.id r)
+      (shown_columns t)) t.grid.rows;
 }
 
--- the tables that owners see, or others, by id
-abbrev pub view : Bool → Document → List ViewTable
-view owner s =
-    by_id shown_table_id (map shown_table (filter (λ (t : Table). is_shown owner t.id) s))
+-- the tables that a viewer sees, by id
+abbrev pub view : Viewer → Document → List ViewTable
+view viewer s =
+    by_id shown_table_id (map shown_table (filter (λ (t : Table). is_shown viewer t.id) s))
 
 -- the rows of a table of a view
 abbrev pub rows_shown : List ViewTable → List ℕ → Option (List ℕ)
@@ -50,4 +52,7 @@ rows_shown v table =
 -- whether a table of a view has the column
 abbrev pub is_column_shown : List ViewTable → List ℕ → List ℕ → Bool
 is_column_shown v table column =
-    elim (find_id shown_table_id table v) [ None ↦ false | Some t ↦ has_id shown_id t.columns column ]
+    elim (find_id shown_table_id table v) [
+      | None ↦ false
+      | Some t ↦ has_id shown_id t.columns column
+    ]

@@ -14,7 +14,8 @@ use Rattle.doc_model.specs.Document.{Document, Table}
 use Rattle.doc_model.specs.Grid.{Grid, cell}
 use Rattle.doc_model.specs.ViewEdits.{shown_id}
 use Rattle.doc_readers.specs.Parts.{grid_at}
-use Rattle.view_parts.specs.Parts.{is_row_touched, is_touched, names_table}
+use Rattle.view_parts.specs.declared.viewers.Viewer.{Viewer}
+use Rattle.view_parts.specs.Parts.{is_row_affected, is_affected, names_table}
 use Rattle.view_parts.specs.Shown.{is_shown, shown_column}
 
 -- the cells of a row, one for each of the columns
@@ -37,12 +38,12 @@ shown_with id g rows = record {
 -- whether the table is wanted: where actions are given, one of them has to name it
 abbrev pub is_wanted : Option (List DocAction) → List ℕ → Bool
 is_wanted None id = true
-is_wanted (Some actions) id = is_touched actions id
+is_wanted (Some actions) id = is_affected actions id
 
 -- the rows of a table that are wanted: where actions are given, those that they are about
 abbrev pub rows_wanted : Option (List DocAction) → List ℕ → List ℕ → List ℕ
 rows_wanted None id rows = rows
-rows_wanted (Some actions) id rows = filter (is_row_touched actions id) rows
+rows_wanted (Some actions) id rows = filter (is_row_affected actions id) rows
 
 -- a wanted table, with its wanted rows
 abbrev pub table_wanted : Option (List DocAction) → Table → ViewTable
@@ -53,15 +54,16 @@ abbrev pub wanted_at : Option (List DocAction) → Document → List ℕ → Vie
 wanted_at o s id = shown_with id (grid_at s id) (rows_wanted o id (grid_at s id).rows)
 
 -- the tables with that of an id in its place, where it is wanted and seen
-abbrev pub with_wanted : Bool → Option (List DocAction) → Document → List ℕ → List ViewTable → List ViewTable
-with_wanted owner o s id v =
-    cond (is_wanted o id && is_shown owner id) (put_by_id shown_table_id (wanted_at o s id) v) v
+abbrev pub with_wanted : Viewer → Option (List DocAction) → Document → List ℕ → List ViewTable
+    → List ViewTable
+with_wanted viewer o s id v =
+    cond (is_wanted o id && is_shown viewer id) (put_by_id shown_table_id (wanted_at o s id) v) v
 
--- the wanted tables that owners see, or others, by id
-abbrev pub wanted : Bool → Option (List DocAction) → Document → List ViewTable
-wanted owner o s =
+-- the wanted tables that a viewer sees, by id
+abbrev pub wanted : Viewer → Option (List DocAction) → Document → List ViewTable
+wanted viewer o s =
     by_id shown_table_id
-    (map (table_wanted o) (filter (λ (t : Table). is_wanted o t.id && is_shown owner t.id) s))
+    (map (table_wanted o) (filter (λ (t : Table). is_wanted o t.id && is_shown viewer t.id) s))
 
 -- whether the action is about all rows of its table
 abbrev pub is_about_all : DocAction → Bool
@@ -84,5 +86,5 @@ rows_named (a ∷ actions) id =
     cond (names_table a id) (rows_of a) [] ++ rows_named actions id
 
 -- whether some action is about all rows of the table
-abbrev pub is_all_touched : List DocAction → List ℕ → Bool
-is_all_touched actions id = list_any (λ a. names_table a id && is_about_all a) actions
+abbrev pub is_wholly_affected : List DocAction → List ℕ → Bool
+is_wholly_affected actions id = list_any (λ a. names_table a id && is_about_all a) actions

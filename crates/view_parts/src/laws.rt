@@ -1,6 +1,6 @@
 //! Laws over views and their parts.
 
-ghost use Rattle.view_parts.specs.PartLaws.{AllowedLaw, AskedLaw, PartLaw, ViewLaw};
+ghost use Rattle.view_parts.specs.PartLaws.{AllowedLaw, RequestedLaw, PartLaw, ViewLaw};
 
 use user_actions::{one_table_law, unopposed_law};
 
@@ -16,7 +16,7 @@ pub fn part_law()
 
 /// What stands against a user action rests on the table and the rows alone that it names.
 pub fn requested_law()
-    ensures { AskedLaw }
+    ensures { RequestedLaw }
 {
     one_table_law();
 }

@@ -3,15 +3,16 @@
 //! Stands on `doc_model` (documents, views and changes), `doc_readers` (what a store tells) and
 //! `user_actions` (what stands against a user action). Used by the core.
 //!
-//! Promises: `whole_view` is what owners see of a document, or others. `touched_view` is the part of
+//! Promises: `whole_view` is what a viewer sees of a document. `affected_view` is the part of
 //! it that actions are about, and `part_law` says that this part tells all the changes that they
-//! make. `asked_view` is the part that a user action names, and `asked_law` says that what stands
-//! against the action rests on it alone. `view_law`: each is a view. `allowed_law`: the document
-//! allows what nothing stands against in such a view. `rows_shown` and `is_column_shown` tell of such
-//! a view without making it, and take no memory.
-//! Costs: `touched_view` and `asked_view` cost the rows that are named, not those of the table,
-//! unless a schema action names it; and the square of a table's columns.
-//! Read first: specs/Shown.antt and specs/Parts.antt, then whole.rt, parts.rt and wanted.rt.
+//! make. `requested_view` is the part that a user action names, and `requested_law` says that what
+//! stands against the action rests on it alone. `view_law`: each is a view. `allowed_law`: the
+//! document allows what nothing stands against in such a view. `rows_shown` and `is_column_shown`
+//! tell of such a view without making it, and take no memory.
+//! Costs: `affected_view` and `requested_view` cost the rows that are named, not those of the
+//! table, unless a schema action names it; and the square of a table's columns.
+//! Read first: specs/Viewers.antt, specs/Shown.antt and specs/Parts.antt, then whole.rt, parts.rt
+//! and wanted.rt.
 #![tactic(auto)]
 
 mod columns;
@@ -19,9 +20,11 @@ mod laws;
 mod parts;
 mod rows;
 mod tables;
+mod viewers;
 mod wanted;
 mod whole;
 
 pub use laws::{allowed_law, part_law, requested_law, view_law};
 pub use parts::{affected_view, requested_view};
+pub use viewers::Viewer;
 pub use whole::{is_column_shown, rows_shown, whole_view};

@@ -6,11 +6,12 @@ ghost use Rattle.cell_types.specs.NameLength.{HasNameLength};
 ghost use Rattle.doc_model.specs.Changes.{IsView};
 ghost use Rattle.doc_model.specs.DocumentLaws.{IsWhole};
 ghost use Rattle.user_actions.specs.Kinds.{table_of};
-ghost use Rattle.view_parts.specs.Parts.{asked, part, rows_asked};
+ghost use Rattle.view_parts.specs.Parts.{requested_part, affected_part, rows_requested};
 ghost use Rattle.view_parts.specs.Shown.{view};
 
 use crate::rows::rows_among;
-use crate::tables::{is_shown, shown_with};
+use crate::tables::shown_with;
+use crate::viewers::Viewer;
 use crate::wanted::wanted_tables;
 use cell_types::{CellText, Name};
 use doc_model::{DocAction, DocTables, UserAction, View, ViewTable, ViewTableList};
@@ -18,38 +19,40 @@ use doc_readers::{has_table, rows_in};
 use std::alloc::{AllocError, Global};
 use user_actions::{row_ids, table_of};
 
-/// The part of what owners see of a document, or others, that these actions are about: the tables
-/// that they name, with the rows that they are about.
+/// The part of what a viewer sees of a document that these actions are about: the tables that they
+/// name, with the rows that they are about.
 ///
-/// Errors: out of memory. Cost: the cells of those rows, and of whole tables for schema actions; and
-/// the tables times the actions.
+/// Errors: out of memory. Cost: the cells of those rows, and of whole tables for schema actions;
+/// and the tables times the actions.
 pub fn affected_view<D: DocTables>(
     alloc: Global,
     tables: &D,
-    owner: bool,
+    viewer: Viewer,
     actions: &[DocAction],
 ) -> Result<View, AllocError>
     requires whole { IsWhole (D.document tables.now) }
-    ensures tables { IfOk result (λ v. v.tables ≡ part actions.now (view owner (D.document tables.now))) }
+    ensures tables { IfOk result (λ v. v.tables
+        ≡ affected_part actions.now (view viewer (D.document tables.now))) }
     ensures is_view { IfOk result (λ v. IsView v.tables) }
 {
-    let touched = wanted_tables(alloc, tables, owner, Some(actions))?;
+    let affected = wanted_tables(alloc, tables, viewer, Some(actions))?;
     Ok(View {
-        tables: ViewTableList::from(touched),
+        tables: ViewTableList::from(affected),
     })
 }
 
 // The id of the table that the action names; a text that is no name is no table's id.
-fn asked_id(alloc: Global, action: &UserAction) -> Result<Option<Name>, AllocError>
-    ensures { IfOk result (λ o. MatchOption o (HasNameLength (table_of action.now) → ⊥) (λ n. n ≡ table_of action.now)) }
+fn requested_id(alloc: Global, action: &UserAction) -> Result<Option<Name>, AllocError>
+    ensures { IfOk result (λ o. MatchOption o (HasNameLength (table_of action.now) → ⊥) (λ n. n
+        ≡ table_of action.now)) }
 {
     let text = CellText::copy_of(alloc, table_of(action))?;
     Ok(Name::try_new(text))
 }
 
 // The rows that a user action names.
-fn rows_asked(alloc: Global, action: &UserAction) -> Result<Vec<u32>, AllocError>
-    ensures { IfOk result (λ l. l.items ≡ rows_asked action.now) }
+fn rows_requested(alloc: Global, action: &UserAction) -> Result<Vec<u32>, AllocError>
+    ensures { IfOk result (λ l. l.items ≡ rows_requested action.now) }
 {
     match action {
         UserAction::Update { rows, .. } | UserAction::Remove { rows, .. } => {
@@ -63,57 +66,59 @@ fn rows_asked(alloc: Global, action: &UserAction) -> Result<Vec<u32>, AllocError
 fn named_table<D: DocTables>(
     alloc: Global,
     tables: &D,
-    owner: bool,
+    viewer: Viewer,
     action: &UserAction,
     id: &Name,
 ) -> Result<Option<ViewTable>, AllocError>
     requires whole { IsWhole (D.document tables.now) }
     requires named { id.now ≡ table_of action.now }
-    ensures table { IfOk result (λ o. option_to_list o ≡ asked action.now (view owner (D.document tables.now))) }
+    ensures table { IfOk result (λ o. option_to_list o
+        ≡ requested_part action.now (view viewer (D.document tables.now))) }
     ensures is_view { IfOk result (λ o. IsView (option_to_list o)) }
 {
-    if !is_shown(owner, id) {
+    if !viewer.sees(id) {
         return Ok(None);
     }
     if !has_table(tables, id) {
         return Ok(None);
     }
-    let rows = rows_among(alloc, rows_asked(alloc, action)?, rows_in(tables, id))?;
+    let rows = rows_among(alloc, rows_requested(alloc, action)?, rows_in(tables, id))?;
     Ok(Some(shown_with(alloc, tables, id, rows.as_slice())?))
 }
 
-fn asked_table<D: DocTables>(
+fn requested_table<D: DocTables>(
     alloc: Global,
     tables: &D,
-    owner: bool,
+    viewer: Viewer,
     action: &UserAction,
 ) -> Result<Option<ViewTable>, AllocError>
     requires { IsWhole (D.document tables.now) }
-    ensures table { IfOk result (λ o. option_to_list o ≡ asked action.now (view owner (D.document tables.now))) }
+    ensures table { IfOk result (λ o. option_to_list o
+        ≡ requested_part action.now (view viewer (D.document tables.now))) }
     ensures is_view { IfOk result (λ o. IsView (option_to_list o)) }
 {
-    match asked_id(alloc, action)? {
-        Some(id) => named_table(alloc, tables, owner, action, &id),
+    match requested_id(alloc, action)? {
+        Some(id) => named_table(alloc, tables, viewer, action, &id),
         None => Ok(None),
     }
 }
 
-/// The table that a user action names, as owners see it, or others, with the rows that the action
-/// names.
+/// The table that a user action names, as a viewer sees it, with the rows that the action names.
 ///
 /// Errors: out of memory. Cost: the cells of those rows.
 pub fn requested_view<D: DocTables>(
     alloc: Global,
     tables: &D,
-    owner: bool,
+    viewer: Viewer,
     action: &UserAction,
 ) -> Result<View, AllocError>
     requires whole { IsWhole (D.document tables.now) }
-    ensures tables { IfOk result (λ v. v.tables ≡ asked action.now (view owner (D.document tables.now))) }
+    ensures tables { IfOk result (λ v. v.tables
+        ≡ requested_part action.now (view viewer (D.document tables.now))) }
     ensures is_view { IfOk result (λ v. IsView v.tables) }
 {
     let mut shown = ViewTableList::new(alloc);
-    if let Some(table) = asked_table(alloc, tables, owner, action)? {
+    if let Some(table) = requested_table(alloc, tables, viewer, action)? {
         shown.push(table)?;
     }
     Ok(View { tables: shown })

@@ -1,4 +1,4 @@
-//! Rows that are asked for, among those that a table has.
+//! Rows that are requested, among those that a table has.
 
 ghost use Rattle.std.specs.Prelude.{◌≡◌, ℕ, filter, IfOk};
 ghost use Rattle.doc_model.specs.Rows.{IsAscending, has};

@@ -8,23 +8,13 @@ ghost use Rattle.doc_model.specs.Changes.{shown_table_id};
 ghost use Rattle.doc_model.specs.Document.{table_id};
 ghost use Rattle.doc_model.specs.DocumentLaws.{IsWhole};
 ghost use Rattle.doc_readers.specs.Parts.{grid_at};
-ghost use Rattle.view_parts.specs.Shown.{is_shown};
 ghost use Rattle.view_parts.specs.Wanted.{cells_at, shown_with};
 
 use crate::columns::shown_columns;
 use cell_types::{Name, RowList, ValueList};
 use doc_model::{CellRowList, DocTables, ViewCol, ViewColList, ViewTable};
-use doc_readers::{cell_in, is_metadata_id, is_schema_id};
+use doc_readers::cell_in;
 use std::alloc::{AllocError, Global};
-
-/// Whether owners see the table of this id, or others, where there is one.
-///
-/// Memory: none.
-pub(crate) fn is_shown(owner: bool, id: &Name) -> bool
-    ensures { result ≡ is_shown owner id.now }
-{
-    !is_schema_id(id.as_str()) && (owner || !is_metadata_id(id.as_str()))
-}
 
 /// The ids of all tables, in the order of the document.
 ///
@@ -46,7 +36,8 @@ fn row_cells<D: DocTables>(
     columns: &[ViewCol],
     row: u32,
 ) -> Result<ValueList, AllocError>
-    ensures { IfOk result (λ l. l ≡ cells_at (grid_at (D.document tables.now) table.now) columns.now row) }
+    ensures { IfOk result (λ l. l
+        ≡ cells_at (grid_at (D.document tables.now) table.now) columns.now row) }
 {
     let mut values = Vec::with_capacity(alloc, columns.len())?;
     for column in columns {
@@ -62,7 +53,8 @@ fn all_cells<D: DocTables>(
     columns: &[ViewCol],
     rows: &[u32],
 ) -> Result<CellRowList, AllocError>
-    ensures { IfOk result (λ l. l ≡ map (cells_at (grid_at (D.document tables.now) table.now) columns.now) rows.now) }
+    ensures { IfOk result (λ l. l
+        ≡ map (cells_at (grid_at (D.document tables.now) table.now) columns.now) rows.now) }
 {
     let mut cells = Vec::with_capacity(alloc, rows.len())?;
     for row in rows {
@@ -81,7 +73,8 @@ pub(crate) fn shown_with<D: DocTables>(
     rows: &[u32],
 ) -> Result<ViewTable, AllocError>
     requires { IsWhole (D.document tables.now) }
-    ensures { IfOk result (λ t. t ≡ shown_with table.now (grid_at (D.document tables.now) table.now) rows.now) }
+    ensures { IfOk result (λ t. t
+        ≡ shown_with table.now (grid_at (D.document tables.now) table.now) rows.now) }
 {
     let columns = shown_columns(alloc, tables, table)?;
     let cells = all_cells(alloc, tables, table, columns.as_slice(), rows)?;

@@ -6,11 +6,12 @@ ghost use Rattle.doc_model.specs.ByIds.{has_id};
 ghost use Rattle.doc_model.specs.Changes.{shown_table_id};
 ghost use Rattle.doc_model.specs.DocumentLaws.{IsWhole};
 ghost use Rattle.doc_model.specs.Rows.{IsAscending};
-ghost use Rattle.view_parts.specs.Parts.{is_row_touched, is_touched, names_table};
-ghost use Rattle.view_parts.specs.Wanted.{is_about_all, is_all_touched, is_wanted, rows_named, rows_of, rows_wanted, wanted, wanted_at, with_wanted};
+ghost use Rattle.view_parts.specs.Parts.{is_row_affected, is_affected, names_table};
+ghost use Rattle.view_parts.specs.Wanted.{is_about_all, is_wholly_affected, is_wanted, rows_named, rows_of, rows_wanted, wanted, wanted_at, with_wanted};
 
 use crate::rows::rows_among;
-use crate::tables::{is_shown, put_table, shown_with, table_ids};
+use crate::tables::{put_table, shown_with, table_ids};
+use crate::viewers::Viewer;
 use cell_types::Name;
 use doc_model::{DocAction, DocTables, ViewTable};
 use doc_readers::rows_in;
@@ -57,14 +58,14 @@ fn rows_of(action: &DocAction) -> &[u32]
     }
 }
 
-fn is_touched(actions: &[DocAction], id: &Name) -> bool
-    ensures { result ≡ is_touched actions.now id.now }
+fn is_affected(actions: &[DocAction], id: &Name) -> bool
+    ensures { result ≡ is_affected actions.now id.now }
 {
     actions.iter().any(|action| names_table(action, id))
 }
 
-fn is_all_touched(actions: &[DocAction], id: &Name) -> bool
-    ensures { result ≡ is_all_touched actions.now id.now }
+fn is_wholly_affected(actions: &[DocAction], id: &Name) -> bool
+    ensures { result ≡ is_wholly_affected actions.now id.now }
 {
     actions
         .iter()
@@ -85,29 +86,29 @@ fn rows_named(alloc: Global, actions: &[DocAction], id: &Name) -> Result<Vec<u32
 }
 
 // The rows of a table that actions are about: all where a schema action names it.
-fn touched_rows(
+fn affected_rows(
     alloc: Global,
     actions: &[DocAction],
     id: &Name,
     rows: &[u32],
 ) -> Result<Vec<u32>, AllocError>
     requires { IsAscending rows.now }
-    ensures { IfOk result (λ l. l.items ≡ filter (is_row_touched actions.now id.now) rows.now) }
+    ensures { IfOk result (λ l. l.items ≡ filter (is_row_affected actions.now id.now) rows.now) }
 {
-    if is_all_touched(actions, id) {
+    if is_wholly_affected(actions, id) {
         let all = Vec::from_slice(alloc, rows)?;
         return Ok(all);
     }
     let named = rows_named(alloc, actions, id)?;
-    let touched = rows_among(alloc, named, rows)?;
-    Ok(touched)
+    let affected = rows_among(alloc, named, rows)?;
+    Ok(affected)
 }
 
 fn is_wanted(actions: Option<&[DocAction]>, id: &Name) -> bool
     ensures { result ≡ is_wanted (option_copied actions.entry) id.now }
 {
     match actions {
-        Some(actions) => is_touched(actions, id),
+        Some(actions) => is_affected(actions, id),
         None => true,
     }
 }
@@ -120,10 +121,11 @@ fn wanted_rows(
     rows: &[u32],
 ) -> Result<Vec<u32>, AllocError>
     requires { IsAscending rows.now }
-    ensures { IfOk result (λ l. l.items ≡ rows_wanted (option_copied actions.entry) id.now rows.now) }
+    ensures { IfOk result (λ l. l.items
+        ≡ rows_wanted (option_copied actions.entry) id.now rows.now) }
 {
     let rows = match actions {
-        Some(actions) => touched_rows(alloc, actions, id, rows)?,
+        Some(actions) => affected_rows(alloc, actions, id, rows)?,
         None => Vec::from_slice(alloc, rows)?,
     };
     Ok(rows)
@@ -136,7 +138,8 @@ fn table_wanted<D: DocTables>(
     id: &Name,
 ) -> Result<ViewTable, AllocError>
     requires { IsWhole (D.document tables.now) }
-    ensures { IfOk result (λ t. t ≡ wanted_at (option_copied actions.entry) (D.document tables.now) id.now) }
+    ensures { IfOk result (λ t. t ≡ wanted_at (option_copied actions.entry)
+        (D.document tables.now) id.now) }
 {
     let rows = wanted_rows(alloc, actions, id, rows_in(tables, id))?;
     let table = shown_with(alloc, tables, id, rows.as_slice())?;
@@ -147,16 +150,17 @@ fn table_wanted<D: DocTables>(
 fn put_wanted<D: DocTables>(
     alloc: Global,
     tables: &D,
-    owner: bool,
+    viewer: Viewer,
     actions: Option<&[DocAction]>,
     id: &Name,
     shown: &mut Vec<ViewTable>,
 ) -> Result<(), AllocError>
     requires whole { IsWhole (D.document tables.now) }
     requires new { has_id shown_table_id shown.old.items id.now ≡ false }
-    ensures { OnOk result (shown.new.items ≡ with_wanted owner (option_copied actions.entry) (D.document tables.now) id.now shown.old.items) }
+    ensures { OnOk result (shown.new.items ≡ with_wanted viewer (option_copied actions.entry)
+        (D.document tables.now) id.now shown.old.items) }
 {
-    if !(is_wanted(actions, id) && is_shown(owner, id)) {
+    if !(is_wanted(actions, id) && viewer.sees(id)) {
         return Ok(());
     }
     let table = table_wanted(alloc, tables, actions, id)?;
@@ -164,23 +168,24 @@ fn put_wanted<D: DocTables>(
     Ok(())
 }
 
-/// The wanted tables that owners see, or others, by id: all where no actions are given.
+/// The wanted tables that a viewer sees, by id: all where no actions are given.
 ///
 /// Errors: out of memory. Cost: the cells of their wanted rows, the square of the tables, and the
 /// tables times the actions.
 pub(crate) fn wanted_tables<D: DocTables>(
     alloc: Global,
     tables: &D,
-    owner: bool,
+    viewer: Viewer,
     actions: Option<&[DocAction]>,
 ) -> Result<Vec<ViewTable>, AllocError>
     requires { IsWhole (D.document tables.now) }
-    ensures { IfOk result (λ l. l.items ≡ wanted owner (option_copied actions.entry) (D.document tables.now)) }
+    ensures { IfOk result (λ l. l.items ≡ wanted viewer (option_copied actions.entry)
+        (D.document tables.now)) }
 {
     let ids = table_ids(alloc, tables)?;
     let mut shown = Vec::new(alloc);
     for id in ids.as_slice() {
-        put_wanted(alloc, tables, owner, actions, id, &mut shown)?;
+        put_wanted(alloc, tables, viewer, actions, id, &mut shown)?;
     }
     Ok(shown)
 }

@@ -1,6 +1,6 @@
 //! Plan: which tables and columns of a new document owners see, and others
 //! (`rules_are_shown_to_owners_alone`); and that the part that an action names is found
-//! (`the_named_table_is_asked_for`).
+//! (`the_named_table_is_requested`).
 
 ghost use Rattle.std.specs.Prelude.{IfOk};
 ghost use Rattle.doc_model.specs.DocumentLaws.{IsWhole};
@@ -12,7 +12,7 @@ use doc_model::laws::new_document_law;
 use doc_model::{UserAction, UserActionList, View};
 use row_tables::RowTables;
 use std::alloc::{AllocError, Global};
-use view_parts::{is_column_shown, requested_view, rows_shown};
+use view_parts::{Viewer, is_column_shown, requested_view, rows_shown};
 
 fn new_document(alloc: Global) -> Result<RowTables, AllocError>
     ensures { IfOk result IsWhole }
@@ -24,7 +24,9 @@ fn new_document(alloc: Global) -> Result<RowTables, AllocError>
 fn is_shown(document: &RowTables, owner: bool, table: &Name, column: &Name) -> bool
     requires { IsWhole document.now }
 {
-    rows_shown(document, owner, table).is_some() && is_column_shown(document, owner, table, column)
+    let viewer = Viewer { is_owner: owner };
+    rows_shown(document, viewer, table).is_some()
+        && is_column_shown(document, viewer, table, column)
 }
 
 // Whether all were made, and the column is shown where it is wanted, and else is not.
@@ -86,10 +88,13 @@ fn is_first(view: &Result<View, AllocError>, want: &str) -> bool {
     }
 }
 
-fn is_asked(alloc: Global, document: &RowTables, action: &UserAction, want: &str) -> bool
+fn is_requested(alloc: Global, document: &RowTables, action: &UserAction, want: &str) -> bool
     requires { IsWhole document.now }
 {
-    is_first(&requested_view(alloc, document, true, action), want)
+    is_first(
+        &requested_view(alloc, document, Viewer { is_owner: true }, action),
+        want,
+    )
 }
 
 // Whether both were made, and the action asks for this table first.
@@ -110,7 +115,7 @@ fn finds(
     let Some(action) = actions.as_slice().first() else {
         return false;
     };
-    is_asked(alloc, document, action, want)
+    is_requested(alloc, document, action, want)
 }
 
 fn finds_in_new(alloc: Global, table: &'static str, want: &str) -> bool {
@@ -119,7 +124,7 @@ fn finds_in_new(alloc: Global, table: &'static str, want: &str) -> bool {
 }
 
 #[test]
-fn the_named_table_is_asked_for(rt: HostRuntime) {
+fn the_named_table_is_requested(rt: HostRuntime) {
     assert!(rt; finds_in_new(rt.alloc(), "Table1", "Table1"));
     assert!(rt; finds_in_new(rt.alloc(), "Other", "-"));
 }

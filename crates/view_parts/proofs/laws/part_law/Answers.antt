@@ -1,5 +1,5 @@
-use Rattle.view_parts.proofs.PartLemmasViews.{changes-part}
+use Rattle.view_parts.proofs.PartLemmasViews.{changes-affected_part}
 use Rattle.view_parts.proofs.laws.part_law.Goals as goal
 
 pub returns : goal.returns
-returns c = changes-part
+returns c = changes-affected_part

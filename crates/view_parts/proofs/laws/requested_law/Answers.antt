@@ -1,7 +1,7 @@
 use Rattle.std.proofs.Common.{◌∙◌}
 use Rattle.user_actions.specs.Kinds.{table_of}
 use Rattle.user_actions.specs.ObjectionLaws.{only}
-use Rattle.view_parts.proofs.AskedLemmas.{objection_to-passing}
+use Rattle.view_parts.proofs.RequestedLemmas.{objection_to-passing}
 use Rattle.view_parts.proofs.laws.requested_law.Goals as goal
 
 pub returns : goal.returns

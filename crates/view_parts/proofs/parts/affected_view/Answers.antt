@@ -1,15 +1,15 @@
 use Rattle.std.proofs.Common.{◌∙◌, Some, subst, sym}
 use Rattle.doc_model.specs.Changes.{IsView}
 use Rattle.view_parts.proofs.SeenLemmas.{IsView-wanted}
-use Rattle.view_parts.proofs.SeenParts.{wanted_touched}
+use Rattle.view_parts.proofs.SeenParts.{wanted_affected}
 use Rattle.view_parts.proofs.parts.affected_view.Goals as goal
 
 pub returns-clause-tables : goal.returns-clause-tables
 returns-clause-tables g c =
-    c.from.ensures ∙ c.in_ok-touched.ensures
-    ∙ wanted_touched c.args.owner c.args.actions.now (g.D.DocTables.document c.args.tables.now) c.requires.whole
+    c.from.ensures ∙ c.in_ok-affected.ensures
+    ∙ wanted_affected c.args.viewer c.args.actions.now (g.D.DocTables.document c.args.tables.now) c.requires.whole
 
 pub returns-clause-is_view : goal.returns-clause-is_view
 returns-clause-is_view g c =
-    subst IsView (sym (c.from.ensures ∙ c.in_ok-touched.ensures))
-    (IsView-wanted c.args.owner (Some c.args.actions.now) (g.D.DocTables.document c.args.tables.now) c.requires.whole)
+    subst IsView (sym (c.from.ensures ∙ c.in_ok-affected.ensures))
+    (IsView-wanted c.args.viewer (Some c.args.actions.now) (g.D.DocTables.document c.args.tables.now) c.requires.whole)

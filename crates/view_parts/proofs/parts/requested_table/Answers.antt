@@ -3,12 +3,12 @@ use Rattle.std.specs.Option.{MatchOption}
 use Rattle.cell_types.specs.NameLength.{HasNameLength}
 use Rattle.user_actions.specs.Kinds.{table_of}
 use Rattle.view_parts.proofs.NameLengths.{no_table}
-use Rattle.view_parts.proofs.SeenParts.{asked_nowhere}
-use Rattle.view_parts.proofs.parts.asked_table.Goals as goal
+use Rattle.view_parts.proofs.SeenParts.{requested_nowhere}
+use Rattle.view_parts.proofs.parts.requested_table.Goals as goal
 
 pub returns-in-None-clause-table : goal.returns-in-None-clause-table
 returns-in-None-clause-table g c =
     let s = g.D.DocTables.document c.args.tables.now in
     let a = c.args.action.now in
     let long : HasNameLength (table_of a) → ⊥ = subst (λ (o : Option (List ℕ)). MatchOption o (HasNameLength (table_of a) → ⊥) (λ n. n ≡ table_of a)) c.in-None.is c.in_ok-id.ensures in
-    asked_nowhere c.args.owner s c.requires a (no_table s c.requires (table_of a) long)
+    requested_nowhere c.args.viewer s c.requires a (no_table s c.requires (table_of a) long)

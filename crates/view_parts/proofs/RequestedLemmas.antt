@@ -13,9 +13,10 @@ use Rattle.doc_model.specs.Rows.{has}
 use Rattle.doc_model.proofs.RowsLaws.{number_itself, has-filter}
 use Rattle.doc_model.specs.declared.refusal.Refusal.{Refusal}
 use Rattle.doc_model.specs.declared.refusal.Refusal.TheVariants as refusal
+use Rattle.plain_view.specs.PartsOfViews.{passing}
 use Rattle.user_actions.specs.Objections.{against, have_no_duplicates, in_table, in_records, in_schema, is_row, objection_to, on_columns, on_rows, on_values, to_records, to_schema}
 use Rattle.user_actions.specs.Steps.{row_ids}
-use Rattle.view_parts.specs.Parts.{passing, rows_asked}
+use Rattle.view_parts.specs.Parts.{rows_requested}
 use Rattle.view_parts.proofs.ViewLemmas.{find-mapped}
 
 -- ---- the rows that an action names
@@ -57,7 +58,7 @@ module _ (test : ℕ → Bool) (v : List ViewTable) (table : List ℕ) (rest : V
   in_schema-passing : in_schema (map (passing test) v) table rest ≡ in_schema v table rest
   in_schema-passing = ap (λ o. against (is_metadata_id table) refusal.MetaTable o) in_table-passing
 
-pub objection_to-passing : (v : List ViewTable) (a : UserAction) → objection_to (map (passing (has (rows_asked a))) v) a ≡ objection_to v a
+pub objection_to-passing : (v : List ViewTable) (a : UserAction) → objection_to (map (passing (has (rows_requested a))) v) a ≡ objection_to v a
 objection_to-passing v (Add table single count has_row_ids ks) = in_records-passing (has []) v table (λ t. to_records t (Add table single count has_row_ids ks)) (λ t. refl)
 objection_to-passing v (Update table single rows ks) =
     in_records-passing (has (row_ids rows)) v table (λ t. to_records t (Update table single rows ks)) (λ t. on_rows-passing t rows (on_columns t ks (on_values ks)))

@@ -4,17 +4,17 @@ use Rattle.std.proofs.lemmas.List.{map-append, append-nil}
 use Rattle.std.specs.List.{AllByRecursion}
 use Rattle.doc_model.specs.declared.entry.Entry.{Entry}
 use Rattle.doc_model.specs.declared.user.User.{User}
-use Rattle.doc_model.specs.declared.verdict.Verdict.{Verdict}
 use Rattle.doc_model.specs.ByIds.{find_id, put_by_id, without_id, precedes}
 use Rattle.doc_model.specs.Changes.{changes}
 use Rattle.doc_model.specs.Document.{Document}
 use Rattle.doc_model.specs.DocumentLaws.{IsWhole}
 use Rattle.doc_model.proofs.Choices.{each_mapped}
-use Rattle.grist_json.specs.Lines.{reply_text}
-use Rattle.bundle_core.specs.Desk.{state_of, IsSpot, Answers}
+use Rattle.bundle_core.specs.BareVerdicts.{reply_of}
+use Rattle.bundle_core.specs.declared.bare_verdict.BareVerdict.{BareVerdict}
+use Rattle.bundle_core.specs.Dispatch.{state_of, IsSpot, Answers}
 use Rattle.bundle_core.specs.Mailbox.{Mailbox, quiet, shows_view, own, replies, emptied, posted_if_any}
 use Rattle.bundle_core.specs.SessionState.{SessionState, open_of}
-use Rattle.bundle_core.specs.State.{State, Open, Holder, Verdicts, session_name, session_of, mailbox_of, answered, from_outside, from_inside, from_behind, verdicts, posted_all, with_session, step, given}
+use Rattle.bundle_core.specs.State.{State, Open, Holder, Verdicts, session_name, session_of, mailbox_of, answered, from_closed, from_open, from_lagging, verdicts, posted_all, with_session, step, given}
 use Rattle.bundle_core.specs.View.{view}
 use Rattle.bundle_core.proofs.ViewLaws.{changes-again}
 use Rattle.bundle_core.proofs.Spots.{find_absent_at, find_at, without_absent, without_at, index_absent, index_at}
@@ -32,11 +32,14 @@ opens_below s name xs h = each_mapped (λ (o : Open). precedes o.session name �
 pub opens_above : (s : Document) (name : List ℕ) (xs : List SessionState) → AllByRecursion (λ x. precedes name x.session ≡ true) xs → AllByRecursion (λ (o : Open). precedes name o.session ≡ true) (opens s xs)
 opens_above s name xs h = each_mapped (λ (o : Open). precedes name o.session ≡ true) (open_of s) xs h
 
+-- a document with open sessions
+abbrev pub with_opens : Document → List Open → State
+with_opens s os = record { document = s; open_sessions = os }
+
 -- a state after an entry, by what its session's mailbox was
 abbrev pub after_with : State → Entry → Verdicts → Option Mailbox → State
 after_with st e w m = record {
   document = w.document;
-  added = if w.is_bundle then st.added + 1 else st.added;
   open_sessions = with_session e.session w.holder (own m e.request w.outcome (option_map (λ (h : Holder). view h.user w.document) w.holder)).mailbox (posted_all w st.open_sessions);
 }
 
@@ -69,8 +72,8 @@ holder_of-fields h user bundles a b =
 
 module _ (users : List User) (doc : Document) (before behind : List SessionState) (e : Entry) (spot : IsSpot e.session before behind) where
   -- a session that is not open
-  abbrev outside : ℕ → State
-  outside n = state_of doc n (before ++ behind)
+  abbrev closed : State
+  closed = state_of doc (before ++ behind)
 
   abbrev below : AllByRecursion (λ (o : Open). precedes o.session e.session ≡ true) (opens doc before)
   below = opens_below doc e.session before spot.below
@@ -78,47 +81,43 @@ module _ (users : List User) (doc : Document) (before behind : List SessionState
   abbrev above : AllByRecursion (λ (o : Open). precedes e.session o.session ≡ true) (opens doc behind)
   above = opens_above doc e.session behind spot.above
 
-  none_outside : (n : ℕ) → session_of e.session (outside n) ≡ None
-  none_outside n =
+  none_closed : session_of e.session closed ≡ None
+  none_closed =
       ap (find_id session_name e.session) (opens-append doc before behind)
       ∙ find_absent_at session_name e.session (opens doc before) (opens doc behind) below above
 
-  verdicts_outside : (n : ℕ) (w : Verdicts) → from_outside users (outside n) e.request ≡ w → verdicts users (outside n) e ≡ w
-  verdicts_outside n w p =
-      ap (λ o. elim o as (λ _. Verdicts) [ None ↦ from_outside users (outside n) e.request | Some x ↦ if x.mailbox.lagging then from_behind (outside n) e.request else from_inside (outside n) x.holder e.kept e.request ]) (none_outside n) ∙ p
+  verdicts_closed : (w : Verdicts) → from_closed users closed e.request ≡ w → verdicts users closed e ≡ w
+  verdicts_closed w p =
+      ap (λ o. elim o as (λ _. Verdicts) [ None ↦ from_closed users closed e.request | Some x ↦ if x.mailbox.lagging then from_lagging closed e.request else from_open closed x.holder e.kept e.request ]) none_closed ∙ p
 
-  mailbox_outside : (n : ℕ) → mailbox_of e.session (outside n) ≡ None
-  mailbox_outside n = ap (option_map (λ (o : Open). o.mailbox)) (none_outside n)
+  mailbox_closed : mailbox_of e.session closed ≡ None
+  mailbox_closed = ap (option_map (λ (o : Open). o.mailbox)) none_closed
 
-  same_outside : without_id session_name e.session (opens doc (before ++ behind)) ≡ opens doc (before ++ behind)
-  same_outside =
+  same_closed : without_id session_name e.session (opens doc (before ++ behind)) ≡ opens doc (before ++ behind)
+  same_closed =
       ap (without_id session_name e.session) (opens-append doc before behind)
       ∙ without_absent session_name e.session (opens doc before) (opens doc behind) below above
       ∙ sym (opens-append doc before behind)
 
-  pub answers_outside : (v : Verdict) → ((n : ℕ) → from_outside users (outside n) e.request ≡ answered doc None v) → Answers users doc doc (before ++ behind) (before ++ behind) e (reply_text v ∷ [])
-  answers_outside v p = record {
-    is_bundle = false;
-    state = λ n. step_by users (outside n) e (answered doc None v) None (verdicts_outside n _ (p n)) (mailbox_outside n)
-        ∙ ap (λ os. let st : State = record { document = doc; added = n; open_sessions = os } in st) same_outside;
-    lines_given = λ n. given_by users (outside n) e (answered doc None v) None (verdicts_outside n _ (p n)) (mailbox_outside n);
+  pub answers_closed : (v : BareVerdict) → from_closed users closed e.request ≡ answered doc None v → Answers users doc doc (before ++ behind) (before ++ behind) e (reply_of v ∷ [])
+  answers_closed v p = record {
+    state = step_by users closed e (answered doc None v) None (verdicts_closed _ p) mailbox_closed ∙ ap (with_opens doc) same_closed;
+    lines_given = given_by users closed e (answered doc None v) None (verdicts_closed _ p) mailbox_closed;
   }
 
   abbrev gone_quietly : Verdicts
   gone_quietly = record { outcome = quiet; document = doc; is_bundle = false; holder = None }
 
-  pub answers_gone : ((n : ℕ) → from_outside users (outside n) e.request ≡ gone_quietly) → Answers users doc doc (before ++ behind) (before ++ behind) e []
+  pub answers_gone : from_closed users closed e.request ≡ gone_quietly → Answers users doc doc (before ++ behind) (before ++ behind) e []
   answers_gone p = record {
-    is_bundle = false;
-    state = λ n. step_by users (outside n) e gone_quietly None (verdicts_outside n _ (p n)) (mailbox_outside n)
-        ∙ ap (λ os. let st : State = record { document = doc; added = n; open_sessions = os } in st) same_outside;
-    lines_given = λ n. given_by users (outside n) e gone_quietly None (verdicts_outside n _ (p n)) (mailbox_outside n);
+    state = step_by users closed e gone_quietly None (verdicts_closed _ p) mailbox_closed ∙ ap (with_opens doc) same_closed;
+    lines_given = given_by users closed e gone_quietly None (verdicts_closed _ p) mailbox_closed;
   }
 
   abbrev opened_by : User → Verdicts
   opened_by user = record { outcome = shows_view; document = doc; is_bundle = false; holder = Some (record { user = user; bundles = 0 }) }
 
-  pub answers_opened : (user : User) (x : SessionState) → ((n : ℕ) → from_outside users (outside n) e.request ≡ opened_by user)
+  pub answers_opened : (user : User) (x : SessionState) → from_closed users closed e.request ≡ opened_by user
       → open_of doc x ≡ open_with doc e.session (record { user = user; bundles = 0 }) 0 [] false
       → Answers users doc doc (before ++ behind) (before ++ x ∷ behind) e (replies e.request shows_view (view user doc))
   answers_opened user x p f =
@@ -129,61 +128,55 @@ module _ (users : List User) (doc : Document) (before behind : List SessionState
       ∙ ap (λ o. opens doc before ++ o ∷ opens doc behind) (sym f)
       ∙ sym (opens-append doc before (x ∷ behind)) in
       record {
-        is_bundle = false;
-        state = λ n. step_by users (outside n) e (opened_by user) None (verdicts_outside n _ (p n)) (mailbox_outside n)
-            ∙ ap (λ os. let st : State = record { document = doc; added = n; open_sessions = os } in st) placed;
-        lines_given = λ n. given_by users (outside n) e (opened_by user) None (verdicts_outside n _ (p n)) (mailbox_outside n);
+        state = step_by users closed e (opened_by user) None (verdicts_closed _ p) mailbox_closed ∙ ap (with_opens doc) placed;
+        lines_given = given_by users closed e (opened_by user) None (verdicts_closed _ p) mailbox_closed;
       }
 
   -- a session that is open
   module _ (x : SessionState) (named : x.session ≡ e.session) where
-    abbrev inside : ℕ → State
-    inside n = state_of doc n (before ++ x ∷ behind)
+    abbrev opened : State
+    opened = state_of doc (before ++ x ∷ behind)
 
-    -- what the entry comes to, however many bundles were accepted
+    -- what the entry comes to
     abbrev pub ComesTo : Verdicts → Type 0
-    ComesTo w = (n : ℕ) → (if x.lagging then from_behind (inside n) e.request else from_inside (inside n) x.holder e.kept e.request) ≡ w
+    ComesTo w = (if x.lagging then from_lagging opened e.request else from_open opened x.holder e.kept e.request) ≡ w
 
-    found_inside : (n : ℕ) → session_of e.session (inside n) ≡ Some (open_of doc x)
-    found_inside n =
+    found_open : session_of e.session opened ≡ Some (open_of doc x)
+    found_open =
         ap (find_id session_name e.session) (opens-append doc before (x ∷ behind))
         ∙ find_at session_name e.session (opens doc before) (opens doc behind) (open_of doc x) below named
 
-    pub verdicts_inside : (w : Verdicts) → ComesTo w → (n : ℕ) → verdicts users (inside n) e ≡ w
-    verdicts_inside w p n =
-        ap (λ o. elim o as (λ _. Verdicts) [ None ↦ from_outside users (inside n) e.request | Some y ↦ if y.mailbox.lagging then from_behind (inside n) e.request else from_inside (inside n) y.holder e.kept e.request ]) (found_inside n) ∙ p n
+    pub verdicts_open : (w : Verdicts) → ComesTo w → verdicts users opened e ≡ w
+    verdicts_open w p =
+        ap (λ o. elim o as (λ _. Verdicts) [ None ↦ from_closed users opened e.request | Some y ↦ if y.mailbox.lagging then from_lagging opened e.request else from_open opened y.holder e.kept e.request ]) found_open ∙ p
 
-    pub mailbox_inside : (n : ℕ) → mailbox_of e.session (inside n) ≡ Some ((open_of doc x).mailbox)
-    mailbox_inside n = ap (option_map (λ (o : Open). o.mailbox)) (found_inside n)
+    pub mailbox_open : mailbox_of e.session opened ≡ Some ((open_of doc x).mailbox)
+    mailbox_open = ap (option_map (λ (o : Open). o.mailbox)) found_open
 
-    gone_inside : without_id session_name e.session (opens doc (before ++ x ∷ behind)) ≡ opens doc (before ++ behind)
-    gone_inside =
+    gone_open : without_id session_name e.session (opens doc (before ++ x ∷ behind)) ≡ opens doc (before ++ behind)
+    gone_open =
         ap (without_id session_name e.session) (opens-append doc before (x ∷ behind))
         ∙ without_at session_name e.session (opens doc before) (opens doc behind) (open_of doc x) below above named
         ∙ sym (opens-append doc before behind)
 
-    pub answers_leaving : (v : Verdict) → ComesTo (answered doc None v)
-        → Answers users doc doc (before ++ x ∷ behind) (before ++ behind) e (x.waiting ++ reply_text v ∷ [])
+    pub answers_leaving : (v : BareVerdict) → ComesTo (answered doc None v)
+        → Answers users doc doc (before ++ x ∷ behind) (before ++ behind) e (x.waiting ++ reply_of v ∷ [])
     answers_leaving v p = record {
-      is_bundle = false;
-      state = λ n. step_by users (inside n) e (answered doc None v) (Some ((open_of doc x).mailbox)) (verdicts_inside _ p n) (mailbox_inside n)
-          ∙ ap (λ os. let st : State = record { document = doc; added = n; open_sessions = os } in st) gone_inside;
-      lines_given = λ n. given_by users (inside n) e (answered doc None v) (Some ((open_of doc x).mailbox)) (verdicts_inside _ p n) (mailbox_inside n);
+      state = step_by users opened e (answered doc None v) (Some ((open_of doc x).mailbox)) (verdicts_open _ p) mailbox_open ∙ ap (with_opens doc) gone_open;
+      lines_given = given_by users opened e (answered doc None v) (Some ((open_of doc x).mailbox)) (verdicts_open _ p) mailbox_open;
     }
 
     pub answers_parting : ComesTo gone_quietly
         → Answers users doc doc (before ++ x ∷ behind) (before ++ behind) e []
     answers_parting p = record {
-      is_bundle = false;
-      state = λ n. step_by users (inside n) e gone_quietly (Some ((open_of doc x).mailbox)) (verdicts_inside _ p n) (mailbox_inside n)
-          ∙ ap (λ os. let st : State = record { document = doc; added = n; open_sessions = os } in st) gone_inside;
-      lines_given = λ n. given_by users (inside n) e gone_quietly (Some ((open_of doc x).mailbox)) (verdicts_inside _ p n) (mailbox_inside n);
+      state = step_by users opened e gone_quietly (Some ((open_of doc x).mailbox)) (verdicts_open _ p) mailbox_open ∙ ap (with_opens doc) gone_open;
+      lines_given = given_by users opened e gone_quietly (Some ((open_of doc x).mailbox)) (verdicts_open _ p) mailbox_open;
     }
 
     -- the session stays, and what waited was given
-    pub answers_staying : (v : Verdict) (y : SessionState) → IsWhole doc → ComesTo (answered doc (Some x.holder) v)
+    pub answers_staying : (v : BareVerdict) (y : SessionState) → IsWhole doc → ComesTo (answered doc (Some x.holder) v)
         → open_of doc y ≡ open_with doc e.session x.holder x.made [] x.lagging
-        → Answers users doc doc (before ++ x ∷ behind) (before ++ y ∷ behind) e (x.waiting ++ reply_text v ∷ [])
+        → Answers users doc doc (before ++ x ∷ behind) (before ++ y ∷ behind) e (x.waiting ++ reply_of v ∷ [])
     answers_staying v y w p f =
         let m : Mailbox = (open_of doc x).mailbox in
         let new : Open = open_with doc e.session x.holder x.made [] x.lagging in
@@ -194,11 +187,10 @@ module _ (users : List User) (doc : Document) (before behind : List SessionState
         ∙ ap (λ o. opens doc before ++ o ∷ opens doc behind) (sym f)
         ∙ sym (opens-append doc before (y ∷ behind)) in
         record {
-          is_bundle = false;
-          state = λ n. step_by users (inside n) e (answered doc (Some x.holder) v) (Some m) (verdicts_inside _ p n) (mailbox_inside n)
-              ∙ ap (λ as'. let st : State = record { document = doc; added = n; open_sessions = with_session e.session (Some x.holder) (Some (emptied (posted_if_any m.view as' (emptied m)))) (opens doc (before ++ x ∷ behind)) } in st) none
-              ∙ ap (λ os. let st : State = record { document = doc; added = n; open_sessions = os } in st) placed;
-          lines_given = λ n. given_by users (inside n) e (answered doc (Some x.holder) v) (Some m) (verdicts_inside _ p n) (mailbox_inside n)
-              ∙ ap (λ as'. x.waiting ++ (posted_if_any m.view as' (emptied m)).waiting ++ reply_text v ∷ []) none
-              ∙ ap (λ ls. ls ++ reply_text v ∷ []) (append-nil x.waiting);
+          state = step_by users opened e (answered doc (Some x.holder) v) (Some m) (verdicts_open _ p) mailbox_open
+              ∙ ap (λ as'. with_opens doc (with_session e.session (Some x.holder) (Some (emptied (posted_if_any m.view as' (emptied m)))) (opens doc (before ++ x ∷ behind)))) none
+              ∙ ap (with_opens doc) placed;
+          lines_given = given_by users opened e (answered doc (Some x.holder) v) (Some m) (verdicts_open _ p) mailbox_open
+              ∙ ap (λ as'. x.waiting ++ (posted_if_any m.view as' (emptied m)).waiting ++ reply_of v ∷ []) none
+              ∙ ap (λ ls. ls ++ reply_of v ∷ []) (append-nil x.waiting);
         }

@@ -1,11 +1,10 @@
 -- What an accepted bundle comes to.
-use Rattle.std.proofs.Common.{◌≡◌, ℕ, ◌+◌, ◌-◌, Bool, true, false, ◌||◌, List, [], ◌∷◌, ◌++◌, map, length, option_to_list, Some, None, refl, sym, ap, subst, ◌∙◌, arith, if◌then◌else◌}
+use Rattle.std.proofs.Common.{◌≡◌, ℕ, ◌+◌, ◌-◌, true, false, ◌||◌, List, [], ◌∷◌, ◌++◌, map, length, option_to_list, Some, None, refl, sym, ap, subst, ◌∙◌, arith, if◌then◌else◌}
 use Rattle.std.proofs.lemmas.List.{map-append}
 use Rattle.std.specs.List.{AllByRecursion}
 use Rattle.doc_model.specs.declared.entry.Entry.{Entry}
 use Rattle.doc_model.specs.declared.user.User.{User}
 use Rattle.doc_model.specs.declared.verdict.RetValue.{RetValue}
-use Rattle.doc_model.specs.declared.verdict.Verdict.TheVariants.{Bundle}
 use Rattle.doc_model.specs.declared.view.ViewAction.{ViewAction}
 use Rattle.doc_model.specs.declared.view.ViewTable.{ViewTable}
 use Rattle.doc_model.specs.ByIds.{put_by_id, precedes}
@@ -13,13 +12,15 @@ use Rattle.doc_model.specs.Changes.{changes}
 use Rattle.doc_model.specs.Document.{Document}
 use Rattle.doc_model.specs.DocumentLaws.{IsWhole}
 use Rattle.doc_model.proofs.Choices.{each_mapped}
-use Rattle.grist_json.specs.Lines.{reply_text, stream_text}
-use Rattle.bundle_core.specs.Desk.{state_of, IsSpot, Answers}
+use Rattle.grist_json.specs.Lines.{stream_text}
+use Rattle.bundle_core.specs.BareVerdicts.{reply_of}
+use Rattle.bundle_core.specs.declared.bare_verdict.BareVerdict.TheVariants.{Bundle}
+use Rattle.bundle_core.specs.Dispatch.{state_of, IsSpot, Answers}
 use Rattle.bundle_core.specs.Mailbox.{Mailbox, says, emptied, posted_if_any, is_full}
 use Rattle.bundle_core.specs.SessionState.{SessionState, open_of, IsReady, after_post, line_for, posted_state}
 use Rattle.bundle_core.specs.State.{State, Open, Holder, Verdicts, session_name, posted_to, with_session}
-use Rattle.bundle_core.specs.View.{is_owner, view}
-use Rattle.bundle_core.proofs.Answering.{open_with, opens, opens-append, opens_below, step_by, given_by, ComesTo, verdicts_inside, mailbox_inside}
+use Rattle.bundle_core.specs.View.{view}
+use Rattle.bundle_core.proofs.Answering.{open_with, with_opens, opens, opens-append, opens_below, step_by, given_by, ComesTo, verdicts_open, mailbox_open}
 use Rattle.bundle_core.proofs.Spots.{index_at}
 use Rattle.bundle_core.proofs.ViewLaws.{same_view}
 
@@ -73,16 +74,16 @@ own-line s s' x (a ∷ as') quick same =
     ap (λ l. if l || is_full [] then (let m : Mailbox = record { view = w; made = x.made; waiting = []; lagging = true } in m) else record { view = w; made = x.made + 1; waiting = line ∷ []; lagging = false }) quick
     ∙ sym (ap (λ l. let m : Mailbox = record { view = w; made = x.made + length (option_to_list (if l then None else Some line)); waiting = option_to_list (if l then None else Some line); lagging = false } in m) quick)
 
-module _ (s s' : Document) (w : IsWhole s) (w' : IsWhole s') (told : Bool → List ViewAction) (shown : (user : User) → told (is_owner user) ≡ changes (view user s) (view user s')) where
+module _ (s s' : Document) (w : IsWhole s) (w' : IsWhole s') (told : User → List ViewAction) (shown : (user : User) → told user ≡ changes (view user s) (view user s')) where
   -- who is told nothing has the same view
-  unchanged : (user : User) → told (is_owner user) ≡ [] → view user s ≡ view user s'
+  unchanged : (user : User) → told user ≡ [] → view user s ≡ view user s'
   unchanged user none = same_view user s s' w w' (sym (shown user) ∙ none)
 
   -- a session whose line is ready is posted it
   posted_to-ready : (y : SessionState) → IsReady told y → posted_to s' (open_of s y) ≡ open_of s' (posted_state y)
   posted_to-ready y r =
       ap (λ as'. let o : Open = record { session = y.session; holder = y.holder; mailbox = posted_if_any (view y.holder.user s') as' (open_of s y).mailbox } in o) (sym (shown y.holder.user))
-      ∙ posted-line s s' y (told (is_owner y.holder.user)) (unchanged y.holder.user)
+      ∙ posted-line s s' y (told y.holder.user) (unchanged y.holder.user)
       ∙ ap (λ line. open_of s' (after_post y line)) (sym r.line)
 
   pub all_posted : (ys : List SessionState) → AllByRecursion (IsReady told) ys → map (posted_to s') (opens s ys) ≡ opens s' (map posted_state ys)
@@ -92,7 +93,7 @@ module _ (s s' : Document) (w : IsWhole s) (w' : IsWhole s') (told : Bool → Li
       ∙ ap (λ os. open_of s' (posted_state y) ∷ os) (all_posted ys h.1)
 
 module _ (users : List User) (s s' : Document) (before behind : List SessionState) (e : Entry) (spot : IsSpot e.session before behind) (w : IsWhole s) (w' : IsWhole s')
-    (x : SessionState) (named : x.session ≡ e.session) (quick : x.lagging ≡ false) (told : Bool → List ViewAction) (shown : (user : User) → told (is_owner user) ≡ changes (view user s) (view user s')) where
+    (x : SessionState) (named : x.session ≡ e.session) (quick : x.lagging ≡ false) (told : User → List ViewAction) (shown : (user : User) → told user ≡ changes (view user s) (view user s')) where
   -- the session's own bundle was accepted
   abbrev own_bundle : List RetValue → Verdicts
   own_bundle values = record {
@@ -106,9 +107,9 @@ module _ (users : List User) (s s' : Document) (before behind : List SessionStat
       → ComesTo users s before behind e spot x named (own_bundle values)
       → AllByRecursion (IsReady told) before → AllByRecursion (IsReady told) behind → IsReady told x
       → open_of s' y ≡ open_with s' e.session (record { user = x.holder.user; bundles = x.holder.bundles + 1 }) (x.made + length (option_to_list x.ready)) [] false
-      → Answers users s s' (before ++ x ∷ behind) (map posted_state before ++ y ∷ map posted_state behind) e (x.waiting ++ option_to_list x.ready ++ reply_text (Bundle (x.holder.bundles + 1) values) ∷ [])
+      → Answers users s s' (before ++ x ∷ behind) (map posted_state before ++ y ∷ map posted_state behind) e (x.waiting ++ option_to_list x.ready ++ reply_of (Bundle (x.holder.bundles + 1) values) ∷ [])
   answers_bundle values y p ready_before ready_behind ready f =
-      let st : ℕ → State = λ n. state_of s n (before ++ x ∷ behind) in
+      let st : State = state_of s (before ++ x ∷ behind) in
       let m : Mailbox = (open_of s x).mailbox in
       let view' : List ViewTable = view x.holder.user s' in
       let h : Holder = record { user = x.holder.user; bundles = x.holder.bundles + 1 } in
@@ -131,13 +132,12 @@ module _ (users : List User) (s s' : Document) (before behind : List SessionStat
       ∙ sym (opens-append s' (map posted_state before) (y ∷ map posted_state behind)) in
       let open_line : posted_if_any view' (changes m.view view') (emptied m) ≡ (let n : Mailbox = record { view = view'; made = made; waiting = option_to_list x.ready; lagging = false } in n) =
       ap (λ as'. posted_if_any view' as' (emptied m)) (sym (shown x.holder.user))
-      ∙ own-line s s' x (told (is_owner x.holder.user)) quick (unchanged s s' w w' told shown x.holder.user)
+      ∙ own-line s s' x (told x.holder.user) quick (unchanged s s' w w' told shown x.holder.user)
       ∙ ap (λ line. let n : Mailbox = record { view = view'; made = x.made + length (option_to_list line); waiting = option_to_list line; lagging = false } in n) (sym ready.line) in
       record {
-        is_bundle = true;
-        state = λ n. step_by users (st n) e (own_bundle values) (Some m) (verdicts_inside users s before behind e spot x named _ p n) (mailbox_inside users s before behind e spot x named n)
-            ∙ ap (λ k. let t : State = record { document = s'; added = n + 1; open_sessions = with_session e.session (Some h) (Some (emptied k)) (map (posted_to s') (opens s (before ++ x ∷ behind))) } in t) open_line
-            ∙ ap (λ os. let t : State = record { document = s'; added = n + 1; open_sessions = os } in t) placed;
-        lines_given = λ n. given_by users (st n) e (own_bundle values) (Some m) (verdicts_inside users s before behind e spot x named _ p n) (mailbox_inside users s before behind e spot x named n)
-            ∙ ap (λ k. x.waiting ++ k.waiting ++ reply_text (Bundle (x.holder.bundles + 1) values) ∷ []) open_line;
+        state = step_by users st e (own_bundle values) (Some m) (verdicts_open users s before behind e spot x named _ p) (mailbox_open users s before behind e spot x named)
+            ∙ ap (λ k. with_opens s' (with_session e.session (Some h) (Some (emptied k)) (map (posted_to s') (opens s (before ++ x ∷ behind))))) open_line
+            ∙ ap (with_opens s') placed;
+        lines_given = given_by users st e (own_bundle values) (Some m) (verdicts_open users s before behind e spot x named _ p) (mailbox_open users s before behind e spot x named)
+            ∙ ap (λ k. x.waiting ++ k.waiting ++ reply_of (Bundle (x.holder.bundles + 1) values) ∷ []) open_line;
       }

@@ -12,17 +12,16 @@ use Rattle.doc_model.specs.declared.user.User.{User}
 use Rattle.doc_model.specs.ByIds.{precedes, find_id, IsByIds}
 use Rattle.doc_model.specs.Document.{Document}
 use Rattle.doc_model.specs.DocumentLaws.{IsWhole}
-use Rattle.doc_model.specs.NewDocument.{new_document}
 use Rattle.doc_model.proofs.Choices.{each_weaker, each_mapped, each_unmapped}
 use Rattle.action_limits.specs.declared.tally.Tally.{Tally}
 use Rattle.action_limits.specs.Tallies.{IsTally}
 use Rattle.bundle_core.specs.Core.{state_after, entry_bound, size_bound, size_of, is_gone, is_full, bytes_left, counted, IsCore}
-use Rattle.bundle_core.specs.Desk.{AreSame, Answers, Finds, IsCounted, kept_name, Misses, state_of}
+use Rattle.bundle_core.specs.Dispatch.{AreSame, Answers, Finds, IsCounted, kept_name, Misses, state_of}
 use Rattle.bundle_core.specs.Mailbox.{quiet}
 use Rattle.bundle_core.specs.SessionState.{SessionState, open_of}
-use Rattle.bundle_core.specs.State.{State, Open, Verdicts, session_name, session_of, opening, run, step, after_turn, verdicts, given, from_outside, from_inside, from_behind}
-use Rattle.bundle_core.proofs.Answering.{opens, opens-append, opens_above, opens_below}
-use Rattle.bundle_core.proofs.Inside.{around, some_session}
+use Rattle.bundle_core.specs.State.{State, Open, Verdicts, session_name, session_of, opening, run, step, after_turn, verdicts, given, from_closed, from_open, from_lagging}
+use Rattle.bundle_core.proofs.Answering.{with_opens, opens, opens-append, opens_above, opens_below}
+use Rattle.bundle_core.proofs.OpenLemmas.{around, some_session}
 use Rattle.bundle_core.proofs.Spots.{find_absent_at, find_at}
 use Rattle.bundle_core.proofs.Keeping.{IsBelow, IsGood, step_good, without_good}
 
@@ -63,13 +62,13 @@ gone_verdicts st = record { outcome = quiet; document = st.document; is_bundle =
 verdicts_gone : (users : List User) (st : State) (e : Entry) → e.request ≡ request.Gone → verdicts users st e ≡ gone_verdicts st
 verdicts_gone users st e is =
     elim (session_of e.session st) as (λ o. elim o as (λ _. Verdicts) [
-      | None ↦ from_outside users st e.request
-      | Some x ↦ if x.mailbox.lagging then from_behind st e.request else from_inside st x.holder e.kept e.request
+      | None ↦ from_closed users st e.request
+      | Some x ↦ if x.mailbox.lagging then from_lagging st e.request else from_open st x.holder e.kept e.request
     ] ≡ gone_verdicts st) [
-      | None ↦ ap (from_outside users st) is
-      | Some x ↦ elim x.mailbox.lagging as (λ l. (if l then from_behind st e.request else from_inside st x.holder e.kept e.request) ≡ gone_verdicts st) [
-        | true ↦ ap (from_behind st) is
-        | false ↦ ap (from_inside st x.holder e.kept) is
+      | None ↦ ap (from_closed users st) is
+      | Some x ↦ elim x.mailbox.lagging as (λ l. (if l then from_lagging st e.request else from_open st x.holder e.kept e.request) ≡ gone_verdicts st) [
+        | true ↦ ap (from_lagging st) is
+        | false ↦ ap (from_open st x.holder e.kept) is
       ]
     ]
 
@@ -113,73 +112,72 @@ counted_one es e lt =
 
 -- ---- an entry
 
-module _ (users : List User) (s s' : Document) (tally : Tally) (xs xs' : List SessionState) (es : List Entry) (e : Entry) (lines : List (List ℕ)) (bytes : Option ℕ)
-    (k : IsCore users es s tally xs bytes) (a : Answers users s s' xs xs' e lines) where
+module _ (users : List User) (start s s' : Document) (tally : Tally) (xs xs' : List SessionState) (es : List Entry) (e : Entry) (lines : List (List ℕ)) (bytes : Option ℕ)
+    (k : IsCore users start es s tally xs bytes) (a : Answers users s s' xs xs' e lines) where
   abbrev more : List Entry
   more = es ++ e ∷ []
 
   abbrev st : State
-  st = state_of s k.added xs
+  st = state_of s xs
 
-  leads : state_after users more ≡ state_of s' (if a.is_bundle then k.added + 1 else k.added) xs'
-  leads = run_append users (opening new_document) es e ∙ ap (λ t. step users t e) k.state ∙ a.state k.added
+  leads : state_after users start more ≡ state_of s' xs'
+  leads = run_append users (opening start) es e ∙ ap (λ t. step users t e) k.state ∙ a.state
 
   was_good : IsGood (counted es) st.open_sessions
   was_good = opens_good s (counted es) xs k.by_name k.few
 
-  pub lines_at : lines ≡ given users (state_after users es) e
-  lines_at = sym (a.lines_given k.added) ∙ ap (λ t. given users t e) (sym k.state)
+  pub lines_at : lines ≡ given users (state_after users start es) e
+  lines_at = sym a.lines_given ∙ ap (λ t. given users t e) (sym k.state)
 
-  from_good : (tally' : Tally) (bytes' : Option ℕ) → IsWhole s' → IsTally s' tally' → IsGood (counted more) (step users st e).open_sessions → bytes' ≡ bytes_left (sum_by size_of more) → IsCore users more s' tally' xs' bytes'
+  from_good : (tally' : Tally) (bytes' : Option ℕ) → IsWhole s' → IsTally s' tally' → IsGood (counted more) (step users st e).open_sessions → bytes' ≡ bytes_left (sum_by size_of more) → IsCore users start more s' tally' xs' bytes'
   from_good tally' bytes' whole is g left =
       let P : State → Type 0 = λ t. IsGood (counted more) t.open_sessions in
-      let g' : IsGood (counted more) (map (open_of s') xs') = subst P (a.state k.added) g in
-      record { added = (if a.is_bundle then k.added + 1 else k.added); state = leads; whole = whole; counts = is; by_name = kept_by_name s' xs' g'.by_name; few = kept_few s' (counted more) xs' g'; left = left }
+      let g' : IsGood (counted more) (map (open_of s') xs') = subst P a.state g in
+      record { state = leads; whole = whole; counts = is; by_name = kept_by_name s' xs' g'.by_name; few = kept_few s' (counted more) xs' g'; left = left }
 
   -- where there was room
-  core_roomy : (tally' : Tally) (bytes' : Option ℕ) → IsWhole s' → IsTally s' tally' → length es < entry_bound → bytes' ≡ bytes_left (sum_by size_of more) → IsCore users more s' tally' xs' bytes'
+  core_roomy : (tally' : Tally) (bytes' : Option ℕ) → IsWhole s' → IsTally s' tally' → length es < entry_bound → bytes' ≡ bytes_left (sum_by size_of more) → IsCore users start more s' tally' xs' bytes'
   core_roomy tally' bytes' whole is lt left =
       let c = counted_one es e lt in
       from_good tally' bytes' whole is (more_good (counted es + 1) (counted more) _ c (step_good (counted es) users st e was_good)) left
 
   -- at the end of a connection
-  core_gone : (tally' : Tally) (bytes' : Option ℕ) → IsWhole s' → IsTally s' tally' → e.request ≡ request.Gone → bytes' ≡ bytes_left (sum_by size_of more) → IsCore users more s' tally' xs' bytes'
+  core_gone : (tally' : Tally) (bytes' : Option ℕ) → IsWhole s' → IsTally s' tally' → e.request ≡ request.Gone → bytes' ≡ bytes_left (sum_by size_of more) → IsCore users start more s' tally' xs' bytes'
   core_gone tally' bytes' whole is gone left =
       let c = counted_more es e in
       from_good tally' bytes' whole is (more_good (counted es) (counted more) _ c (gone_good (counted es) users st e gone was_good)) left
 
   -- what was not full has room, or is the end of a connection
-  pub core_after : (tally' : Tally) (bytes' : Option ℕ) → IsWhole s' → IsTally s' tally' → is_full es e.request e.size ≡ false → bytes' ≡ bytes_left (sum_by size_of es + e.size) → IsCore users more s' tally' xs' bytes'
+  pub core_after : (tally' : Tally) (bytes' : Option ℕ) → IsWhole s' → IsTally s' tally' → is_full es e.request e.size ≡ false → bytes' ≡ bytes_left (sum_by size_of es + e.size) → IsCore users start more s' tally' xs' bytes'
   core_after tally' bytes' whole is room left =
       let all = sum_by-append size_of es (e ∷ []) in
       let sums : sum_by size_of more ≡ sum_by size_of es + e.size = omega (arith, all) in
       let left' : bytes' ≡ bytes_left (sum_by size_of more) = left ∙ ap bytes_left (sym sums) in
-      elim (is_gone e.request) as (λ g. is_gone e.request ≡ g → (not g && (nat_le entry_bound (length es) || nat_lt size_bound (sum_by size_of es + e.size))) ≡ false → IsCore users more s' tally' xs' bytes') [
+      elim (is_gone e.request) as (λ g. is_gone e.request ≡ g → (not g && (nat_le entry_bound (length es) || nat_lt size_bound (sum_by size_of es + e.size))) ≡ false → IsCore users start more s' tally' xs' bytes') [
         | true ↦ λ gone _. core_gone tally' bytes' whole is (gone_is e.request gone) left'
         | false ↦ λ _ r. core_roomy tally' bytes' whole is (short es (or_false (nat_le entry_bound (length es)) _ r)) left'
       ] refl room
 
 -- ---- counts stay far below the bounds of their types
 
-pub few_made : (users : List User) (es : List Entry) (s : Document) (tally : Tally) (xs : List SessionState) (bytes : Option ℕ) → IsCore users es s tally xs bytes → AllByRecursion (λ x. x.made < 2 ^ 62) xs
-few_made users es s tally xs bytes k =
+pub few_made : (users : List User) (start : Document) (es : List Entry) (s : Document) (tally : Tally) (xs : List SessionState) (bytes : Option ℕ) → IsCore users start es s tally xs bytes → AllByRecursion (λ x. x.made < 2 ^ 62) xs
+few_made users start es s tally xs bytes k =
     each_weaker (IsCounted (counted es)) (λ x. x.made < 2 ^ 62) (λ x c. omega (arith, c.made, min-le_right (length es) entry_bound)) xs k.few
 
-pub few_accepted : (users : List User) (es : List Entry) (s : Document) (tally : Tally) (xs : List SessionState) (bytes : Option ℕ) → IsCore users es s tally xs bytes → AllByRecursion (λ x. x.holder.bundles < 2 ^ 62) xs
-few_accepted users es s tally xs bytes k =
+pub few_accepted : (users : List User) (start : Document) (es : List Entry) (s : Document) (tally : Tally) (xs : List SessionState) (bytes : Option ℕ) → IsCore users start es s tally xs bytes → AllByRecursion (λ x. x.holder.bundles < 2 ^ 62) xs
+few_accepted users start es s tally xs bytes k =
     each_weaker (IsCounted (counted es)) (λ x. x.holder.bundles < 2 ^ 62) (λ x c. omega (arith, c.bundles, min-le_right (length es) entry_bound)) xs k.few
 
 -- ---- sessions that are the same
 
-pub core_same : (users : List User) (es : List Entry) (s s' : Document) (tally tally' : Tally) (xs ys : List SessionState) (bytes : Option ℕ) → s' ≡ s → IsTally s' tally' → AreSame xs ys → IsCore users es s tally xs bytes → IsCore users es s' tally' ys bytes
-core_same users es s s' tally tally' xs ys bytes e is same k =
+pub core_same : (users : List User) (start : Document) (es : List Entry) (s s' : Document) (tally tally' : Tally) (xs ys : List SessionState) (bytes : Option ℕ) → s' ≡ s → IsTally s' tally' → AreSame xs ys → IsCore users start es s tally xs bytes → IsCore users start es s' tally' ys bytes
+core_same users start es s s' tally tally' xs ys bytes e is same k =
     let T : Document → Type 0 = λ d. IsTally d tally' in
-    let P : Document → Type 0 = λ d. IsCore users es d tally' ys bytes in
+    let P : Document → Type 0 = λ d. IsCore users start es d tally' ys bytes in
     let Q : List Open → Type 0 = λ os. IsGood (counted es) os in
     let g : IsGood (counted es) (map (open_of s) ys) = subst Q (sym (same s)) (opens_good s (counted es) xs k.by_name k.few) in
     subst P (sym e) (record {
-      added = k.added;
-      state = k.state ∙ ap (λ os. let t : State = record { document = s; added = k.added; open_sessions = os } in t) (sym (same s));
+      state = k.state ∙ ap (with_opens s) (sym (same s));
       whole = k.whole;
       counts = subst T e is;
       by_name = kept_by_name s ys g.by_name;
@@ -189,11 +187,11 @@ core_same users es s s' tally tally' xs ys bytes e is same k =
 
 -- ---- whether a session is open
 
-module _ (users : List User) (es : List Entry) (s : Document) (tally : Tally) (xs : List SessionState) (bytes : Option ℕ) (name : List ℕ) (k : IsCore users es s tally xs bytes) where
-  found_as : (o : Option Open) → find_id session_name name (map (open_of s) xs) ≡ o → is_some (session_of name (state_after users es)) ≡ is_some o
+module _ (users : List User) (start : Document) (es : List Entry) (s : Document) (tally : Tally) (xs : List SessionState) (bytes : Option ℕ) (name : List ℕ) (k : IsCore users start es s tally xs bytes) where
+  found_as : (o : Option Open) → find_id session_name name (map (open_of s) xs) ≡ o → is_some (session_of name (state_after users start es)) ≡ is_some o
   found_as o f = ap (λ t. is_some (session_of name t)) k.state ∙ ap is_some f
 
-  pub open_found : (p : ℕ) → Finds name xs p → is_some (session_of name (state_after users es)) ≡ true
+  pub open_found : (p : ℕ) → Finds name xs p → is_some (session_of name (state_after users start es)) ≡ true
   open_found p f =
       let x = get_or xs p some_session in
       let P : List SessionState → Type 0 = λ l. find_id session_name name (opens s l) ≡ Some (open_of s x) in
@@ -201,13 +199,13 @@ module _ (users : List User) (es : List Entry) (s : Document) (tally : Tally) (x
       (ap (find_id session_name name) (opens-append s (take p xs) (x ∷ drop (suc p) xs))
       ∙ find_at session_name name (opens s (take p xs)) (opens s (drop (suc p) xs)) (open_of s x) (opens_below s name (take p xs) f.spot.below) (f.named some_session)))
 
-  pub open_missed : (p : ℕ) → Misses name xs p → is_some (session_of name (state_after users es)) ≡ false
+  pub open_missed : (p : ℕ) → Misses name xs p → is_some (session_of name (state_after users start es)) ≡ false
   open_missed p m =
       let P : List SessionState → Type 0 = λ l. find_id session_name name (opens s l) ≡ None in
       found_as None (subst P (take-append-drop p xs)
       (ap (find_id session_name name) (opens-append s (take p xs) (drop p xs))
       ∙ find_absent_at session_name name (opens s (take p xs)) (opens s (drop p xs)) (opens_below s name (take p xs) m.spot.below) (opens_above s name (drop p xs) m.spot.above)))
 
-  pub open_as : (r : Result ℕ ℕ) → MatchResult r (λ p. Finds name xs p) (λ p. Misses name xs p) → is_ok r ≡ is_some (session_of name (state_after users es))
+  pub open_as : (r : Result ℕ ℕ) → MatchResult r (λ p. Finds name xs p) (λ p. Misses name xs p) → is_ok r ≡ is_some (session_of name (state_after users start es))
   open_as (Ok p) f = sym (open_found p f)
   open_as (Err p) m = sym (open_missed p m)

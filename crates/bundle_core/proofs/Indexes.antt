@@ -10,7 +10,7 @@ use Rattle.std.specs.Ordering.{nat_cmp, is_lt, is_eq, ordering_reverse}
 use Rattle.doc_model.specs.ByIds.{precedes, IsByIds}
 use Rattle.doc_model.proofs.ByIdsLaws.{precedes_trans}
 use Rattle.doc_model.proofs.Choices.{each_weaker}
-use Rattle.bundle_core.specs.Desk.{kept_name, Finds, Misses}
+use Rattle.bundle_core.specs.Dispatch.{kept_name, Finds, Misses}
 use Rattle.bundle_core.specs.SessionState.{SessionState}
 
 -- those behind an index stand above what stands there

@@ -7,7 +7,6 @@ use Rattle.doc_model.specs.declared.refusal.Refusal.TheVariants.{UnknownToken}
 use Rattle.doc_model.specs.declared.request.Request.{Request}
 use Rattle.doc_model.specs.declared.request.Request.TheVariants as request
 use Rattle.doc_model.specs.declared.user.User.{User}
-use Rattle.doc_model.specs.declared.verdict.Verdict.TheVariants as verdict
 use Rattle.doc_model.specs.declared.view.ViewAction.{ViewAction}
 use Rattle.doc_model.specs.declared.view.ViewTable.{ViewTable}
 use Rattle.doc_model.specs.ByIds.{precedes, find_id, IsByIds, put_by_id, without_id}
@@ -17,10 +16,11 @@ use Rattle.doc_model.proofs.ByIdsLaws.{IsByIds-put_by_id, IsByIds-filter, found_
 use Rattle.doc_model.proofs.Choices.{each_weaker, each_filter, each_mapped}
 use Rattle.doc_model.specs.declared.limit.LimitKind.TheVariants as limit
 use Rattle.grist_json.specs.Lines.{stream_text}
+use Rattle.bundle_core.specs.declared.bare_verdict.BareVerdict.TheVariants as verdict
 use Rattle.bundle_core.specs.Judgement.{Judgement, accepted, refused, judge}
 use Rattle.bundle_core.specs.Mailbox.{Mailbox, Outcome, quiet, shows_view, says, own, due, posted, posted_if_any, emptied, is_full}
-use Rattle.bundle_core.specs.State.{State, Open, Holder, Verdicts, session_name, session_of, mailbox_of, posted_to, posted_all, with_session, turn_of, step, verdicts, from_outside, from_inside, from_behind, opened, bundle_of, user_of, answered, refusal, session_bound}
-use Rattle.bundle_core.specs.View.{is_owner, view}
+use Rattle.bundle_core.specs.State.{State, Open, Holder, Verdicts, session_name, session_of, mailbox_of, posted_to, posted_all, with_session, turn_of, step, verdicts, from_closed, from_open, from_lagging, opened, bundle_of, user_of, answered, refusal, session_bound}
+use Rattle.bundle_core.specs.View.{view}
 
 -- nothing of a session is counted past n
 pub record IsBelow (n : ℕ) (o : Open) : Type 0 where
@@ -71,27 +71,27 @@ bundle_few n h s kept (refused v) le = omega (arith, le)
 bundle_few n h s true (accepted after values) le = omega (arith, le)
 bundle_few n h s false (accepted after values) le = omega (arith, le)
 
-inside_few : (n : ℕ) (st : State) (h : Holder) (kept : Bool) (r : Request) → h.bundles ≤ n → HoldsFew (n + 1) (from_inside st h kept r).holder
-inside_few n st h kept request.Bad le = omega (arith, le)
-inside_few n st h kept request.TooLong le = omega (arith, le)
-inside_few n st h kept (request.Open token) le = omega (arith, le)
-inside_few n st h kept (request.Apply actions) le = bundle_few n h st.document kept (judge (is_owner h.user) st.document actions) le
-inside_few n st h kept (request.Undo bundle) le = omega (arith, le)
-inside_few n st h kept request.Sync le = omega (arith, le)
-inside_few n st h kept (request.Fetch table) le = omega (arith, le)
-inside_few n st h kept request.Close le = tt
-inside_few n st h kept request.Gone le = tt
+open_few : (n : ℕ) (st : State) (h : Holder) (kept : Bool) (r : Request) → h.bundles ≤ n → HoldsFew (n + 1) (from_open st h kept r).holder
+open_few n st h kept request.Bad le = omega (arith, le)
+open_few n st h kept request.TooLong le = omega (arith, le)
+open_few n st h kept (request.Open token) le = omega (arith, le)
+open_few n st h kept (request.Apply actions) le = bundle_few n h st.document kept (judge h.user st.document actions) le
+open_few n st h kept (request.Undo bundle) le = omega (arith, le)
+open_few n st h kept request.Sync le = omega (arith, le)
+open_few n st h kept (request.Fetch table) le = omega (arith, le)
+open_few n st h kept request.Close le = tt
+open_few n st h kept request.Gone le = tt
 
-behind_few : (n : ℕ) (st : State) (r : Request) → HoldsFew (n + 1) (from_behind st r).holder
-behind_few n st request.Gone = tt
-behind_few n st request.Bad = tt
-behind_few n st request.TooLong = tt
-behind_few n st (request.Open token) = tt
-behind_few n st (request.Apply actions) = tt
-behind_few n st (request.Undo bundle) = tt
-behind_few n st request.Sync = tt
-behind_few n st (request.Fetch table) = tt
-behind_few n st request.Close = tt
+lagging_few : (n : ℕ) (st : State) (r : Request) → HoldsFew (n + 1) (from_lagging st r).holder
+lagging_few n st request.Gone = tt
+lagging_few n st request.Bad = tt
+lagging_few n st request.TooLong = tt
+lagging_few n st (request.Open token) = tt
+lagging_few n st (request.Apply actions) = tt
+lagging_few n st (request.Undo bundle) = tt
+lagging_few n st request.Sync = tt
+lagging_few n st (request.Fetch table) = tt
+lagging_few n st request.Close = tt
 
 opened_few : (n : ℕ) (users : List User) (st : State) (token : List ℕ) → HoldsFew (n + 1) (opened users st token).holder
 opened_few n users st token =
@@ -107,16 +107,16 @@ opened_few n users st token =
           else record { outcome = shows_view; document = st.document; is_bundle = false; holder = Some (record { user = user; bundles = 0 }) }).holder) [ true ↦ tt | false ↦ omega arith ]
     ]
 
-outside_few : (n : ℕ) (users : List User) (st : State) (r : Request) → HoldsFew (n + 1) (from_outside users st r).holder
-outside_few n users st request.Bad = tt
-outside_few n users st request.TooLong = tt
-outside_few n users st (request.Open token) = opened_few n users st token
-outside_few n users st request.Gone = tt
-outside_few n users st (request.Apply actions) = tt
-outside_few n users st (request.Undo bundle) = tt
-outside_few n users st request.Sync = tt
-outside_few n users st (request.Fetch table) = tt
-outside_few n users st request.Close = tt
+closed_few : (n : ℕ) (users : List User) (st : State) (r : Request) → HoldsFew (n + 1) (from_closed users st r).holder
+closed_few n users st request.Bad = tt
+closed_few n users st request.TooLong = tt
+closed_few n users st (request.Open token) = opened_few n users st token
+closed_few n users st request.Gone = tt
+closed_few n users st (request.Apply actions) = tt
+closed_few n users st (request.Undo bundle) = tt
+closed_few n users st request.Sync = tt
+closed_few n users st (request.Fetch table) = tt
+closed_few n users st request.Close = tt
 
 -- what holds of each open session holds of the one that is found
 abbrev pub FoundBelow : ℕ → Option Open → Type 0
@@ -133,13 +133,13 @@ found_below n name os h =
 verdicts_few : (n : ℕ) (users : List User) (st : State) (e : Entry) → FoundBelow n (session_of e.session st) → HoldsFew (n + 1) (verdicts users st e).holder
 verdicts_few n users st e f =
     elim (session_of e.session st) as (λ o. FoundBelow n o → HoldsFew (n + 1) (elim o as (λ _. Verdicts) [
-      | None ↦ from_outside users st e.request
-      | Some x ↦ if x.mailbox.lagging then from_behind st e.request else from_inside st x.holder e.kept e.request
+      | None ↦ from_closed users st e.request
+      | Some x ↦ if x.mailbox.lagging then from_lagging st e.request else from_open st x.holder e.kept e.request
     ]).holder) [
-      | None ↦ λ _. outside_few n users st e.request
-      | Some x ↦ λ b. elim x.mailbox.lagging as (λ l. HoldsFew (n + 1) (if l then from_behind st e.request else from_inside st x.holder e.kept e.request).holder) [
-        | true ↦ behind_few n st e.request
-        | false ↦ inside_few n st x.holder e.kept e.request b.bundles
+      | None ↦ λ _. closed_few n users st e.request
+      | Some x ↦ λ b. elim x.mailbox.lagging as (λ l. HoldsFew (n + 1) (if l then from_lagging st e.request else from_open st x.holder e.kept e.request).holder) [
+        | true ↦ lagging_few n st e.request
+        | false ↦ open_few n st x.holder e.kept e.request b.bundles
       ]
     ] f
 

@@ -1,14 +1,15 @@
 -- Sessions whose lines are made ready one after another, and are then posted.
-use Rattle.std.proofs.Common.{◌≡◌, Bool, ℕ, suc, zero, ◌+◌, ◌<◌, ◌^◌, List, [], ◌∷◌, ◌++◌, map, take, drop, length, get_or, set, option_to_list, Result, Ok, Err, OnErr, refl, sym, ap, subst, ◌∙◌, arith, add-one}
+use Rattle.std.proofs.Common.{◌≡◌, ℕ, suc, zero, ◌+◌, ◌<◌, ◌^◌, List, [], ◌∷◌, ◌++◌, map, take, drop, length, get_or, set, option_to_list, Result, Ok, Err, OnErr, refl, sym, ap, subst, ◌∙◌, arith, add-one}
 use Rattle.std.specs.List.{AllByRecursion, insert}
+use Rattle.doc_model.specs.declared.user.User.{User}
 use Rattle.doc_model.specs.declared.view.ViewAction.{ViewAction}
 use Rattle.doc_model.specs.Document.{Document}
-use Rattle.bundle_core.specs.Desk.{AreSame, Posts, Stays}
+use Rattle.bundle_core.specs.Dispatch.{AreSame, Posts, Stays}
 use Rattle.bundle_core.specs.SessionState.{SessionState, open_of, posted_state, IsPrepared, IsReady, IsEmptied}
 use Rattle.bundle_core.proofs.Answering.{open_of-fields}
 
 -- the first ones are ready
-pub record Preparing (told : Bool → List ViewAction) (index : ℕ) (old now : List SessionState) : Type 0 where
+pub record Preparing (told : User → List ViewAction) (index : ℕ) (old now : List SessionState) : Type 0 where
   pub same : AreSame old now
   pub few : AllByRecursion (λ x. x.made < 2 ^ 63) now
   pub ready : AllByRecursion (IsReady told) (take index now)
@@ -47,7 +48,7 @@ few_at [] i x lt is k = absurd (omega (arith, lt))
 few_at (z ∷ xs) zero x lt is k = let P : SessionState → Type 0 = λ y. y.made < 2 ^ 63 in subst P (sym is) k.0
 few_at (z ∷ xs) (suc i) x lt is k = few_at xs i x (omega (arith, lt)) is k.1
 
-ready_set : (told : Bool → List ViewAction) (xs : List SessionState) (i : ℕ) (y : SessionState) → i < length xs → IsReady told y → AllByRecursion (IsReady told) (take i xs) → AllByRecursion (IsReady told) (take (suc i) (set xs i y))
+ready_set : (told : User → List ViewAction) (xs : List SessionState) (i : ℕ) (y : SessionState) → i < length xs → IsReady told y → AllByRecursion (IsReady told) (take i xs) → AllByRecursion (IsReady told) (take (suc i) (set xs i y))
 ready_set told [] i y lt h k = absurd (omega (arith, lt))
 ready_set told (x ∷ xs) zero y lt h k = (h, tt)
 ready_set told (x ∷ xs) (suc i) y lt h k = (k.0, ready_set told xs i y (omega (arith, lt)) h k.1)
@@ -55,13 +56,13 @@ ready_set told (x ∷ xs) (suc i) y lt h k = (k.0, ready_set told xs i y (omega 
 same_after : (xs ys zs : List SessionState) → AreSame xs ys → AreSame ys zs → AreSame xs zs
 same_after xs ys zs h k s = k s ∙ h s
 
-pub may_prepare : (told : Bool → List ViewAction) (i : ℕ) (old now : List SessionState) (x : SessionState) → Preparing told i old now → i < length now → x ≡ get_or now i x → x.made < 2 ^ 63
+pub may_prepare : (told : User → List ViewAction) (i : ℕ) (old now : List SessionState) (x : SessionState) → Preparing told i old now → i < length now → x ≡ get_or now i x → x.made < 2 ^ 63
 may_prepare told i old now x h lt is = few_at now i x lt is h.few
 
-pub prepared_one : (told : Bool → List ViewAction) (i : ℕ) (old now : List SessionState) (x y : SessionState) → Preparing told i old now → i < length now → x ≡ get_or now i x → IsPrepared x y → AreSame old (set now i y)
+pub prepared_one : (told : User → List ViewAction) (i : ℕ) (old now : List SessionState) (x y : SessionState) → Preparing told i old now → i < length now → x ≡ get_or now i x → IsPrepared x y → AreSame old (set now i y)
 prepared_one told i old now x y h lt is p = same_after old now (set now i y) h.same (same_set now i x y lt is p)
 
-pub prepares_one : (told : Bool → List ViewAction) (i : ℕ) (old now : List SessionState) (x y : SessionState) → Preparing told i old now → i < length now → x ≡ get_or now i x → IsPrepared x y → IsReady told y → Preparing told (i + 1) old (set now i y)
+pub prepares_one : (told : User → List ViewAction) (i : ℕ) (old now : List SessionState) (x y : SessionState) → Preparing told i old now → i < length now → x ≡ get_or now i x → IsPrepared x y → IsReady told y → Preparing told (i + 1) old (set now i y)
 prepares_one told i old now x y h lt is p r = record {
   same = prepared_one told i old now x y h lt is p;
   few = few_set now i y (let P : ℕ → Type 0 = λ n. n < 2 ^ 63 in subst P (sym p.made) (few_at now i x lt is h.few)) h.few;

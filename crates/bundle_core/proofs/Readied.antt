@@ -1,20 +1,22 @@
 -- Sessions that are the same but for lines that are ready.
-use Rattle.std.proofs.Common.{◌≡◌, Bool, ℕ, suc, zero, ◌+◌, ◌<◌, ◌^◌, true, false, not, ◌||◌, List, [], ◌∷◌, map, length, get_or, Some, refl, sym, ap, subst, ◌∙◌, arith}
-use Rattle.std.proofs.lemmas.Bool.{false≢true}
+use Rattle.std.proofs.Common.{◌≡◌, ℕ, suc, zero, ◌+◌, ◌<◌, ◌^◌, true, List, [], ◌∷◌, map, length, get_or, Some, refl, sym, ap, subst, ◌∙◌, arith}
 use Rattle.std.specs.List.{AllByRecursion}
-use Rattle.doc_model.specs.declared.verdict.Verdict.TheVariants.{Bundle}
+use Rattle.doc_model.specs.declared.user.User.{User}
 use Rattle.doc_model.specs.declared.view.ViewAction.{ViewAction}
 use Rattle.doc_model.specs.NewDocument.{new_document}
 use Rattle.doc_model.proofs.Choices.{each_mapped, each_unmapped}
 use Rattle.doc_model.specs.Document.{Document}
-use Rattle.grist_json.specs.Lines.{reply_text}
-use Rattle.bundle_core.specs.declared.made.Made.{Made}
-use Rattle.bundle_core.specs.Desk.{AreSame, bundle_number, bundle_reply, user_at, values_told}
-use Rattle.bundle_core.specs.Made.{told_of}
+use Rattle.view_parts.specs.declared.viewers.Viewer.{Viewer}
+use Rattle.view_parts.specs.Viewers.{viewer_of}
+use Rattle.bundle_core.specs.BareVerdicts.{reply_of}
+use Rattle.bundle_core.specs.declared.bare_verdict.BareVerdict.TheVariants.{Bundle}
+use Rattle.bundle_core.specs.declared.created.Created.{Created}
+use Rattle.bundle_core.specs.Dispatch.{AreSame, bundle_number, bundle_reply, user_at, values_told}
+use Rattle.bundle_core.specs.Created.{told_of}
 use Rattle.bundle_core.specs.SessionState.{SessionState, open_of, IsReady, MayPost, line_for}
 use Rattle.bundle_core.specs.State.{Open}
-use Rattle.bundle_core.specs.Telling.{are_mixed}
-use Rattle.bundle_core.specs.View.{is_owner, view}
+use Rattle.bundle_core.specs.ViewChanges.{is_among}
+use Rattle.bundle_core.specs.View.{view}
 
 -- what holds of the sessions as open ones holds of them when more is ready
 pub each_same : (P : Open → Type 0) (old new : List SessionState) → AreSame old new → AllByRecursion (λ x. P (open_of new_document x)) old → AllByRecursion (λ x. P (open_of new_document x)) new
@@ -22,11 +24,11 @@ each_same P old new h k =
     let Q : List Open → Type 0 = λ os. AllByRecursion P os in
     each_unmapped P (open_of new_document) new (subst Q (sym (h new_document)) (each_mapped P (open_of new_document) old k))
 
-may_post : (told : Bool → List ViewAction) (xs : List SessionState) → AllByRecursion (λ x. x.made < 2 ^ 62) xs → AllByRecursion (IsReady told) xs → AllByRecursion MayPost xs
+may_post : (told : User → List ViewAction) (xs : List SessionState) → AllByRecursion (λ x. x.made < 2 ^ 62) xs → AllByRecursion (IsReady told) xs → AllByRecursion MayPost xs
 may_post told [] h k = tt
 may_post told (x ∷ xs) h k = (record { room = k.0.room; few = omega (arith, h.0) }, may_post told xs h.1 k.1)
 
-pub all_may_post : (told : Bool → List ViewAction) (old new : List SessionState) → AreSame old new → AllByRecursion (λ x. x.made < 2 ^ 62) old → AllByRecursion (IsReady told) new → AllByRecursion MayPost new
+pub all_may_post : (told : User → List ViewAction) (old new : List SessionState) → AreSame old new → AllByRecursion (λ x. x.made < 2 ^ 62) old → AllByRecursion (IsReady told) new → AllByRecursion MayPost new
 all_may_post told old new h k r = may_post told new (each_same (λ (o : Open). o.mailbox.made < 2 ^ 62) old new h k) r
 
 few_more : (xs : List SessionState) → AllByRecursion (λ x. x.holder.bundles < 2 ^ 62) xs → AllByRecursion (λ x. x.holder.bundles < 2 ^ 63) xs
@@ -51,7 +53,7 @@ bundle_number-is [] i d lt = absurd (omega (arith, lt))
 bundle_number-is (x ∷ xs) zero d lt = refl
 bundle_number-is (x ∷ xs) (suc i) d lt = bundle_number-is xs i d (omega (arith, lt))
 
-pub ready_at : (told : Bool → List ViewAction) (xs : List SessionState) (i : ℕ) (d : SessionState) → i < length xs → AllByRecursion (IsReady told) xs → IsReady told (get_or xs i d)
+pub ready_at : (told : User → List ViewAction) (xs : List SessionState) (i : ℕ) (d : SessionState) → i < length xs → AllByRecursion (IsReady told) xs → IsReady told (get_or xs i d)
 ready_at told [] i d lt h = absurd (omega (arith, lt))
 ready_at told (x ∷ xs) zero d lt h = h.0
 ready_at told (x ∷ xs) (suc i) d lt h = ready_at told xs i d (omega (arith, lt)) h.1
@@ -63,44 +65,20 @@ user_at-is (x ∷ xs) zero d lt = refl
 user_at-is (x ∷ xs) (suc p) d lt = user_at-is xs p d (omega (arith, lt))
 
 -- the reply to a bundle of the session of an index
-pub reply_is : (xs : List SessionState) (p : ℕ) (d : SessionState) (s : Document) (ms : List Made) → p < length xs
-    → reply_text (Bundle ((get_or xs p d).holder.bundles + 1) (map (told_of (view (get_or xs p d).holder.user s)) ms)) ≡ bundle_reply xs p s ms
+pub reply_is : (xs : List SessionState) (p : ℕ) (d : SessionState) (s : Document) (ms : List Created) → p < length xs
+    → reply_of (Bundle ((get_or xs p d).holder.bundles + 1) (map (told_of (view (get_or xs p d).holder.user s)) ms)) ≡ bundle_reply xs p s ms
 reply_is xs p d s ms lt =
-    sym (ap (λ n. reply_text (Bundle n (values_told (user_at xs p) s ms))) (bundle_number-is xs p d lt)
-    ∙ ap (λ u. reply_text (Bundle ((get_or xs p d).holder.bundles + 1) (values_told u s ms))) (user_at-is xs p d lt))
+    sym (ap (λ n. reply_of (Bundle n (values_told (user_at xs p) s ms))) (bundle_number-is xs p d lt)
+    ∙ ap (λ u. reply_of (Bundle ((get_or xs p d).holder.bundles + 1) (values_told u s ms))) (user_at-is xs p d lt))
 
-or_true : (b : Bool) → (b || true) ≡ true
-or_true true = refl
-or_true false = refl
+as_told : (f h : User → List ViewAction) (viewers : List Viewer) (xs : List SessionState) → AllByRecursion (λ x. is_among viewers (viewer_of x.holder.user) ≡ true) xs
+    → ((user : User) → is_among viewers (viewer_of user) ≡ true → f user ≡ h user) → AllByRecursion (IsReady f) xs → AllByRecursion (IsReady h) xs
+as_told f h viewers [] among same k = tt
+as_told f h viewers (x ∷ xs) among same k =
+    (record { line = k.0.line ∙ ap (λ as'. line_for as' x) (same x.holder.user among.0); room = k.0.room }, as_told f h viewers xs among.1 same k.1)
 
-each_always : (xs : List SessionState) → AllByRecursion (λ x. (is_owner x.holder.user || true) ≡ true) xs
-each_always [] = tt
-each_always (x ∷ xs) = (or_true (is_owner x.holder.user), each_always xs)
-
-or_parts : (a b : Bool) → (a || b) ≡ false → (a ≡ false) × (b ≡ false)
-or_parts true b e = absurd (false≢true (sym e))
-or_parts false b e = (refl, e)
-
-not_false : (b : Bool) → not b ≡ false → b ≡ true
-not_false true e = refl
-not_false false e = absurd (false≢true (sym e))
-
--- where nobody is told but owners, each session is an owner's
-all_asked : (xs : List SessionState) (mixed : Bool) → are_mixed xs ≡ mixed → AllByRecursion (λ x. (is_owner x.holder.user || mixed) ≡ true) xs
-all_asked xs true e = each_always xs
-all_asked [] false e = tt
-all_asked (x ∷ xs) false e =
-    let rest = or_parts (not (is_owner x.holder.user)) (are_mixed xs) e in
-    (ap (λ b. b || false) (not_false (is_owner x.holder.user) rest.0), all_asked xs false rest.1)
-
-as_told : (f h : Bool → List ViewAction) (mixed : Bool) (xs : List SessionState) → AllByRecursion (λ x. (is_owner x.holder.user || mixed) ≡ true) xs
-    → ((owner : Bool) → (owner || mixed) ≡ true → f owner ≡ h owner) → AllByRecursion (IsReady f) xs → AllByRecursion (IsReady h) xs
-as_told f h mixed [] asks same k = tt
-as_told f h mixed (x ∷ xs) asks same k =
-    (record { line = k.0.line ∙ ap (λ as'. line_for as' x) (same (is_owner x.holder.user) asks.0); room = k.0.room }, as_told f h mixed xs asks.1 same k.1)
-
--- lines that tell the same to all who are there are ready for it
-pub ready_as : (f h : Bool → List ViewAction) (mixed : Bool) (old new : List SessionState) → AreSame old new → are_mixed old ≡ mixed
-    → ((owner : Bool) → (owner || mixed) ≡ true → f owner ≡ h owner) → AllByRecursion (IsReady f) new → AllByRecursion (IsReady h) new
-ready_as f h mixed old new same e told k =
-    as_told f h mixed new (each_same (λ (o : Open). (is_owner o.holder.user || mixed) ≡ true) old new same (all_asked old mixed e)) told k
+-- lines that tell the same to the viewers of all sessions are ready for it
+pub ready_as : (f h : User → List ViewAction) (viewers : List Viewer) (old new : List SessionState) → AreSame old new → AllByRecursion (λ x. is_among viewers (viewer_of x.holder.user) ≡ true) old
+    → ((user : User) → is_among viewers (viewer_of user) ≡ true → f user ≡ h user) → AllByRecursion (IsReady f) new → AllByRecursion (IsReady h) new
+ready_as f h viewers old new same among told k =
+    as_told f h viewers new (each_same (λ (o : Open). is_among viewers (viewer_of o.holder.user) ≡ true) old new same among) told k

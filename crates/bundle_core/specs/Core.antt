@@ -11,18 +11,21 @@ use Rattle.doc_model.specs.DocumentLaws.{IsWhole}
 use Rattle.doc_model.specs.NewDocument.{new_document}
 use Rattle.action_limits.specs.declared.tally.Tally.{Tally}
 use Rattle.action_limits.specs.Tallies.{IsTally}
-use Rattle.bundle_core.specs.Desk.{kept_name, state_of, IsCounted}
+use Rattle.bundle_core.specs.declared.history_core.Opening.{Opening}
+use Rattle.bundle_core.specs.declared.history_core.Opening.TheVariants.{NewDocument}
+use Rattle.bundle_core.specs.Dispatch.{kept_name, state_of, IsCounted}
 use Rattle.bundle_core.specs.SessionState.{SessionState}
 use Rattle.bundle_core.specs.State.{State, opening, run, session_of, given}
 
--- the users, and the history of a new document's entries
+-- the users, the document that the core began with, and the history of its entries
 pub record CoreState : Type 0 where
   pub users : List User
+  pub start : Document
   pub history : List Entry
 
 -- the state that a history leads to
-abbrev pub state_after : List User → List Entry → State
-state_after users es = run users (opening new_document) es
+abbrev pub state_after : List User → Document → List Entry → State
+state_after users start es = run users (opening start) es
 
 -- how many entries a history has before a step answers that it is full
 abbrev pub entry_bound : ℕ
@@ -41,24 +44,29 @@ is_gone _ = false
 
 -- a history has no room for one more request of that size; the end of a connection has always room
 abbrev pub is_full : List Entry → Request → ℕ → Bool
-is_full es r size = not (is_gone r) && (nat_le entry_bound (length es) || nat_lt size_bound (sum_by size_of es + size))
+is_full es r size = not (is_gone r)
+    && (nat_le entry_bound (length es) || nat_lt size_bound (sum_by size_of es + size))
 
 -- an entry without effect is not kept: a session that is not open is gone
 abbrev pub has_no_effect : CoreState → Entry → Bool
-has_no_effect c e = is_gone e.request && not (is_some (session_of e.session (state_after c.users c.history)))
+has_no_effect c e = is_gone e.request
+    && not (is_some (session_of e.session (state_after c.users c.start c.history)))
 
 -- the core after an entry
 abbrev pub with_entry : CoreState → Entry → CoreState
-with_entry c e = if has_no_effect c e then c else record { users = c.users; history = c.history ++ e ∷ [] }
+with_entry c e =
+    if has_no_effect c e
+    then c
+    else record { users = c.users; start = c.start; history = c.history ++ e ∷ [] }
 
--- the entry of a request
-abbrev pub entry_of : List ℕ → Request → ℕ → Entry
-entry_of session r size = record { session = session; request = r; size = size; kept = true }
+-- the entry of a request, and whether the keeper keeps it where it is a bundle that is accepted
+abbrev pub entry_of : List ℕ → Request → ℕ → Bool → Entry
+entry_of session r size kept = record { session = session; request = r; size = size; kept = kept }
 
 -- the entry had room, these lines were given at it, and it was added
 pub record IsStep (old new : CoreState) (e : Entry) (lines : List (List ℕ)) : Type 0 where
   pub has_room : is_full old.history e.request e.size ≡ false
-  pub lines_given : lines ≡ given old.users (state_after old.users old.history) e
+  pub lines_given : lines ≡ given old.users (state_after old.users old.start old.history) e
   pub added : new ≡ with_entry old e
 
 -- how many bytes are left, where the bound is not passed
@@ -69,10 +77,14 @@ bytes_left sum = if nat_le sum size_bound then Some (size_bound - sum) else None
 abbrev pub counted : List Entry → ℕ
 counted es = min (length es) entry_bound
 
+-- the document that a core began with
+abbrev pub document_of : Opening → Document
+document_of NewDocument = new_document
+
 -- what a core keeps is the state that its history leads to
-pub record IsCore (users : List User) (es : List Entry) (s : Document) (tally : Tally) (sessions : List SessionState) (bytes : Option ℕ) : Type 0 where
-  pub added : ℕ
-  pub state : state_after users es ≡ state_of s added sessions
+pub record IsCore (users : List User) (start : Document) (es : List Entry) (s : Document)
+    (tally : Tally) (sessions : List SessionState) (bytes : Option ℕ) : Type 0 where
+  pub state : state_after users start es ≡ state_of s sessions
   pub whole : IsWhole s
   pub counts : IsTally s tally
   pub by_name : IsByIds kept_name sessions

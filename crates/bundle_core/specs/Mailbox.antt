@@ -5,12 +5,13 @@ use Rattle.std.specs.List.{sum_by}
 use Rattle.std.specs.Str.{bytes_eq}
 use Rattle.doc_model.specs.declared.request.Request.{Request}
 use Rattle.doc_model.specs.declared.request.Request.TheVariants.{Fetch}
-use Rattle.doc_model.specs.declared.verdict.Verdict.{Verdict}
 use Rattle.doc_model.specs.declared.verdict.Verdict.TheVariants.{Changes}
 use Rattle.doc_model.specs.declared.view.ViewAction.{ViewAction}
 use Rattle.doc_model.specs.declared.view.ViewTable.{ViewTable}
 use Rattle.doc_model.specs.Changes.{changes}
 use Rattle.grist_json.specs.Lines.{reply_text, stream_text}
+use Rattle.bundle_core.specs.BareVerdicts.{reply_of}
+use Rattle.bundle_core.specs.declared.bare_verdict.BareVerdict.{BareVerdict}
 
 -- the view now, the number of stream lines made, those that wait, and whether one could not be made
 pub record Mailbox : Type 0 where
@@ -52,7 +53,7 @@ due new m = posted_if_any new (changes m.view new) m
 pub data Outcome : Type 0 where
   quiet : Outcome
   shows_view : Outcome
-  says : Verdict → Outcome
+  says : BareVerdict → Outcome
 
 -- what a reply shows of a view: all of it, or the table that was asked for
 abbrev pub shown_part : Request → List ViewTable → List ViewAction
@@ -63,7 +64,7 @@ shown_part r v = changes [] v
 abbrev pub replies : Request → Outcome → List ViewTable → List (List ℕ)
 replies r quiet v = []
 replies r shows_view v = reply_text (Changes (shown_part r v)) ∷ []
-replies r (says verdict) v = reply_text verdict ∷ []
+replies r (says verdict) v = reply_of verdict ∷ []
 
 -- the mailbox after a turn, and the lines that were given in it
 pub record Turn : Type 0 where
@@ -84,6 +85,8 @@ abbrev pub own : Option Mailbox → Request → Outcome → Option (List ViewTab
 own None r o None = record { mailbox = None; lines = replies r o [] }
 own None r o (Some v) = record { mailbox = Some (new_mailbox v); lines = replies r o v }
 own (Some m) r quiet None = record { mailbox = None; lines = [] }
-own (Some m) r shows_view None = record { mailbox = None; lines = m.waiting ++ replies r shows_view [] }
-own (Some m) r (says verdict) None = record { mailbox = None; lines = m.waiting ++ replies r (says verdict) [] }
+own (Some m) r shows_view None =
+    record { mailbox = None; lines = m.waiting ++ replies r shows_view [] }
+own (Some m) r (says verdict) None =
+    record { mailbox = None; lines = m.waiting ++ replies r (says verdict) [] }
 own (Some m) r o (Some v) = stays m (due v (emptied m)) (replies r o v)

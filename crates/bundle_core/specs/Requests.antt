@@ -7,20 +7,20 @@ use Rattle.doc_model.specs.declared.request.Request.TheVariants as request
 
 -- of a session that is not open: all but one that opens it, and the end of its connection; what is
 -- not built yet is no request
-abbrev pub refusal_outside : Request → Option Refusal
-refusal_outside request.TooLong = Some LineTooLong
-refusal_outside (request.Open token) = None
-refusal_outside request.Gone = None
-refusal_outside (request.Apply actions) = Some NotOpen
-refusal_outside request.Sync = Some NotOpen
-refusal_outside request.Close = Some NotOpen
-refusal_outside _ = Some BadLine
+abbrev pub refusal_closed : Request → Option Refusal
+refusal_closed request.TooLong = Some LineTooLong
+refusal_closed (request.Open token) = None
+refusal_closed request.Gone = None
+refusal_closed (request.Apply actions) = Some NotOpen
+refusal_closed request.Sync = Some NotOpen
+refusal_closed request.Close = Some NotOpen
+refusal_closed _ = Some BadLine
 
 -- of a session that is open; what is not built yet is no request
-abbrev pub refusal_inside : Request → Option Refusal
-refusal_inside request.Bad = Some BadLine
-refusal_inside request.TooLong = Some LineTooLong
-refusal_inside (request.Open token) = Some AlreadyOpen
-refusal_inside (request.Undo bundle) = Some BadLine
-refusal_inside (request.Fetch table) = Some BadLine
-refusal_inside _ = None
+abbrev pub refusal_open : Request → Option Refusal
+refusal_open request.Bad = Some BadLine
+refusal_open request.TooLong = Some LineTooLong
+refusal_open (request.Open token) = Some AlreadyOpen
+refusal_open (request.Undo bundle) = Some BadLine
+refusal_open (request.Fetch table) = Some BadLine
+refusal_open _ = None

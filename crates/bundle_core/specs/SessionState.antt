@@ -1,14 +1,15 @@
 -- How a core keeps an open session.
 use Rattle.std.specs.Prelude.{ℕ, ◌+◌, ◌-◌, ◌<◌, ◌^◌, ◌≡◌, Bool, true, List, [], ◌∷◌, ◌++◌, Option, Some, None, if◌then◌else◌}
+use Rattle.doc_model.specs.declared.user.User.{User}
 use Rattle.doc_model.specs.declared.view.ViewAction.{ViewAction}
 use Rattle.doc_model.specs.Document.{Document}
 use Rattle.grist_json.specs.Lines.{stream_text}
 use Rattle.bundle_core.specs.Mailbox.{is_full}
 use Rattle.bundle_core.specs.State.{Holder, Open}
-use Rattle.bundle_core.specs.View.{is_owner, view}
+use Rattle.bundle_core.specs.View.{view}
 
--- a session without its view, which is the document's; a line that is ready to be posted, and for how
--- many lines there is room
+-- a session without its view, which is the document's; a line that is ready to be posted, and for
+-- how many lines there is room
 pub record SessionState : Type 0 where
   pub session : List ℕ
   pub holder : Holder
@@ -23,7 +24,12 @@ abbrev pub open_of : Document → SessionState → Open
 open_of s x = record {
   session = x.session;
   holder = x.holder;
-  mailbox = record { view = view x.holder.user s; made = x.made; waiting = x.waiting; lagging = x.lagging };
+  mailbox = record {
+    view = view x.holder.user s;
+    made = x.made;
+    waiting = x.waiting;
+    lagging = x.lagging;
+  };
 }
 
 -- the line that tells these actions; none where there are none, or where the session lags
@@ -31,9 +37,9 @@ abbrev pub line_for : List ViewAction → SessionState → Option (List ℕ)
 line_for [] x = None
 line_for (a ∷ as') x = if x.lagging then None else Some (stream_text (x.made + 1) (a ∷ as'))
 
--- the line that tells what owners are told, or others, is ready, and there is room for it
-pub record IsReady (told : Bool → List ViewAction) (x : SessionState) : Type 0 where
-  pub line : x.ready ≡ line_for (told (is_owner x.holder.user)) x
+-- the line that tells what its user is told is ready, and there is room for it
+pub record IsReady (told : User → List ViewAction) (x : SessionState) : Type 0 where
+  pub line : x.ready ≡ line_for (told x.holder.user) x
   pub room : 0 < x.room
 
 -- what is the same after lines were made ready and room was made
@@ -57,7 +63,15 @@ after_post x None = record {
 }
 after_post x (Some line) =
     if is_full x.waiting
-    then record { session = x.session; holder = x.holder; made = x.made; waiting = x.waiting; lagging = true; ready = None; room = x.room }
+    then record {
+      session = x.session;
+      holder = x.holder;
+      made = x.made;
+      waiting = x.waiting;
+      lagging = true;
+      ready = None;
+      room = x.room;
+    }
     else record {
       session = x.session;
       holder = x.holder;

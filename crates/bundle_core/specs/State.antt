@@ -9,14 +9,15 @@ use Rattle.doc_model.specs.declared.refusal.Refusal.{Refusal}
 use Rattle.doc_model.specs.declared.refusal.Refusal.TheVariants.{BadLine, LineTooLong, NotOpen, AlreadyOpen, UnknownToken, StoreFault, Lagged}
 use Rattle.doc_model.specs.declared.request.Request.{Request}
 use Rattle.doc_model.specs.declared.request.Request.TheVariants as request
-use Rattle.doc_model.specs.declared.verdict.Verdict.{Verdict}
-use Rattle.doc_model.specs.declared.verdict.Verdict.TheVariants as verdict
 use Rattle.doc_model.specs.ByIds.{find_id, put_by_id, without_id}
+use Rattle.doc_model.specs.Counts.{bound_of}
 use Rattle.doc_model.specs.Document.{Document}
+use Rattle.bundle_core.specs.declared.bare_verdict.BareVerdict.TheVariants as verdict
+use Rattle.bundle_core.specs.declared.bare_verdict.BareVerdict.{BareVerdict}
 use Rattle.bundle_core.specs.Judgement.{Judgement, accepted, refused, judge}
-use Rattle.bundle_core.specs.Made.{told_of}
+use Rattle.bundle_core.specs.Created.{told_of}
 use Rattle.bundle_core.specs.Mailbox.{Mailbox, Outcome, quiet, shows_view, says, Turn, due, own}
-use Rattle.bundle_core.specs.View.{is_owner, view}
+use Rattle.bundle_core.specs.View.{view}
 
 -- who has a session open, and how many of its bundles were accepted
 pub record Holder : Type 0 where
@@ -32,18 +33,17 @@ pub record Open : Type 0 where
 abbrev pub session_name : Open → List ℕ
 session_name o = o.session
 
--- the document, how many records were kept since the opening, and the open sessions by name
+-- the document, and the open sessions by name
 pub record State : Type 0 where
   pub document : Document
-  pub added : ℕ
   pub open_sessions : List Open
 
 -- nobody has opened the document yet
 abbrev pub opening : Document → State
-opening s = record { document = s; added = 0; open_sessions = [] }
+opening s = record { document = s; open_sessions = [] }
 
--- what an entry comes to: its outcome, the document after it, whether it was an accepted bundle, and
--- who has the session open after it
+-- what an entry comes to: its outcome, the document after it, whether it was an accepted bundle,
+-- and who has the session open after it
 pub record Verdicts : Type 0 where
   pub outcome : Outcome
   pub document : Document
@@ -51,10 +51,10 @@ pub record Verdicts : Type 0 where
   pub holder : Option Holder
 
 -- nothing changes, and this is the answer
-abbrev pub answered : Document → Option Holder → Verdict → Verdicts
+abbrev pub answered : Document → Option Holder → BareVerdict → Verdicts
 answered s h v = record { outcome = says v; document = s; is_bundle = false; holder = h }
 
-abbrev pub refusal : Refusal → Verdict
+abbrev pub refusal : Refusal → BareVerdict
 refusal why = verdict.Refused why None
 
 -- the first user with the token
@@ -63,7 +63,7 @@ user_of users token = find (λ (u : User). bytes_eq u.token token) users
 
 -- how many sessions may be open
 abbrev pub session_bound : ℕ
-session_bound = 1024
+session_bound = bound_of limit.Sessions
 
 -- a session that is not open asks for the document by a token
 abbrev pub opened : List User → State → List ℕ → Verdicts
@@ -82,17 +82,17 @@ opened users st token =
     ]
 
 -- a request of a session that is not open; what is not built yet is no request
-abbrev pub from_outside : List User → State → Request → Verdicts
-from_outside users st request.Bad = answered st.document None (refusal BadLine)
-from_outside users st request.TooLong = answered st.document None (refusal LineTooLong)
-from_outside users st (request.Open token) = opened users st token
-from_outside users st request.Gone =
+abbrev pub from_closed : List User → State → Request → Verdicts
+from_closed users st request.Bad = answered st.document None (refusal BadLine)
+from_closed users st request.TooLong = answered st.document None (refusal LineTooLong)
+from_closed users st (request.Open token) = opened users st token
+from_closed users st request.Gone =
     record { outcome = quiet; document = st.document; is_bundle = false; holder = None }
-from_outside users st (request.Apply actions) = answered st.document None (refusal NotOpen)
-from_outside users st request.Sync = answered st.document None (refusal NotOpen)
-from_outside users st (request.Undo bundle) = answered st.document None (refusal BadLine)
-from_outside users st (request.Fetch table) = answered st.document None (refusal BadLine)
-from_outside users st request.Close = answered st.document None (refusal NotOpen)
+from_closed users st (request.Apply actions) = answered st.document None (refusal NotOpen)
+from_closed users st request.Sync = answered st.document None (refusal NotOpen)
+from_closed users st (request.Undo bundle) = answered st.document None (refusal BadLine)
+from_closed users st (request.Fetch table) = answered st.document None (refusal BadLine)
+from_closed users st request.Close = answered st.document None (refusal NotOpen)
 
 -- a bundle of an open session: accepted, it counts; the keeper's failure leaves everything
 abbrev pub bundle_of : Holder → Document → Bool → Judgement → Verdicts
@@ -106,23 +106,24 @@ bundle_of h s true (accepted after ms) = record {
 }
 
 -- a request of a session that is open and does not lag; what is not built yet is no request
-abbrev pub from_inside : State → Holder → Bool → Request → Verdicts
-from_inside st h kept request.Bad = answered st.document (Some h) (refusal BadLine)
-from_inside st h kept request.TooLong = answered st.document (Some h) (refusal LineTooLong)
-from_inside st h kept (request.Open token) = answered st.document (Some h) (refusal AlreadyOpen)
-from_inside st h kept (request.Apply actions) = bundle_of h st.document kept (judge (is_owner h.user) st.document actions)
-from_inside st h kept (request.Undo bundle) = answered st.document (Some h) (refusal BadLine)
-from_inside st h kept request.Sync = answered st.document (Some h) verdict.Done
-from_inside st h kept (request.Fetch table) = answered st.document (Some h) (refusal BadLine)
-from_inside st h kept request.Close = answered st.document None verdict.Done
-from_inside st h kept request.Gone =
+abbrev pub from_open : State → Holder → Bool → Request → Verdicts
+from_open st h kept request.Bad = answered st.document (Some h) (refusal BadLine)
+from_open st h kept request.TooLong = answered st.document (Some h) (refusal LineTooLong)
+from_open st h kept (request.Open token) = answered st.document (Some h) (refusal AlreadyOpen)
+from_open st h kept (request.Apply actions) =
+    bundle_of h st.document kept (judge h.user st.document actions)
+from_open st h kept (request.Undo bundle) = answered st.document (Some h) (refusal BadLine)
+from_open st h kept request.Sync = answered st.document (Some h) verdict.Done
+from_open st h kept (request.Fetch table) = answered st.document (Some h) (refusal BadLine)
+from_open st h kept request.Close = answered st.document None verdict.Done
+from_open st h kept request.Gone =
     record { outcome = quiet; document = st.document; is_bundle = false; holder = None }
 
 -- a request of a session that lags: whatever it is, it is told so, and the session is closed
-abbrev pub from_behind : State → Request → Verdicts
-from_behind st request.Gone =
+abbrev pub from_lagging : State → Request → Verdicts
+from_lagging st request.Gone =
     record { outcome = quiet; document = st.document; is_bundle = false; holder = None }
-from_behind st r = answered st.document None (refusal Lagged)
+from_lagging st r = answered st.document None (refusal Lagged)
 
 abbrev pub session_of : List ℕ → State → Option Open
 session_of name st = find_id session_name name st.open_sessions
@@ -131,17 +132,20 @@ session_of name st = find_id session_name name st.open_sessions
 abbrev pub verdicts : List User → State → Entry → Verdicts
 verdicts users st e =
     elim (session_of e.session st) [
-      | None ↦ from_outside users st e.request
+      | None ↦ from_closed users st e.request
       | Some o ↦
           if o.mailbox.lagging
-          then from_behind st e.request
-          else from_inside st o.holder e.kept e.request
+          then from_lagging st e.request
+          else from_open st o.holder e.kept e.request
     ]
 
 -- another session's mailbox after an accepted bundle
 abbrev pub posted_to : Document → Open → Open
-posted_to s o =
-    record { session = o.session; holder = o.holder; mailbox = due (view o.holder.user s) o.mailbox }
+posted_to s o = record {
+  session = o.session;
+  holder = o.holder;
+  mailbox = due (view o.holder.user s) o.mailbox;
+}
 
 -- the other open sessions are posted the changes of a bundle
 abbrev pub posted_all : Verdicts → List Open → List Open
@@ -159,14 +163,15 @@ mailbox_of name st = option_map (λ (o : Open). o.mailbox) (session_of name st)
 -- the turn of the entry's own session
 abbrev pub turn_of : State → Entry → Verdicts → Turn
 turn_of st e v =
-    own (mailbox_of e.session st) e.request v.outcome (option_map (λ (h : Holder). view h.user v.document) v.holder)
+    own (mailbox_of e.session st) e.request v.outcome
+    (option_map (λ (h : Holder). view h.user v.document) v.holder)
 
 -- the state after an entry that came to this
 abbrev pub after_turn : State → Entry → Verdicts → State
 after_turn st e v = record {
   document = v.document;
-  added = if v.is_bundle then st.added + 1 else st.added;
-  open_sessions = with_session e.session v.holder (turn_of st e v).mailbox (posted_all v st.open_sessions);
+  open_sessions = with_session e.session v.holder (turn_of st e v).mailbox
+      (posted_all v st.open_sessions);
 }
 
 -- the state after an entry
@@ -181,3 +186,10 @@ given users st e = (turn_of st e (verdicts users st e)).lines
 abbrev pub run : List User → State → List Entry → State
 run users st [] = st
 run users st (e ∷ es) = run users (step users st e) es
+
+-- how many bundles of a history were accepted, each of which is kept as a record
+abbrev pub records_kept : List User → State → List Entry → ℕ
+records_kept users st [] = 0
+records_kept users st (e ∷ es) =
+    let later = records_kept users (step users st e) es in
+    if (verdicts users st e).is_bundle then later + 1 else later

@@ -13,8 +13,8 @@ use Rattle.bundle_core.specs.Mailbox.{Mailbox, Outcome, due, own}
 use Rattle.bundle_core.specs.State.{State, Open, Holder, Verdicts, opening, verdicts, session_of, step, given}
 use Rattle.bundle_core.specs.View.{view}
 
--- what a session may know of an entry: its own request with the outcome and its view after it, or the
--- new view that another session's entry led to
+-- what a session may know of an entry: its own request with the outcome and its view after it, or
+-- the new view that another session's entry led to
 pub data Seen : Type 0 where
   mine : Request → Outcome → Option (List ViewTable) → Seen
   other : List ViewTable → Seen
@@ -38,13 +38,15 @@ abbrev pub seen_at : List User → State → List ℕ → Entry → List Seen
 seen_at users st name e =
     let v = verdicts users st e in
     if bytes_eq e.session name
-    then mine e.request v.outcome (option_map (λ (h : Holder). view h.user v.document) v.holder) ∷ []
+    then mine e.request v.outcome
+    (option_map (λ (h : Holder). view h.user v.document) v.holder) ∷ []
     else seen_elsewhere v (session_of name st)
 
 -- what a session observes of a history
 abbrev pub observed : List User → State → List ℕ → List Entry → List Seen
 observed users st name [] = []
-observed users st name (e ∷ es) = seen_at users st name e ++ observed users (step users st e) name es
+observed users st name (e ∷ es) = seen_at users st name e
+    ++ observed users (step users st e) name es
 
 -- lines, each with its newline
 abbrev pub with_newlines : List (List ℕ) → List ℕ
@@ -66,7 +68,8 @@ abbrev pub out : List User → State → List ℕ → List Entry → List ℕ
 out users st name [] = []
 out users st name (e ∷ es) = given_to users st name e ++ out users (step users st e) name es
 
--- a session is given what its observation tells, whatever the document, the users and the others' requests
+-- a session is given what its observation tells, whatever the document, the users and the others'
+-- requests
 abbrev pub IsolationLaw : Type 0
 IsolationLaw =
     (users : List User) (s : Document) (history : List Entry) (name : List ℕ)

@@ -1,49 +1,54 @@
 //! An accepted bundle: its actions are done, and each open session is told of them.
 
-ghost use Rattle.std.specs.Prelude.{Bool, false, true, ◌||◌, ◌≡◌, ◌+◌, ◌<◌, ◌^◌, [], ◌∷◌, ◌++◌, ◌≤◌, length, map, get_or, IfOk, OnOk, OnErr, vec_len, vec_capacity};
+ghost use Rattle.std.specs.Prelude.{true, ◌≡◌, ◌+◌, ◌<◌, ◌^◌, [], ◌∷◌, ◌++◌, ◌≤◌, length, map, get_or, IfOk, OnOk, OnErr, vec_len, vec_capacity};
 ghost use Rattle.std.specs.List.{AllByRecursion, insert};
-ghost use Rattle.doc_model.specs.declared.verdict.Verdict.TheVariants.{Bundle};
 ghost use Rattle.doc_model.specs.Apply.{all_valid, apply_all};
 ghost use Rattle.doc_model.specs.DocumentLaws.{IsWhole};
-ghost use Rattle.grist_json.specs.Lines.{reply_text};
-ghost use Rattle.view_parts.specs.Shown.{view};
-ghost use Rattle.bundle_core.specs.Desk.{AreSame, Bundles, Posts, bundle_number, bundle_reply};
-ghost use Rattle.bundle_core.specs.Made.{told_of};
-ghost use Rattle.bundle_core.specs.Plans.{told_changes};
+ghost use Rattle.doc_model.specs.declared.user.User.{User};
+ghost use Rattle.view_parts.specs.Viewers.{viewer_of};
+ghost use Rattle.bundle_core.specs.BareVerdicts.{reply_of};
+ghost use Rattle.bundle_core.specs.declared.bare_verdict.BareVerdict.TheVariants.{Bundle};
+ghost use Rattle.bundle_core.specs.Dispatch.{AreSame, Bundles, Posts, bundle_number, bundle_reply};
+ghost use Rattle.bundle_core.specs.Created.{told_of};
+ghost use Rattle.bundle_core.specs.JudgedBundles.{told_changes};
 ghost use Rattle.bundle_core.specs.SessionState.{SessionState, IsReady, MayPost, posted_state};
-ghost use Rattle.bundle_core.specs.Telling.{are_mixed, told_by};
-ghost use Rattle.bundle_core.specs.View.{is_owner};
-ghost use Rattle.bundle_core.specs.Ways.{AllFit, went_back};
+ghost use Rattle.bundle_core.specs.ViewChanges.{is_among, told_by};
+ghost use Rattle.bundle_core.specs.View.{view};
+ghost use Rattle.bundle_core.specs.Rollback.{AllFit, rolled_back};
 
-use crate::judging::Plan;
-use crate::made::{Made, all_told};
+use crate::bare_verdict::BareVerdict;
+use crate::created::{Created, all_told};
+use crate::judging::BundlePlan;
+use crate::rollback::{put_all, take_back_all};
 use crate::session::OpenSession;
-use crate::telling::{Told, see_parts, tell_changes};
 use crate::turns::{post_all, prepare_all, reply_with};
-use crate::ways::{put_all, take_back_all};
-use doc_model::{DocAction, DocTables, Verdict};
+use crate::view_changes::{ToldChanges, see_parts, tell_changes, viewers_of};
+use doc_model::{DocAction, DocTables};
 use grist_json::Line;
 use std::alloc::{AllocError, Global};
-use view_parts::part_law;
+use view_parts::{Viewer, part_law};
 
-/// Does the actions of a bundle of the session of that index, and posts every other open session the
-/// line that tells them. All memory is taken before anything that can be seen changes.
+/// Does the actions of a bundle of the session of that index, and posts every other open session
+/// the line that tells them. All memory is taken before anything that can be seen changes.
 pub(crate) fn accept<D: DocTables>(
     alloc: Global,
     tables: &mut D,
     sessions: &mut Vec<OpenSession>,
     index: usize,
-    plan: &Plan,
+    plan: &BundlePlan,
 ) -> Result<Vec<Line>, AllocError>
     requires within { index < length sessions.old.items }
     requires whole { IsWhole (D.document tables.old) }
     requires valid { all_valid (D.document tables.old) plan.now.actions.items ≡ true }
     requires few { AllByRecursion (λ x. x.made < 2 ^ 62) sessions.old.items }
     requires few_bundles { AllByRecursion (λ x. x.holder.bundles < 2 ^ 62) sessions.old.items }
-    ensures document { OnOk result (D.document tables.new ≡ apply_all (D.document tables.old) plan.now.actions.items) }
+    ensures document { OnOk result
+        (D.document tables.new ≡ apply_all (D.document tables.old) plan.now.actions.items) }
     ensures sessions { IfOk result (λ v. Bundles sessions.old.items sessions.new.items index
         (told_changes (D.document tables.old) plan.now.actions.items)
-        (bundle_reply sessions.old.items index (apply_all (D.document tables.old) plan.now.actions.items) plan.now.made.items) v.items) }
+        (bundle_reply sessions.old.items index
+        (apply_all (D.document tables.old) plan.now.actions.items) plan.now.created.items)
+        v.items) }
     ensures err_document { OnErr result (D.document tables.new ≡ D.document tables.old) }
     ensures err { OnErr result (AreSame sessions.old.items sessions.new.items) }
 {
@@ -63,7 +68,7 @@ fn ready_bundle<D: DocTables>(
     tables: &mut D,
     sessions: &mut Vec<OpenSession>,
     index: usize,
-    plan: &Plan,
+    plan: &BundlePlan,
     backs: &mut Vec<D::Back>,
 ) -> Result<Line, AllocError>
     requires within { index < length sessions.old.items }
@@ -72,66 +77,70 @@ fn ready_bundle<D: DocTables>(
     requires few { AllByRecursion (λ x. x.made < 2 ^ 63) sessions.old.items }
     requires few_bundles { AllByRecursion (λ x. x.holder.bundles < 2 ^ 62) sessions.old.items }
     requires first { backs.old.items ≡ [] }
-    ensures document { OnOk result (D.document tables.new ≡ apply_all (D.document tables.old) plan.now.actions.items) }
+    ensures document { OnOk result
+        (D.document tables.new ≡ apply_all (D.document tables.old) plan.now.actions.items) }
     ensures fit { AllFit D.undone D.fits backs.new.items (D.document tables.new) }
-    ensures back { went_back D.undone D.fits backs.new.items (D.document tables.new) ≡ D.document tables.old }
-    ensures reply { IfOk result (λ l. l ≡ bundle_reply sessions.old.items index (apply_all (D.document tables.old) plan.now.actions.items) plan.now.made.items) }
+    ensures back { rolled_back D.undone D.fits backs.new.items (D.document tables.new)
+        ≡ D.document tables.old }
+    ensures reply { IfOk result (λ l. l ≡ bundle_reply sessions.old.items index
+        (apply_all (D.document tables.old) plan.now.actions.items) plan.now.created.items) }
     ensures same { AreSame sessions.old.items sessions.new.items }
-    ensures ready { OnOk result (AllByRecursion (IsReady (told_changes (D.document tables.old) plan.now.actions.items)) sessions.new.items) }
-    ensures room { IfOk result (λ _. (d : SessionState) → 1 < (get_or sessions.new.items index d).room) }
+    ensures ready { OnOk result
+        (AllByRecursion (IsReady (told_changes (D.document tables.old) plan.now.actions.items))
+        sessions.new.items) }
+    ensures room { IfOk result (λ _. (d : SessionState)
+        → 1 < (get_or sessions.new.items index d).room) }
     ensures length { length sessions.new.items ≡ length sessions.old.items }
 {
-    let mixed = are_mixed(sessions);
-    let told = done_and_told(alloc, tables, &plan.actions, mixed, backs)?;
-    let reply = reply_to(alloc, tables, &sessions[index], &plan.made)?;
+    let viewers = viewers_of(alloc, sessions)?;
+    let told = done_and_told(alloc, tables, &plan.actions, &viewers, backs)?;
+    let reply = reply_to(alloc, tables, &sessions[index], &plan.created)?;
     ready_all(alloc, sessions, index, &told)?;
     Ok(reply)
 }
 
-// Whether some session is not an owner's.
-fn are_mixed(sessions: &[OpenSession]) -> bool
-    ensures { result ≡ are_mixed sessions.now }
-{
-    sessions.iter().any(|session| !session.is_owner())
-}
-
-// Does the actions, and works out what owners are told of them, and others where `mixed` says so.
+// Does the actions, and works out what these viewers are told of them.
 fn done_and_told<D: DocTables>(
     alloc: Global,
     tables: &mut D,
     actions: &[DocAction],
-    mixed: bool,
+    viewers: &[Viewer],
     backs: &mut Vec<D::Back>,
-) -> Result<Told, AllocError>
+) -> Result<Vec<ToldChanges>, AllocError>
     requires whole { IsWhole (D.document tables.old) }
     requires valid { all_valid (D.document tables.old) actions.now ≡ true }
     requires first { backs.old.items ≡ [] }
-    ensures document { OnOk result (D.document tables.new ≡ apply_all (D.document tables.old) actions.now) }
+    ensures document { OnOk result
+        (D.document tables.new ≡ apply_all (D.document tables.old) actions.now) }
     ensures fit { AllFit D.undone D.fits backs.new.items (D.document tables.new) }
-    ensures back { went_back D.undone D.fits backs.new.items (D.document tables.new) ≡ D.document tables.old }
-    ensures told { IfOk result (λ t. (owner : Bool) → (owner || mixed) ≡ true → told_by t owner ≡ told_changes (D.document tables.old) actions.now owner) }
+    ensures back { rolled_back D.undone D.fits backs.new.items (D.document tables.new)
+        ≡ D.document tables.old }
+    ensures told { IfOk result (λ t. (user : User) → is_among viewers.now (viewer_of user) ≡ true
+        → told_by t.items user ≡ told_changes (D.document tables.old) actions.now user) }
 {
-    let before = see_parts(alloc, tables, actions, mixed)?;
+    let before = see_parts(alloc, tables, actions, viewers)?;
     put_all(tables, actions, backs)?;
-    let after = see_parts(alloc, tables, actions, mixed)?;
     part_law();
-    tell_changes(alloc, &before, &after)
+    tell_changes(alloc, tables, actions, &before)
 }
 
-// The reply to a bundle of the session that made these things.
+// The reply to a bundle of the session whose actions created this.
 fn reply_to<D: DocTables>(
     alloc: Global,
     tables: &D,
     session: &OpenSession,
-    made: &[Made],
+    created: &[Created],
 ) -> Result<Line, AllocError>
     requires whole { IsWhole (D.document tables.now) }
     requires few { session.now.holder.bundles < 2 ^ 62 }
-    ensures { IfOk result (λ l. l ≡ reply_text (Bundle (session.now.holder.bundles + 1) (map (told_of (view (is_owner session.now.holder.user) (D.document tables.now))) made.now))) }
+    ensures { IfOk result (λ l. l
+        ≡ reply_of
+        (Bundle (session.now.holder.bundles + 1)
+        (map (told_of (view session.now.holder.user (D.document tables.now))) created.now))) }
 {
-    let values = all_told(alloc, tables, session.is_owner(), made)?;
+    let values = all_told(alloc, tables, session.user(), created)?;
     let number = session.bundles() + 1;
-    reply_with(alloc, Verdict::Bundle { number, values })
+    reply_with(alloc, BareVerdict::Bundle { number, values })
 }
 
 // Makes ready each session's line, and room for the two that the session of the bundle is given.
@@ -139,13 +148,14 @@ fn ready_all(
     alloc: Global,
     sessions: &mut Vec<OpenSession>,
     index: usize,
-    told: &Told,
+    told: &[ToldChanges],
 ) -> Result<(), AllocError>
     requires within { index < length sessions.old.items }
     requires few { AllByRecursion (λ x. x.made < 2 ^ 63) sessions.old.items }
     ensures same { AreSame sessions.old.items sessions.new.items }
     ensures ready { OnOk result (AllByRecursion (IsReady (told_by told.now)) sessions.new.items) }
-    ensures room { IfOk result (λ _. (d : SessionState) → 1 < (get_or sessions.new.items index d).room) }
+    ensures room { IfOk result (λ _. (d : SessionState)
+        → 1 < (get_or sessions.new.items index d).room) }
     ensures length { length sessions.new.items ≡ length sessions.old.items }
 {
     prepare_vec(alloc, sessions, told)?;
@@ -156,7 +166,7 @@ fn ready_all(
 fn prepare_vec(
     alloc: Global,
     sessions: &mut Vec<OpenSession>,
-    told: &Told,
+    told: &[ToldChanges],
 ) -> Result<(), AllocError>
     requires { AllByRecursion (λ x. x.made < 2 ^ 63) sessions.old.items }
     ensures same { AreSame sessions.old.items sessions.new.items }

@@ -1,13 +1,15 @@
 //! The core: a document and its sessions as a history of requests leads to them.
 
 ghost use Rattle.std.specs.Prelude.{ℕ, ◌≡◌, true, false, [], IfOk, OnErr, ◌+◌, is_some, nat_lt};
+ghost use Rattle.doc_model.specs.NewDocument.{new_document};
+ghost use Rattle.doc_model.specs.WellFormed.{asks_well_formed};
 ghost use Rattle.bundle_core.specs.Core.{bytes_left, entry_of, has_no_effect, is_full, is_gone, size_bound, state_after, IsStep};
 ghost use Rattle.bundle_core.specs.Steps.{IsAnswer};
 ghost use Rattle.bundle_core.specs.State.{session_of};
 
-use crate::desk::answer;
-use crate::seek::index_of;
+use crate::dispatch::answer;
 use crate::session::OpenSession;
+use crate::session_index::index_of;
 use action_limits::Tally;
 use cell_types::{Name, Sequence};
 use doc_model::{Entry, EntryList, Request, UserList};
@@ -34,11 +36,19 @@ pub enum Answer {
     Full,
 }
 
-/// A document, its open sessions and its history. It is seen as its users and the history: all else
-/// is what the history leads to.
+/// The document that a core began with.
+#[derive(Clone, Copy)]
+pub(crate) enum Opening {
+    NewDocument,
+}
+
+/// A document, its open sessions and its history. It is seen as its users, the document that it
+/// began with, and the history: all else is what the history leads to.
 #[derive(Drop)]
 pub struct Core {
+    alloc: Global,
     users: UserList,
+    opening: Opening,
     tables: RowTables,
     tally: Tally,
     sessions: Vec<OpenSession>,
@@ -47,13 +57,18 @@ pub struct Core {
 }
 
 impl Model for Core {
-    ghost use Rattle.bundle_core.specs.Core.{CoreState, IsCore};
+    ghost use Rattle.bundle_core.specs.Core.{CoreState, IsCore, document_of};
 
     ghost Value = { CoreState };
 
-    ghost view = { λ c. record { users = c.users; history = c.entries.items } };
+    ghost view = { λ c. record {
+      users = c.users;
+      start = document_of c.opening;
+      history = c.entries.items;
+    } };
 
-    ghost invariant = { λ c. IsCore c.users c.entries.items c.tables c.tally c.sessions.items c.bytes_left };
+    ghost invariant = { λ c. IsCore c.users (document_of c.opening) c.entries.items c.tables
+        c.tally c.sessions.items c.bytes_left };
 }
 
 impl Core {
@@ -61,10 +76,12 @@ impl Core {
     ///
     /// Errors: out of memory.
     pub fn new(alloc: Global) -> Result<Self, AllocError>
-        ensures { IfOk result (λ c. c ≡ record { users = []; history = [] }) }
+        ensures { IfOk result (λ c. c ≡ record { users = []; start = new_document; history = [] }) }
     {
         Ok(Core {
+            alloc,
             users: UserList::new(alloc),
+            opening: Opening::NewDocument,
             tables: RowTables::new_document(alloc)?,
             tally: Tally::of_new_document(),
             sessions: Vec::new(alloc),
@@ -76,7 +93,7 @@ impl Core {
     /// The core with these users, before anything is asked of it.
     pub fn with_users(self, users: UserList) -> Self
         requires first { self.history ≡ [] }
-        ensures { result ≡ record { users = users; history = [] } }
+        ensures { result ≡ record { users = users; start = self.start; history = [] } }
     {
         let mut core = self;
         core.users = users;
@@ -90,12 +107,13 @@ impl Core {
     /// Memory: where there is none, nothing changes.
     pub fn step(
         &mut self,
-        alloc: Global,
         session: &Name,
         request: Request,
         size: u32,
     ) -> Result<Answer, AllocError>
-        ensures ok { IfOk result (λ a. IsAnswer self.old self.new (entry_of session.now request size) a) }
+        requires well_formed { asks_well_formed request ≡ true }
+        ensures ok { IfOk result (λ a. IsAnswer self.old self.new
+            (entry_of session.now request size true) a) }
         ensures err { OnErr result (self.new ≡ self.old) }
     {
         if self.is_full(&request, size) {
@@ -105,23 +123,24 @@ impl Core {
         let entry = kept_entry(session, request, size)?;
         if self.has_no_effect(&entry) {
             drop(entry);
-            return Ok(Answer::Lines(LineList::from(Vec::new(alloc))));
+            return Ok(Answer::Lines(LineList::from(Vec::new(self.alloc))));
         }
-        Ok(Answer::Lines(self.take(alloc, entry)?))
+        Ok(Answer::Lines(self.take(entry)?))
     }
 
     // Takes an entry that there is room for.
-    fn take(&mut self, alloc: Global, entry: Entry) -> Result<LineList, AllocError>
+    fn take(&mut self, entry: Entry) -> Result<LineList, AllocError>
         requires room { is_full self.old.history entry.request entry.size ≡ false }
         requires effect { has_no_effect self.old entry ≡ false }
         requires kept { entry.kept ≡ true }
+        requires well_formed { asks_well_formed entry.request ≡ true }
         ensures ok { IfOk result (λ lines. IsStep self.old self.new entry lines) }
         ensures err { OnErr result (self.new ≡ self.old) }
     {
         self.entries.reserve(1)?;
         let users = self.users.as_slice();
         let lines = answer(
-            alloc,
+            self.alloc,
             users,
             &mut self.tables,
             &mut self.tally,
@@ -160,14 +179,16 @@ impl Core {
     }
 
     fn is_open(&self, session: &Name) -> bool
-        ensures { result ≡ is_some (session_of session.now (state_after self.now.users self.now.history)) }
+        ensures { result
+            ≡ is_some
+            (session_of session.now (state_after self.now.users self.now.start self.now.history)) }
     {
         index_of(&self.sessions, session).is_ok()
     }
 }
 
 fn kept_entry(session: &Name, request: Request, size: u32) -> Result<Entry, AllocError>
-    ensures { IfOk result (λ e. e ≡ entry_of session.now request size) }
+    ensures { IfOk result (λ e. e ≡ entry_of session.now request size true) }
 {
     match session.clone() {
         Ok(session) => Ok(Entry {

@@ -1,33 +1,34 @@
 //! The core: a document, its open sessions, and what each entry of a history makes of them.
 //!
 //! Stands on `doc_model` (documents, changes, entries), `row_tables` (the document in memory),
-//! `user_actions` (refusals), `action_limits` (steps and limits), `view_parts` and `plain_view` (what users see and are
-//! told) and `grist_json` (the texts of lines). What an entry comes to is said in specs/State.antt, and
-//! what a bundle comes to in specs/Judgement.antt, over plain lists, for every document.
+//! `user_actions` (refusals), `action_limits` (steps and limits), `view_parts` and `plain_view`
+//! (what users see and are told) and `grist_json` (the texts of lines). What an entry comes to is
+//! said in specs/State.antt, and what a bundle comes to in specs/Judgement.antt, over plain lists,
+//! for every document.
 //!
-//! Promises: `Core::step` gives the lines that the state after the history says, and adds the entry; a
-//! full history and running out of memory change nothing. `isolation_law`: a session is given exactly what its
-//! own requests, verdicts and views tell; `equal_bytes_law`: histories that it observes alike give it
-//! equal bytes.
+//! Promises: `Core::step` gives the lines that the state after the history says, and adds the
+//! entry; a full history and running out of memory change nothing. `isolation_law`: a session is
+//! given exactly what its own requests, verdicts and views tell; `equal_bytes_law`: histories that
+//! it observes alike give it equal bytes.
 //! Not built yet: undo and fetching a table, formulas, references, access rules.
-//! Costs: a bundle costs what its actions touch, and a line for each session; see bundle.rt. A session's
-//! index is found by a walk.
+//! Costs: a bundle costs what its actions touch, and a line for each session; see bundle.rt. A
+//! session's index is found by a walk.
 //! Read first: specs/State.antt, specs/Judgement.antt, specs/Told.antt and specs/Core.antt, then
-//! history_core.rt, desk.rt, judging.rt and bundle.rt.
+//! history_core.rt, dispatch.rt, judging.rt and bundle.rt.
 #![tactic(auto)]
 
+mod bare_verdict;
 mod bundle;
-mod desk;
-mod forms;
+mod created;
+mod dispatch;
 mod history_core;
 mod judging;
 mod laws;
-mod made;
-mod seek;
+mod rollback;
 mod session;
-mod telling;
+mod session_index;
 mod turns;
-mod ways;
+mod view_changes;
 
 pub use history_core::{Answer, Core, LineList, MAX_ENTRIES, MAX_HISTORY_BYTES};
 pub use laws::{equal_bytes_law, isolation_law};

@@ -1,18 +1,27 @@
 //! A session that is open: who holds it, and the lines that wait for it.
+//!
+//! | State | A request of its own | A bundle of others | Its connection ends |
+//! |---|---|---|---|
+//! | closed | `openDoc` opens it, all else is refused | nothing | nothing |
+//! | open | answered, behind what waits; `closeDoc` closes it | told, or it lags | closed |
+//! | lagging | told that it lags, behind what waits, and closed | nothing | closed |
+//!
+//! A session that is closed has no value here.
 
 ghost use Rattle.std.specs.Prelude.{◌≡◌, ◌<◌, ◌≤◌, ◌+◌, ◌^◌, [], ◌∷◌, ◌++◌, length, option_to_list, None, false, IfOk, OnOk, IsTrue, ◌↔◌};
 ghost use Rattle.bundle_core.specs.Mailbox.{is_full};
-ghost use Rattle.bundle_core.specs.Telling.{told_by};
-ghost use Rattle.bundle_core.specs.View.{is_owner};
-ghost use Rattle.bundle_core.specs.SessionState.{IsReady, IsPrepared, IsEmptied, MayPost, posted_state};
+ghost use Rattle.bundle_core.specs.ViewChanges.{told_by};
+ghost use Rattle.view_parts.specs.Viewers.{viewer_of};
+ghost use Rattle.bundle_core.specs.SessionState.{IsReady, IsPrepared, IsEmptied, MayPost, line_for, posted_state};
 
-use crate::telling::Told;
+use crate::view_changes::{ToldChanges, told_to};
 use cell_types::Name;
-use doc_model::User;
+use doc_model::{User, ViewActionList};
 use grist_json::{Line, write_stream};
 use std::alloc::{AllocError, Global};
 use std::marker::Model;
 use std::mem;
+use view_parts::Viewer;
 
 /// How many lines may wait for a session.
 pub const MAX_WAITING_LINES: usize = 4_096;
@@ -22,8 +31,8 @@ pub const MAX_WAITING_BYTES: u64 = 4_194_304;
 
 /// A session that is open.
 ///
-/// A line is posted in two steps, so that running out of memory changes nothing: `prepare` makes the line and
-/// the room for it, and `post`, which cannot fail, puts it behind those that wait.
+/// A line is posted in two steps, so that running out of memory changes nothing: `prepare` makes
+/// the line and the room for it, and `post`, which cannot fail, puts it behind those that wait.
 #[derive(Drop)]
 pub(crate) struct OpenSession {
     name: Name,
@@ -101,11 +110,11 @@ impl OpenSession {
         &self.user
     }
 
-    /// Whether its user has access as an owner.
-    pub fn is_owner(&self) -> bool
-        ensures { result ≡ is_owner self.now.holder.user }
+    /// The viewer that its user is.
+    pub fn viewer(&self) -> Viewer
+        ensures { result ≡ viewer_of self.now.holder.user }
     {
-        is_owner(&self.user)
+        Viewer::of(&self.user)
     }
 
     /// How many of its bundles were accepted.
@@ -138,22 +147,32 @@ impl OpenSession {
 
     /// Makes ready the line that tells what its user is told, unless that is nothing or the session
     /// lags. Nothing that can be seen changes, whatever the answer.
-    pub fn prepare(&mut self, alloc: Global, told: &Told) -> Result<(), AllocError>
+    pub fn prepare(&mut self, alloc: Global, told: &[ToldChanges]) -> Result<(), AllocError>
         requires few { self.old.made < 2 ^ 63 }
         ensures prepared { IsPrepared self.old self.new }
         ensures ok { OnOk result (IsReady (told_by told.now) self.new) }
     {
         self.make_room(1)?;
         self.ready = None;
-        let actions = told.by(self.is_owner());
-        if !self.lagging && !actions.is_empty() {
-            self.ready = Some(write_stream(alloc, self.made + 1, actions)?);
+        if let Some(actions) = told_to(told, self.viewer()) {
+            self.ready = self.line_for(alloc, actions)?;
         }
         Ok(())
     }
 
-    /// Puts the line that was made ready, where there is one, behind those that wait. Where too much
-    /// waits, the session lags from now on.
+    // The line that tells these actions; none where there are none, or where the session lags.
+    fn line_for(&self, alloc: Global, actions: &ViewActionList) -> Result<Option<Line>, AllocError>
+        requires { self.now.made < 2 ^ 63 }
+        ensures { IfOk result (λ line. line ≡ line_for actions.now self.now) }
+    {
+        if self.lagging || actions.is_empty() {
+            return Ok(None);
+        }
+        Ok(Some(write_stream(alloc, self.made + 1, actions)?))
+    }
+
+    /// Puts the line that was made ready, where there is one, behind those that wait. Where too
+    /// much waits, the session lags from now on.
     pub fn post(&mut self)
         requires { MayPost self.old }
         ensures { self.new ≡ posted_state self.old }
@@ -184,13 +203,14 @@ impl OpenSession {
         lines
     }
 
-    /// Gives the lines that wait, the line of the session's own bundle that was made ready, and then the
-    /// reply, and counts the bundle.
+    /// Gives the lines that wait, the line of the session's own bundle that was made ready, and
+    /// then the reply, and counts the bundle.
     pub fn give_bundle(&mut self, alloc: Global, reply: Line) -> Vec<Line>
         requires room { 1 < self.old.room }
         requires few { self.old.made < 2 ^ 63 }
         requires few_bundles { self.old.holder.bundles < 2 ^ 63 }
-        ensures lines { result.items ≡ self.old.waiting ++ option_to_list self.old.ready ++ reply ∷ [] }
+        ensures lines { result.items ≡ self.old.waiting ++ option_to_list self.old.ready
+            ++ reply ∷ [] }
         ensures emptied { IsEmptied self.old self.new }
         ensures made { self.new.made ≡ self.old.made + length (option_to_list self.old.ready) }
         ensures bundles { self.new.holder.bundles ≡ self.old.holder.bundles + 1 }
@@ -214,16 +234,6 @@ impl OpenSession {
         let mut lines = self.waiting;
         lines.push_reserved(reply);
         lines
-    }
-}
-
-/// Whether the user has access as an owner.
-pub(crate) fn is_owner(user: &User) -> bool
-    ensures { result ≡ is_owner user.now }
-{
-    match &user.access {
-        Some(access) => access.as_str() == "owners",
-        None => false,
     }
 }
 

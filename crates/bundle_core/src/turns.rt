@@ -1,32 +1,40 @@
-//! The turns of open sessions, over the list of them: what each is given, and how it stands after it.
+//! The turns of open sessions, over the list of them: what each is given, and how it stands after
+//! it.
 
 ghost use Rattle.std.specs.Prelude.{◌≡◌, ◌<◌, ◌^◌, [], ◌∷◌, ◌++◌, length, map, get_or, IfOk, OnOk, OnErr};
 ghost use Rattle.std.specs.List.{AllByRecursion};
-ghost use Rattle.grist_json.specs.Lines.{reply_text};
-ghost use Rattle.bundle_core.specs.Desk.{AreSame, Leaves, Stays};
+ghost use Rattle.bundle_core.specs.BareVerdicts.{reply_of};
+ghost use Rattle.bundle_core.specs.Dispatch.{AreSame, Leaves, Stays};
 ghost use Rattle.bundle_core.specs.SessionState.{SessionState, IsReady, MayPost, posted_state};
-ghost use Rattle.bundle_core.specs.Telling.{told_by};
+ghost use Rattle.bundle_core.specs.ViewChanges.{told_by};
 
+use crate::bare_verdict::BareVerdict;
 use crate::session::OpenSession;
-use crate::telling::Told;
-use doc_model::Verdict;
+use crate::view_changes::ToldChanges;
 use grist_json::{Line, write_reply};
 use std::alloc::{AllocError, Global};
 
 /// The reply with this verdict.
-pub(crate) fn reply_with(alloc: Global, verdict: Verdict) -> Result<Line, AllocError>
-    ensures { IfOk result (λ l. l ≡ reply_text verdict) }
+pub(crate) fn reply_with(alloc: Global, verdict: BareVerdict) -> Result<Line, AllocError>
+    ensures { IfOk result (λ l. l ≡ reply_of verdict) }
 {
-    write_reply(alloc, &verdict)
+    write_reply(alloc, &verdict.into_verdict())
+}
+
+/// A line alone, to a session that was not open.
+pub(crate) fn line_alone(alloc: Global, line: Line) -> Result<Vec<Line>, AllocError>
+    ensures { IfOk result (λ v. v.items ≡ line ∷ []) }
+{
+    let mut lines = Vec::new(alloc);
+    lines.push(line)?;
+    Ok(lines)
 }
 
 /// A reply alone, to a session that is not open.
-pub(crate) fn reply_alone(alloc: Global, verdict: Verdict) -> Result<Vec<Line>, AllocError>
-    ensures { IfOk result (λ v. v.items ≡ reply_text verdict ∷ []) }
+pub(crate) fn reply_alone(alloc: Global, verdict: BareVerdict) -> Result<Vec<Line>, AllocError>
+    ensures { IfOk result (λ v. v.items ≡ reply_of verdict ∷ []) }
 {
-    let mut lines = Vec::new(alloc);
-    lines.push(reply_with(alloc, verdict)?)?;
-    Ok(lines)
+    line_alone(alloc, reply_with(alloc, verdict)?)
 }
 
 /// Gives the session of that index what waits and the reply, and closes it. When out of memory, the
@@ -35,10 +43,11 @@ pub(crate) fn leave(
     alloc: Global,
     sessions: &mut Vec<OpenSession>,
     index: usize,
-    verdict: Verdict,
+    verdict: BareVerdict,
 ) -> Result<Vec<Line>, AllocError>
     requires { index < length sessions.old.items }
-    ensures ok { IfOk result (λ v. Leaves sessions.old.items sessions.new.items index (reply_text verdict) v.items) }
+    ensures ok { IfOk result (λ v. Leaves sessions.old.items sessions.new.items index
+        (reply_of verdict) v.items) }
     ensures err { OnErr result (AreSame sessions.old.items sessions.new.items) }
 {
     let reply = reply_with(alloc, verdict)?;
@@ -48,16 +57,17 @@ pub(crate) fn leave(
     Ok(session.leave(reply))
 }
 
-/// Gives the session of that index what waits and the reply. When out of memory, the sessions are the
-/// same.
+/// Gives the session of that index what waits and the reply. When out of memory, the sessions are
+/// the same.
 pub(crate) fn stay(
     alloc: Global,
     sessions: &mut Vec<OpenSession>,
     index: usize,
-    verdict: Verdict,
+    verdict: BareVerdict,
 ) -> Result<Vec<Line>, AllocError>
     requires { index < length sessions.old.items }
-    ensures ok { IfOk result (λ v. Stays sessions.old.items sessions.new.items index (reply_text verdict) v.items) }
+    ensures ok { IfOk result (λ v. Stays sessions.old.items sessions.new.items index
+        (reply_of verdict) v.items) }
     ensures err { OnErr result (AreSame sessions.old.items sessions.new.items) }
 {
     let reply = reply_with(alloc, verdict)?;
@@ -66,12 +76,12 @@ pub(crate) fn stay(
     Ok(session.give(alloc, reply))
 }
 
-/// Makes ready the line that tells each session what its user is told. When out of memory, the sessions
-/// are the same.
+/// Makes ready the line that tells each session what its user is told. When out of memory, the
+/// sessions are the same.
 pub(crate) fn prepare_all(
     alloc: Global,
     sessions: &mut [OpenSession],
-    told: &Told,
+    told: &[ToldChanges],
 ) -> Result<(), AllocError>
     requires { AllByRecursion (λ x. x.made < 2 ^ 63) sessions.old }
     ensures same { AreSame sessions.old sessions.new }

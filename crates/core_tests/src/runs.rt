@@ -1,7 +1,8 @@
-//! Plan: whole runs of `replay`, each a script: a line behind `> ` comes, a line behind `< ` is given. What
-//! a run answers where it finds memory, which no clause says (`answers_as_the_protocol_says`), bundles that
-//! are done and refused among them, and how it ends at its words, its users and the faults of what it was
-//! handed (`ends_at_the_first_event`). The lines are those of the protocol, worked out by hand.
+//! Plan: whole runs of `replay`, each a script: a line behind `> ` comes, a line behind `< ` is
+//! given. What a run answers where it finds memory, which no clause says
+//! (`answers_as_the_protocol_says`), bundles that are done and refused among them, and how it ends
+//! at its words, its users and the faults of what it was handed (`ends_at_the_first_event`). The
+//! lines are those of the protocol, worked out by hand.
 
 use grist_run::{Status, run};
 use io_edges::{MemSink, MemSource};

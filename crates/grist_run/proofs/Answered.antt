@@ -28,7 +28,7 @@ frames-append users st (x ∷ es) e =
     ∙ sym (append_assoc (framed x.session (given users st x)) (frames users (step users st x) es) (framed e.session (given users (run users (step users st x) es) e)))
 
 -- an entry that is not the end of a connection is kept
-kept_entry : (c : CoreState) (e : Entry) → is_gone e.request ≡ false → with_entry c e ≡ record { users = c.users; history = c.history ++ e ∷ [] }
+kept_entry : (c : CoreState) (e : Entry) → is_gone e.request ≡ false → with_entry c e ≡ record { users = c.users; start = c.start; history = c.history ++ e ∷ [] }
 kept_entry c e stays = rw stays refl
 
 admitted_one : (h : List Entry) (e : Entry) → is_full h e.request e.size ≡ false → admitted h (e ∷ []) ≡ takes_all (h ++ e ∷ [])
@@ -38,28 +38,32 @@ admitted_none : (h : List Entry) (e : Entry) → is_full h e.request e.size ≡ 
 admitted_none h e full = rw full refl
 
 module _ (old new : CoreState) (e : Entry) (lines : List (List ℕ)) (s : IsStep old new e lines) (stays : is_gone e.request ≡ false) where
+  pub same_start : new.start ≡ old.start
+  same_start = ap (λ (c : CoreState). c.start) (s.added ∙ kept_entry old e stays)
+
   longer : new.history ≡ old.history ++ e ∷ []
   longer = ap (λ (c : CoreState). c.history) (s.added ∙ kept_entry old e stays)
 
   took_one : admitted old.history (e ∷ []) ≡ takes_all new.history
   took_one = admitted_one old.history e s.has_room ∙ ap takes_all (sym longer)
 
-  more_frames : frames_of old.users new.history ≡ frames_of old.users old.history ++ framed e.session lines
-  more_frames =
+  more_frames : old.start ≡ new_document → frames_of old.users new.history ≡ frames_of old.users old.history ++ framed e.session lines
+  more_frames start =
       ap (frames_of old.users) longer ∙ frames-append old.users (opening new_document) old.history e
+      ∙ ap (λ d. frames_of old.users old.history ++ framed e.session (given old.users (run old.users (opening d) old.history) e)) (sym start)
       ∙ ap (λ ls. frames_of old.users old.history ++ framed e.session ls) (sym s.lines_given)
 
-  module _ (v v' : List ℕ) (w w' : Option (List ℕ)) where
+  module _ (start : old.start ≡ new_document) (v v' : List ℕ) (w w' : Option (List ℕ)) where
     pub answers_step : Sends (v ++ framed e.session lines) v' w w' → AnswersAll old.users old.history new.history (e ∷ []) v v' w w'
     answers_step sends = record {
       took = took_one;
-      adds = record { more = framed e.session lines; frames_new = more_frames; sends = sends };
+      adds = record { more = framed e.session lines; frames_new = more_frames start; sends = sends };
     }
 
     pub answers_part : SendsPart (v ++ framed e.session lines) v' w w' → AnswersPart old.users old.history new.history (e ∷ []) v v' w w'
     answers_part sends = record {
       took = inr took_one;
-      adds = record { more = framed e.session lines; frames_new = more_frames; sends = sends };
+      adds = record { more = framed e.session lines; frames_new = more_frames start; sends = sends };
     }
 
 module _ (users : List User) (h k es : List Entry) (v : List ℕ) (w : Option (List ℕ)) (same : k ≡ h) where

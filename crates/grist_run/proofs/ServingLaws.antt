@@ -2,6 +2,7 @@
 use Rattle.std.proofs.Common.{◌≡◌, ℕ, List, [], ◌∷◌, ◌++◌, Option, Result, Ok, Err, inl, inr, ⊎_elim, refl, sym, ap, ◌∙◌, subst, append_assoc, append-nil}
 use Rattle.doc_model.specs.declared.entry.Entry.{Entry}
 use Rattle.doc_model.specs.declared.user.User.{User}
+use Rattle.doc_model.specs.NewDocument.{new_document}
 use Rattle.io_edges.specs.Lines.{kept_of}
 use Rattle.io_edges.specs.NextLine.{Reads}
 use Rattle.io_edges.specs.Reading.{LineState}
@@ -77,10 +78,10 @@ module _ (users : List User) (h k : List Entry) (v v' : List ℕ) (x w w' : Opti
   ends_answer lines came said TurnsSpent a = absurd a
 
 -- a line, and the reading behind it
-module _ (core core' : CoreState) (v v' : List ℕ) (x w w' l m n : Option (List ℕ)) (old new : LineState) (users : core'.users ≡ core.users) (line : List ℕ) (is : line ≡ old.line) where
+module _ (core core' : CoreState) (v v' : List ℕ) (x w w' l m n : Option (List ℕ)) (old new : LineState) (users : core'.users ≡ core.users) (start : core'.start ≡ core.start) (line : List ℕ) (is : line ≡ old.line) where
   module _ (s : IsServing Line l m core v x w old) where
     abbrev at : IsAtLine l m core.users s.requests old
-    at = s.place
+    at = s.line
 
     abbrev now_lines : List (List ℕ)
     now_lines = at.lines ++ at.text ∷ []
@@ -105,14 +106,14 @@ module _ (core core' : CoreState) (v v' : List ℕ) (x w w' l m n : Option (List
       said_next : (ks : List (List ℕ)) → script_of (now_lines ++ ks) ≡ script core'.users (now_requests ++ ks)
       said_next ks = script-asks_more core.users now_lines ks s.requests at.text at.said ∙ ap (λ us. script us (now_requests ++ ks)) (sym users)
 
-      place_next : (next : NextLine) → Reads (Ok next) old new m n → IsAt next l n core'.users now_requests new
-      place_next Line r = record { lines = now_lines; text = r.text; kept = r.answer; came = came_line l m n now_lines old new at.came r; said = said_next (r.text ∷ []) }
-      place_next Last r = record { lines = now_lines; text = r.text; kept = r.answer.1; came = came_last l m n now_lines old new at.came r; said = said_next (r.text ∷ []) }
-      place_next End r = record { lines = now_lines; came = came_end l m n now_lines old new at.came r; said = at.said ∙ ap (λ us. script us now_requests) (sym users) }
+      line_next : (next : NextLine) → Reads (Ok next) old new m n → IsAt next l n core'.users now_requests new
+      line_next Line r = record { lines = now_lines; text = r.text; kept = r.answer; came = came_line l m n now_lines old new at.came r; said = said_next (r.text ∷ []) }
+      line_next Last r = record { lines = now_lines; text = r.text; kept = r.answer.1; came = came_last l m n now_lines old new at.came r; said = said_next (r.text ∷ []) }
+      line_next End r = record { lines = now_lines; came = came_end l m n now_lines old new at.came r; said = at.said ∙ ap (λ us. script us now_requests) (sym users) }
 
       -- and the next one was read
       pub turn_goes_on : (next : NextLine) → Reads (Ok next) old new m n → IsServing next l n core' v' x w' new
-      turn_goes_on next r = record { requests = now_requests; place = place_next next r; took = took_now; sent = sent_new }
+      turn_goes_on next r = record { requests = now_requests; start = start ∙ s.start; line = line_next next r; took = took_now; sent = sent_new }
 
       serves : Serves now_lines core.users core'.history
       serves = record { requests = now_requests; said = at.said; took = took_now }
@@ -153,7 +154,7 @@ module _ (core core' : CoreState) (v v' : List ℕ) (x w w' l m n : Option (List
   -- the last line of the input
   module _ (s : IsServing Last l m core v x w old) where
     abbrev last : IsAtLast l m core.users s.requests old
-    last = s.place
+    last = s.line
 
     pub last_ends : (status : Status) → Answers (Err status) core.users core.history core'.history (line_entries line) v v' w w' → EndsServing status l m core'.history v' x w'
     last_ends status a = ends_answer core.users core.history core'.history v v' x w w' s.requests last.text line (is ∙ last.kept) s.took s.sent (last.lines ++ last.text ∷ []) (inr last.came) last.said status a
@@ -170,12 +171,12 @@ module _ (core core' : CoreState) (v v' : List ℕ) (x w w' l m n : Option (List
 -- the end of the input
 pub serving_ends : {core : CoreState} {v : List ℕ} {x w l m : Option (List ℕ)} {reader : LineState} → IsServing End l m core v x w reader → EndsServing Done l m core.history v x w
 serving_ends {core} s =
-    let at : IsAtEndOf _ _ core.users s.requests = s.place in
+    let at : IsAtEndOf _ _ core.users s.requests = s.line in
     record { lines = at.lines; users = core.users; came = at.came; serves = record { requests = s.requests; said = at.said; took = s.took }; written = s.sent }
 
 -- nothing was answered yet
-pub serving_starts : (next : NextLine) (l m : Option (List ℕ)) (users : List User) (core : CoreState) (waiting : List ℕ) (w : Option (List ℕ)) (reader : LineState) → core ≡ record { users = users; history = [] } → waiting ≡ [] → IsAt next l m users [] reader → IsServing next l m core waiting w w reader
+pub serving_starts : (next : NextLine) (l m : Option (List ℕ)) (users : List User) (core : CoreState) (waiting : List ℕ) (w : Option (List ℕ)) (reader : LineState) → core ≡ record { users = users; start = new_document; history = [] } → waiting ≡ [] → IsAt next l m users [] reader → IsServing next l m core waiting w w reader
 serving_starts next l m users core waiting w reader new none at =
-    let start : CoreState = record { users = users; history = [] } in
+    let start : CoreState = record { users = users; start = new_document; history = [] } in
     let P : CoreState → List ℕ → Type 0 = λ c v. IsServing next l m c v w w reader in
-    subst (λ (c : CoreState). P c waiting) (sym new) (subst (λ (v : List ℕ). P start v) (sym none) (record { requests = []; place = at; took = refl; sent = sends_none [] w }))
+    subst (λ (c : CoreState). P c waiting) (sym new) (subst (λ (v : List ℕ). P start v) (sym none) (record { start = refl; requests = []; line = at; took = refl; sent = sends_none [] w }))

@@ -8,24 +8,28 @@ use Rattle.grist_run.specs.Admission.{admitted, takes_all, stops_at}
 use Rattle.grist_run.specs.Sending.{Adds, AddsPart}
 
 -- the entries found room, and their frames were sent
-pub record AnswersAll (users : List User) (old new entries : List Entry) (waiting_old waiting_new : List ℕ) (written_old written_new : Option (List ℕ)) : Type 0 where
+pub record AnswersAll (users : List User) (old new entries : List Entry)
+    (waiting_old waiting_new : List ℕ) (written_old written_new : Option (List ℕ)) : Type 0 where
   pub took : admitted old entries ≡ takes_all new
   pub adds : Adds users old new waiting_old waiting_new written_old written_new
 
 -- the history is full for them, and nothing was done
-pub record FindsFull (old new entries : List Entry) (waiting_old waiting_new : List ℕ) (written_old written_new : Option (List ℕ)) : Type 0 where
+pub record FindsFull (old new entries : List Entry) (waiting_old waiting_new : List ℕ)
+    (written_old written_new : Option (List ℕ)) : Type 0 where
   pub full : admitted old entries ≡ stops_at old
   pub same : new ≡ old
   pub waiting : waiting_new ≡ waiting_old
   pub written : written_new ≡ written_old
 
 -- the entries were not taken, or they were and not all of their frames were sent
-pub record AnswersPart (users : List User) (old new entries : List Entry) (waiting_old waiting_new : List ℕ) (written_old written_new : Option (List ℕ)) : Type 0 where
+pub record AnswersPart (users : List User) (old new entries : List Entry)
+    (waiting_old waiting_new : List ℕ) (written_old written_new : Option (List ℕ)) : Type 0 where
   pub took : (new ≡ old) ⊎ (admitted old entries ≡ takes_all new)
   pub adds : AddsPart users old new waiting_old waiting_new written_old written_new
 
 -- each way in which a line is answered
-abbrev pub Answers : Result ⊤ Status → List User → List Entry → List Entry → List Entry → List ℕ → List ℕ → Option (List ℕ) → Option (List ℕ) → Type 0
+abbrev pub Answers : Result ⊤ Status → List User → List Entry → List Entry → List Entry → List ℕ
+    → List ℕ → Option (List ℕ) → Option (List ℕ) → Type 0
 Answers (Ok done) users h k es v v' w w' = AnswersAll users h k es v v' w w'
 Answers (Err HistoryFull) users h k es v v' w w' = FindsFull h k es v v' w w'
 Answers (Err WriteFault) users h k es v v' w w' = AnswersPart users h k es v v' w w'

@@ -21,7 +21,8 @@ IsHeard heard.BadUser s old new = s ≡ fails
 IsHeard heard.Request s old new = (s ≡ ends) × (new ≡ old)
 
 -- the last line that came is ahead of the answers; the lines before it asked for these things
-pub record IsAtLine (left_old left_new : Option (List ℕ)) (users : List User) (requests : List (List ℕ)) (reader : LineState) : Type 0 where
+pub record IsAtLine (left_old left_new : Option (List ℕ)) (users : List User)
+    (requests : List (List ℕ)) (reader : LineState) : Type 0 where
   pub lines : List (List ℕ)
   pub text : List ℕ
   pub kept : reader.line ≡ kept_of text
@@ -29,7 +30,8 @@ pub record IsAtLine (left_old left_new : Option (List ℕ)) (users : List User) 
   pub said : script_of (lines ++ text ∷ []) ≡ script users (requests ++ text ∷ [])
 
 -- the same at the last line of the input, which no newline ends
-pub record IsAtLast (left_old left_new : Option (List ℕ)) (users : List User) (requests : List (List ℕ)) (reader : LineState) : Type 0 where
+pub record IsAtLast (left_old left_new : Option (List ℕ)) (users : List User)
+    (requests : List (List ℕ)) (reader : LineState) : Type 0 where
   pub lines : List (List ℕ)
   pub text : List ℕ
   pub kept : reader.line ≡ kept_of text
@@ -37,19 +39,22 @@ pub record IsAtLast (left_old left_new : Option (List ℕ)) (users : List User) 
   pub said : script_of (lines ++ text ∷ []) ≡ script users (requests ++ text ∷ [])
 
 -- the same at the end of the input
-pub record IsAtEndOf (left_old left_new : Option (List ℕ)) (users : List User) (requests : List (List ℕ)) : Type 0 where
+pub record IsAtEndOf (left_old left_new : Option (List ℕ)) (users : List User)
+    (requests : List (List ℕ)) : Type 0 where
   pub lines : List (List ℕ)
   pub came : CameAll left_old left_new lines
   pub said : script_of lines ≡ script users requests
 
 -- where the reading is, by what the reader gave
-abbrev pub IsAt : NextLine → Option (List ℕ) → Option (List ℕ) → List User → List (List ℕ) → LineState → Type 0
+abbrev pub IsAt : NextLine → Option (List ℕ) → Option (List ℕ) → List User → List (List ℕ)
+    → LineState → Type 0
 IsAt next.Line l l' users requests reader = IsAtLine l l' users requests reader
 IsAt next.Last l l' users requests reader = IsAtLast l l' users requests reader
 IsAt next.End l l' users requests reader = IsAtEndOf l l' users requests
 
 -- all lines so far said these users, and the next line has this number
-pub record HeardSoFar (left_old left_new : Option (List ℕ)) (users : List User) (reader : LineState) (number : ℕ) : Type 0 where
+pub record HeardSoFar (left_old left_new : Option (List ℕ)) (users : List User) (reader : LineState)
+    (number : ℕ) : Type 0 where
   pub lines : List (List ℕ)
   pub came : Came left_old left_new lines reader.ahead reader.turns
   pub said : script_of lines ≡ script users []
@@ -66,7 +71,8 @@ EndsHearing WriteFault l l' = ⊥
 EndsHearing status l l' = Runs Nothing Nothing status l l' []
 
 -- one line was heard: there may be more, or the users ended, or the run did
-abbrev pub HearsLine : Result (Option NextLine) Status → Option (List ℕ) → Option (List ℕ) → List User → LineState → ℕ → Type 0
+abbrev pub HearsLine : Result (Option NextLine) Status → Option (List ℕ) → Option (List ℕ)
+    → List User → LineState → ℕ → Type 0
 HearsLine (Ok None) l l' users reader number = HeardSoFar l l' users reader (number + 1)
 HearsLine (Ok (Some n)) l l' users reader number = IsAt n l l' users [] reader
 HearsLine (Err status) l l' users reader number = EndsHearing status l l'

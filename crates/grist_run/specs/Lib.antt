@@ -1,7 +1,7 @@
 pub mod Script
 pub mod UserLines
 pub mod Admission
-pub mod Asked
+pub mod LineRequests
 pub mod Sending
 pub mod Answering
 pub mod Words

@@ -8,9 +8,11 @@ use Rattle.grist_run.specs.declared.status.Status.{Status}
 use Rattle.grist_run.specs.declared.status.Status.TheVariants.{ReadFault, NoMemory, TurnsSpent}
 
 -- the reader gave a line or the end of the input, or the run ends
-abbrev pub ReadsNext : Result NextLine Status → LineState → LineState → Option (List ℕ) → Option (List ℕ) → Type 0
+abbrev pub ReadsNext : Result NextLine Status → LineState → LineState → Option (List ℕ)
+    → Option (List ℕ) → Type 0
 ReadsNext (Ok n) old new l l' = Reads (Ok n) old new l l'
 ReadsNext (Err ReadFault) old new l l' = Reads (Err end.ReadFault) old new l l'
-ReadsNext (Err TurnsSpent) old new l l' = Reads (Err end.TurnsSpent) old new l l' × (new.turns ≡ 4294967296)
+ReadsNext (Err TurnsSpent) old new l l' = Reads (Err end.TurnsSpent) old new l l'
+    × (new.turns ≡ 4294967296)
 ReadsNext (Err NoMemory) old new l l' = Reads (Err end.NoMemory) old new l l'
 ReadsNext (Err status) old new l l' = ⊥

@@ -13,7 +13,8 @@ use Rattle.grist_run.specs.Sending.{frames_of}
 use Rattle.grist_run.specs.UserLines.{bad_user, script, script_of}
 
 -- bytes came by at least so many reads: these lines, each with its newline, and a rest
-pub record Came (left_old left_new : Option (List ℕ)) (lines : List (List ℕ)) (rest : List ℕ) (turns : ℕ) : Type 0 where
+pub record Came (left_old left_new : Option (List ℕ)) (lines : List (List ℕ)) (rest : List ℕ)
+    (turns : ℕ) : Type 0 where
   pub came : List ℕ
   pub consumed : Consumes left_old left_new came
   pub split : came ≡ stream_of lines rest
@@ -40,7 +41,8 @@ pub record Serves (lines : List (List ℕ)) (users : List User) (history : List 
   pub took : admitted [] (entries_of requests) ≡ takes_all history
 
 -- Below, `whole` says of bytes that they were written, and `front` that a front of them was.
-module _ (whole front : List ℕ → Type 0) (left_old left_new : Option (List ℕ)) (history : List Entry) where
+module _ (whole front : List ℕ → Type 0) (left_old left_new : Option (List ℕ))
+    (history : List Entry) where
   -- the whole input was read and answered
   pub record EndsWell : Type 0 where
     pub lines : List (List ℕ)
@@ -49,7 +51,8 @@ module _ (whole front : List ℕ → Type 0) (left_old left_new : Option (List �
     pub serves : Serves lines users history
     pub written : whole (frames_of users history)
 
-  -- the reading stopped within a line, after at least so many reads, and each line before it was answered
+  -- the reading stopped within a line, after at least so many reads, and each line before it was
+  -- answered
   pub record StopsReading (turns : ℕ) : Type 0 where
     pub lines : List (List ℕ)
     pub rest : List ℕ
@@ -95,7 +98,8 @@ module _ (whole front : List ℕ → Type 0) (left_old left_new : Option (List �
     pub written : whole []
 
 -- what a run did, by how it ended
-abbrev pub Runs : (whole front : List ℕ → Type 0) → Status → Option (List ℕ) → Option (List ℕ) → List Entry → Type 0
+abbrev pub Runs : (whole front : List ℕ → Type 0) → Status → Option (List ℕ) → Option (List ℕ)
+    → List Entry → Type 0
 Runs w f Done l l' h = EndsWell w f l l' h
 Runs w f Usage l l' h = DoesNothing w f l l' h
 Runs w f (BadUsers number) l l' h = RefusesUser w f l l' h number
@@ -106,5 +110,6 @@ Runs w f TurnsSpent l l' h = StopsReading w f l l' h 4294967296
 Runs w f HistoryFull l l' h = StopsFull w f l l' h
 
 -- what a run did with a sink that held these bytes before it and holds those after it
-abbrev pub IsRun : Status → Option (List ℕ) → Option (List ℕ) → List Entry → Option (List ℕ) → Option (List ℕ) → Type 0
+abbrev pub IsRun : Status → Option (List ℕ) → Option (List ℕ) → List Entry → Option (List ℕ)
+    → Option (List ℕ) → Type 0
 IsRun status l l' h w w' = Runs (Appends w w') (λ b. SendsFront b w w') status l l' h

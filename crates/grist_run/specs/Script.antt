@@ -1,5 +1,5 @@
 -- What the lines of an input ask for.
-use Rattle.std.specs.Prelude.{ℕ, List, [], ◌∷◌, ◌++◌, codes, Bool, ◌||◌, ◌==◌, nat_lt, length, Option, Some, None, if◌then◌else◌}
+use Rattle.std.specs.Prelude.{ℕ, List, [], ◌∷◌, ◌++◌, codes, Bool, true, ◌||◌, ◌==◌, nat_lt, length, Option, Some, None, if◌then◌else◌}
 use Rattle.std.specs.List.{list_all}
 use Rattle.doc_model.specs.declared.entry.Entry.{Entry}
 use Rattle.doc_model.specs.declared.request.Request.TheVariants.{Bad, TooLong}
@@ -25,13 +25,13 @@ nobody = codes "_"
 
 -- the entry of a line of that size, by the frame that it spells
 abbrev pub framed_entry : Option Frame → ℕ → Entry
-framed_entry None size = entry_of nobody Bad size
-framed_entry (Some f) size = entry_of f.session f.request size
+framed_entry None size = entry_of nobody Bad size true
+framed_entry (Some f) size = entry_of f.session f.request size true
 
 -- the entries that a line makes: none, if it is white space alone, and else one
 abbrev pub line_entries : List ℕ → List Entry
 line_entries text =
-    if is_long text then entry_of nobody TooLong 1048577 ∷ []
+    if is_long text then entry_of nobody TooLong 1048577 true ∷ []
     else if is_blank text then [] else framed_entry (frame_at text) (length text) ∷ []
 
 -- the entries that lines make, in their order

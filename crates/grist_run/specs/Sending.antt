@@ -13,20 +13,23 @@ abbrev pub frames_of : List User → List Entry → List ℕ
 frames_of users history = frames users (opening new_document) history
 
 -- of these bytes a front was written, some wait, and what stands behind those is lost
-pub record SendsPart (bytes waiting : List ℕ) (written_old written_new : Option (List ℕ)) : Type 0 where
+pub record SendsPart (bytes waiting : List ℕ)
+    (written_old written_new : Option (List ℕ)) : Type 0 where
   pub front : List ℕ
   pub lost : List ℕ
   pub split : bytes ≡ front ++ waiting ++ lost
   pub written : Appends written_old written_new front
 
 -- the frames of what was added to a history were sent behind those that waited
-pub record Adds (users : List User) (old new : List Entry) (waiting_old waiting_new : List ℕ) (written_old written_new : Option (List ℕ)) : Type 0 where
+pub record Adds (users : List User) (old new : List Entry) (waiting_old waiting_new : List ℕ)
+    (written_old written_new : Option (List ℕ)) : Type 0 where
   pub more : List ℕ
   pub frames_new : frames_of users new ≡ frames_of users old ++ more
   pub sends : Sends (waiting_old ++ more) waiting_new written_old written_new
 
 -- not all of them were
-pub record AddsPart (users : List User) (old new : List Entry) (waiting_old waiting_new : List ℕ) (written_old written_new : Option (List ℕ)) : Type 0 where
+pub record AddsPart (users : List User) (old new : List Entry) (waiting_old waiting_new : List ℕ)
+    (written_old written_new : Option (List ℕ)) : Type 0 where
   pub more : List ℕ
   pub frames_new : frames_of users new ≡ frames_of users old ++ more
   pub sends : SendsPart (waiting_old ++ more) waiting_new written_old written_new

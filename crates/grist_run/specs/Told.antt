@@ -51,10 +51,12 @@ module _ (input : List ℕ) (history : List Entry) (written_old written_new : Op
   pub record WritesFront : Type 0 where
     pub more : List Entry
     pub entries : entries_in input ≡ history ++ more
-    pub written : SendsFront (frames_of (users_said (script_in input)) history) written_old written_new
+    pub written : SendsFront
+        (frames_of (users_said (script_in input)) history) written_old written_new
 
 -- what a run did with the input, by how it ended
-abbrev pub Follows : Status → List ℕ → Option (List ℕ) → List Entry → Option (List ℕ) → Option (List ℕ) → Type 0
+abbrev pub Follows : Status → List ℕ → Option (List ℕ) → List Entry → Option (List ℕ)
+    → Option (List ℕ) → Type 0
 Follows Done input left h w w' = AnswersInput input h w w' left
 Follows Usage input left h w w' = ⊤
 Follows (BadUsers number) input left h w w' = RefusesInput input h w w' number

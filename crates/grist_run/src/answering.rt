@@ -1,11 +1,13 @@
 //! One line of the input, answered.
-ghost use Rattle.std.specs.Prelude.{◌≡◌, ◌≤◌, [], ◌∷◌, false, IsErrOf};
+ghost use Rattle.std.specs.Prelude.{◌≡◌, ◌≤◌, [], ◌∷◌, true, false, IsErrOf};
 ghost use Rattle.io_edges.specs.Causes.{Rose};
+ghost use Rattle.doc_model.specs.NewDocument.{new_document};
+ghost use Rattle.doc_model.specs.WellFormed.{asks_well_formed};
 ghost use Rattle.bundle_core.specs.Core.{entry_of, is_gone};
 ghost use Rattle.grist_run.specs.Answering.{Answers};
 ghost use Rattle.grist_run.specs.Script.{line_entries};
 
-use crate::asked::{Asked, asked_in};
+use crate::line_request::{LineRequest, request_in};
 use crate::sending::{SendEnd, send_lines};
 use crate::status::Status;
 use bundle_core::{Answer, Core};
@@ -21,37 +23,49 @@ pub(crate) fn answer<O: Sink>(
     line: &[u8],
 ) -> Result<(), Status>
     ensures users { core.new.users ≡ core.old.users }
-    ensures answers { Answers result core.old.users core.old.history core.new.history (line_entries line.now) outbox.old outbox.new (O.written out.old) (O.written out.new) }
+    ensures start { core.new.start ≡ core.old.start }
+    ensures answers { core.old.start ≡ new_document
+        → Answers result core.old.users core.old.history core.new.history
+        (line_entries line.now) outbox.old outbox.new (O.written out.old) (O.written out.new) }
     ensures later { O.faults out.old ≤ O.faults out.new }
+    ensures usage { IsErrOf result Status.Usage → ⊥ }
+    ensures read_fault { IsErrOf result Status.ReadFault → ⊥ }
     ensures fault { IsErrOf result Status.WriteFault → Rose (O.faults out.old) (O.faults out.new) }
 {
-    match asked_in(alloc, line) {
-        Ok(Some(asked)) => answer_asked(alloc, core, outbox, out, asked),
+    match request_in(alloc, line) {
+        Ok(Some(line_request)) => answer_request(alloc, core, outbox, out, line_request),
         Ok(None) => Ok(()),
         Err(_) => Err(Status::NoMemory),
     }
 }
 
 // Answers a request.
-fn answer_asked<O: Sink>(
+fn answer_request<O: Sink>(
     alloc: Global,
     core: &mut Core,
     outbox: &mut Outbox,
     out: &mut O,
-    asked: Asked,
+    line_request: LineRequest,
 ) -> Result<(), Status>
-    requires { is_gone asked.request ≡ false }
+    requires stays { is_gone line_request.request ≡ false }
+    requires well_formed { asks_well_formed line_request.request ≡ true }
     ensures users { core.new.users ≡ core.old.users }
-    ensures answers { Answers result core.old.users core.old.history core.new.history (entry_of asked.session asked.request asked.size ∷ []) outbox.old outbox.new (O.written out.old) (O.written out.new) }
+    ensures start { core.new.start ≡ core.old.start }
+    ensures answers { core.old.start ≡ new_document
+        → Answers result core.old.users core.old.history core.new.history
+        (entry_of line_request.session line_request.request line_request.size true ∷ [])
+        outbox.old outbox.new (O.written out.old) (O.written out.new) }
     ensures later { O.faults out.old ≤ O.faults out.new }
+    ensures usage { IsErrOf result Status.Usage → ⊥ }
+    ensures read_fault { IsErrOf result Status.ReadFault → ⊥ }
     ensures fault { IsErrOf result Status.WriteFault → Rose (O.faults out.old) (O.faults out.new) }
 {
-    let Asked {
+    let LineRequest {
         session,
         request,
         size,
-    } = asked;
-    match core.step(alloc, &session, request, size) {
+    } = line_request;
+    match core.step(&session, request, size) {
         Ok(Answer::Full) => Err(Status::HistoryFull),
         Ok(Answer::Lines(lines)) => {
             match send_lines(alloc, outbox, out, &session, lines.as_slice()) {

@@ -15,7 +15,8 @@ pub(crate) fn read_next<S: Source>(
     ensures reads { ReadsNext result reader.old reader.new (S.left input.old) (S.left input.new) }
     ensures falls { result ≡ Ok NextLine.Line → work_left reader.new < work_left reader.old }
     ensures later { S.faults input.old ≤ S.faults input.new }
-    ensures fault { IsErrOf result Status.ReadFault → Rose (S.faults input.old) (S.faults input.new) }
+    ensures fault { IsErrOf result Status.ReadFault
+        → Rose (S.faults input.old) (S.faults input.new) }
 {
     match reader.next_line(input) {
         Ok(next) => Ok(next),

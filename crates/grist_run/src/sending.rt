@@ -26,8 +26,10 @@ pub(crate) fn send_lines<O: Sink>(
     session: &Name,
     lines: &[Line],
 ) -> Result<(), SendEnd>
-    ensures ok { OnOk result (Sends (outbox.old ++ framed session.now lines.now) outbox.new (O.written out.old) (O.written out.new)) }
-    ensures err { OnErr result (SendsPart (outbox.old ++ framed session.now lines.now) outbox.new (O.written out.old) (O.written out.new)) }
+    ensures ok { OnOk result (Sends (outbox.old ++ framed session.now lines.now) outbox.new
+        (O.written out.old) (O.written out.new)) }
+    ensures err { OnErr result (SendsPart (outbox.old ++ framed session.now lines.now) outbox.new
+        (O.written out.old) (O.written out.new)) }
     ensures later { O.faults out.old ≤ O.faults out.new }
     ensures fault { IsErrOf result SendEnd.WriteFault → Rose (O.faults out.old) (O.faults out.new) }
 {
@@ -47,8 +49,12 @@ fn send_line<O: Sink>(
     session: &Name,
     line: &Line,
 ) -> Result<(), SendEnd>
-    ensures ok { OnOk result (Sends (outbox.old ++ frame_text line.now session.now ++ 10 ∷ []) outbox.new (O.written out.old) (O.written out.new)) }
-    ensures err { OnErr result (SendsPart (outbox.old ++ frame_text line.now session.now ++ 10 ∷ []) outbox.new (O.written out.old) (O.written out.new)) }
+    ensures ok { OnOk result
+        (Sends (outbox.old ++ frame_text line.now session.now ++ 10 ∷ []) outbox.new
+        (O.written out.old) (O.written out.new)) }
+    ensures err { OnErr result
+        (SendsPart (outbox.old ++ frame_text line.now session.now ++ 10 ∷ []) outbox.new
+        (O.written out.old) (O.written out.new)) }
     ensures later { O.faults out.old ≤ O.faults out.new }
     ensures fault { IsErrOf result SendEnd.WriteFault → Rose (O.faults out.old) (O.faults out.new) }
 {
@@ -60,8 +66,12 @@ fn send_line<O: Sink>(
 
 // Puts a text and a newline behind what waits.
 fn put_line<O: Sink>(outbox: &mut Outbox, out: &mut O, text: &[u8]) -> Result<(), SendEnd>
-    ensures ok { OnOk result (Sends (outbox.old ++ text.now ++ 10 ∷ []) outbox.new (O.written out.old) (O.written out.new)) }
-    ensures err { OnErr result (SendsPart (outbox.old ++ text.now ++ 10 ∷ []) outbox.new (O.written out.old) (O.written out.new)) }
+    ensures ok { OnOk result
+        (Sends (outbox.old ++ text.now ++ 10 ∷ []) outbox.new (O.written out.old)
+        (O.written out.new)) }
+    ensures err { OnErr result
+        (SendsPart (outbox.old ++ text.now ++ 10 ∷ []) outbox.new (O.written out.old)
+        (O.written out.new)) }
     ensures later { O.faults out.old ≤ O.faults out.new }
     ensures fault { OnErr result (Rose (O.faults out.old) (O.faults out.new)) }
 {

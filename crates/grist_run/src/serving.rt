@@ -21,13 +21,19 @@ fn take_turn<S: Source, O: Sink>(
     out: &mut O,
 ) -> Result<NextLine, Status>
     ensures users { core.new.users ≡ core.old.users }
-    ensures turn { (left written : Option (List ℕ)) → IsServing NextLine.Line left (S.left input.old) core.old outbox.old written (O.written out.old) reader.old → TakesTurn result left (S.left input.new) core.new outbox.new written (O.written out.new) reader.new }
+    ensures start { core.new.start ≡ core.old.start }
+    ensures turn { (left written : Option (List ℕ)) → IsServing NextLine.Line left
+        (S.left input.old) core.old outbox.old written (O.written out.old) reader.old
+        → TakesTurn result left (S.left input.new) core.new outbox.new written
+        (O.written out.new) reader.new }
     ensures usage { IsErrOf result Status.Usage → ⊥ }
     ensures falls { result ≡ Ok NextLine.Line → work_left reader.new < work_left reader.old }
     ensures read_later { S.faults input.old ≤ S.faults input.new }
     ensures write_later { O.faults out.old ≤ O.faults out.new }
-    ensures read_fault { IsErrOf result Status.ReadFault → Rose (S.faults input.old) (S.faults input.new) }
-    ensures write_fault { IsErrOf result Status.WriteFault → Rose (O.faults out.old) (O.faults out.new) }
+    ensures read_fault { IsErrOf result Status.ReadFault
+        → Rose (S.faults input.old) (S.faults input.new) }
+    ensures write_fault { IsErrOf result Status.WriteFault
+        → Rose (O.faults out.old) (O.faults out.new) }
 {
     match answer(alloc, core, outbox, out, reader.line()) {
         Ok(()) => read_next(reader, input),
@@ -44,7 +50,11 @@ fn take_last<O: Sink>(
     out: &mut O,
 ) -> Status
     ensures users { core.new.users ≡ core.old.users }
-    ensures ends { (left left_new written : Option (List ℕ)) (reader : LineState) → reader.line ≡ line.now → IsServing NextLine.Last left left_new core.old outbox.old written (O.written out.old) reader → EndsServing result left left_new core.new.history outbox.new written (O.written out.new) }
+    ensures start { core.new.start ≡ core.old.start }
+    ensures ends { (left left_new written : Option (List ℕ)) (reader : LineState) → reader.line
+        ≡ line.now → IsServing NextLine.Last left left_new core.old outbox.old written
+        (O.written out.old) reader
+        → EndsServing result left left_new core.new.history outbox.new written (O.written out.new) }
     ensures later { O.faults out.old ≤ O.faults out.new }
     ensures usage { result ≡ Status.Usage → ⊥ }
     ensures read_fault { result ≡ Status.ReadFault → ⊥ }
@@ -66,11 +76,16 @@ pub(crate) fn serve<S: Source, O: Sink>(
     input: &mut S,
     out: &mut O,
 ) -> Status
-    ensures ends { (left written : Option (List ℕ)) → IsServing first left (S.left input.old) core.old outbox.old written (O.written out.old) reader.old → EndsServing result left (S.left input.new) core.new.history outbox.new written (O.written out.new) }
+    ensures ends { (left written : Option (List ℕ))
+        → IsServing first left (S.left input.old) core.old outbox.old written
+        (O.written out.old) reader.old
+        → EndsServing result left (S.left input.new) core.new.history outbox.new written
+        (O.written out.new) }
     ensures usage { result ≡ Status.Usage → ⊥ }
     ensures read_later { S.faults input.old ≤ S.faults input.new }
     ensures write_later { O.faults out.old ≤ O.faults out.new }
-    ensures read_fault { result ≡ Status.ReadFault → Rose (S.faults input.old) (S.faults input.new) }
+    ensures read_fault { result ≡ Status.ReadFault
+        → Rose (S.faults input.old) (S.faults input.new) }
     ensures write_fault { result ≡ Status.WriteFault → Rose (O.faults out.old) (O.faults out.new) }
 {
     let mut next = first;

@@ -5,7 +5,7 @@ ghost use Rattle.io_edges.specs.Reading.{work_left};
 ghost use Rattle.grist_run.specs.UserLines.{adds_once, has_token, saying};
 ghost use Rattle.grist_run.specs.Hearing.{IsHeard, HeardSoFar, HearsLine, HearsUsers};
 
-use crate::asked::{is_blank, is_long};
+use crate::line_request::{is_blank, is_long};
 use crate::reading::read_next;
 use crate::status::Status;
 use doc_model::{User, UserList};
@@ -43,7 +43,8 @@ fn has_token(users: &[User], token: &str) -> bool
 
 // Adds a user, unless another has the token or there are as many users as may be.
 fn add_once(users: &mut Vec<User>, user: User) -> Result<Heard, AllocError>
-    ensures { IfOk result (λ h. IsHeard h (adds_once users.old.items user) users.old.items users.new.items) }
+    ensures { IfOk result (λ h. IsHeard h
+        (adds_once users.old.items user) users.old.items users.new.items) }
 {
     if has_token(users, user.token.as_str()) || users.len() >= MAX_USERS {
         return Ok(Heard::BadUser);
@@ -54,7 +55,8 @@ fn add_once(users: &mut Vec<User>, user: User) -> Result<Heard, AllocError>
 
 // Hears what a line says of users.
 fn hear(alloc: Global, users: &mut Vec<User>, line: &[u8]) -> Result<Heard, AllocError>
-    ensures { IfOk result (λ h. IsHeard h (saying users.old.items line.now) users.old.items users.new.items) }
+    ensures { IfOk result (λ h. IsHeard h
+        (saying users.old.items line.now) users.old.items users.new.items) }
 {
     if is_long(line) {
         return Ok(Heard::Request);
@@ -77,10 +79,13 @@ fn hear_next<S: Source>(
     input: &mut S,
     number: u64,
 ) -> Result<Option<NextLine>, Status>
-    ensures hears { (left : Option (List ℕ)) → HeardSoFar left (S.left input.old) users.old.items reader.old number → HearsLine result left (S.left input.new) users.new.items reader.new number }
+    ensures hears { (left : Option (List ℕ))
+        → HeardSoFar left (S.left input.old) users.old.items reader.old number
+        → HearsLine result left (S.left input.new) users.new.items reader.new number }
     ensures falls { result ≡ Ok None → work_left reader.new < work_left reader.old }
     ensures later { S.faults input.old ≤ S.faults input.new }
-    ensures fault { IsErrOf result Status.ReadFault → Rose (S.faults input.old) (S.faults input.new) }
+    ensures fault { IsErrOf result Status.ReadFault
+        → Rose (S.faults input.old) (S.faults input.new) }
 {
     match read_next(reader, input) {
         Ok(NextLine::End) => Ok(Some(NextLine::End)),
@@ -112,7 +117,8 @@ pub(crate) fn read_users<S: Source>(
     requires turns { reader.old.turns ≡ 0 }
     ensures hears { HearsUsers result (S.left input.old) (S.left input.new) reader.new }
     ensures later { S.faults input.old ≤ S.faults input.new }
-    ensures fault { IsErrOf result Status.ReadFault → Rose (S.faults input.old) (S.faults input.new) }
+    ensures fault { IsErrOf result Status.ReadFault
+        → Rose (S.faults input.old) (S.faults input.new) }
 {
     let mut users = Vec::new(alloc);
     let mut number = 1;

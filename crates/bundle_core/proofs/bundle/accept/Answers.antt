@@ -1,6 +1,6 @@
 use Rattle.std.proofs.Common.{ℕ, List, subst}
-use Rattle.bundle_core.specs.Desk.{Posts}
-use Rattle.bundle_core.specs.Plans.{told_changes}
+use Rattle.bundle_core.specs.Dispatch.{Posts}
+use Rattle.bundle_core.specs.JudgedBundles.{told_changes}
 use Rattle.bundle_core.proofs.Readied.{all_may_post, few_bundles}
 use Rattle.bundle_core.proofs.bundle.accept.Goals as goal
 

@@ -1,4 +1,4 @@
-use Rattle.bundle_core.specs.Telling.{told_by}
+use Rattle.bundle_core.specs.ViewChanges.{told_by}
 use Rattle.bundle_core.proofs.Prepared.{Preparing}
 use Rattle.bundle_core.proofs.turns.prepare_all.Given as goal
 

@@ -1,0 +1,47 @@
+//! Verdicts that show nothing of a view.
+
+ghost use Rattle.std.specs.Prelude.{◌≡◌};
+ghost use Rattle.bundle_core.specs.BareVerdicts.{verdict_of};
+
+use doc_model::{LimitKind, Refusal, RetValueList, Verdict};
+
+/// A verdict that shows nothing of a view: what it says is the session's own.
+#[derive(Drop)]
+pub(crate) enum BareVerdict {
+    Done,
+    Bundle {
+        number: u64,
+        values: RetValueList,
+    },
+    Refused {
+        refusal: Refusal,
+        action: Option<u32>,
+    },
+    Limited {
+        what: LimitKind,
+        bound: u64,
+        action: Option<u32>,
+    },
+}
+
+impl BareVerdict {
+    /// The verdict as it is written.
+    pub fn into_verdict(self) -> Verdict
+        ensures { result ≡ verdict_of self }
+    {
+        match self {
+            BareVerdict::Done => Verdict::Done,
+            BareVerdict::Bundle { number, values } => Verdict::Bundle { number, values },
+            BareVerdict::Refused { refusal, action } => Verdict::Refused { refusal, action },
+            BareVerdict::Limited {
+                what,
+                bound,
+                action,
+            } => Verdict::Limited {
+                what,
+                bound,
+                action,
+            },
+        }
+    }
+}

@@ -1,0 +1,292 @@
+//! How an entry is answered: which verdict it comes to, and what that makes of the document and the
+//! sessions.
+
+ghost use Rattle.std.specs.Prelude.{◌≡◌, ◌+◌, ◌<◌, ◌^◌, [], ◌∷◌, find, get_or, true, false, IfOk, OnErr, None, Some};
+ghost use Rattle.std.specs.List.{AllByRecursion, list_all};
+ghost use Rattle.std.specs.Option.{option_copied};
+ghost use Rattle.std.specs.Str.{bytes_eq};
+ghost use Rattle.doc_model.specs.ByIds.{IsByIds};
+ghost use Rattle.doc_model.specs.Changes.{changes};
+ghost use Rattle.doc_model.specs.DocumentLaws.{IsWhole};
+ghost use Rattle.doc_model.specs.WellFormed.{asks_well_formed, is_well_formed};
+ghost use Rattle.doc_model.specs.declared.request.Request.TheVariants.{Open, Apply};
+ghost use Rattle.grist_json.specs.Lines.{reply_text};
+ghost use Rattle.action_limits.specs.Tallies.{IsTally};
+ghost use Rattle.bundle_core.specs.Dispatch.{AreSame, Answers, Misses, Finds, kept_name};
+ghost use Rattle.bundle_core.specs.Requests.{refusal_closed, refusal_open};
+ghost use Rattle.bundle_core.specs.SessionState.{SessionState};
+ghost use Rattle.bundle_core.specs.State.{user_of};
+ghost use Rattle.bundle_core.specs.View.{view};
+
+use crate::bare_verdict::BareVerdict;
+use crate::bundle::{accept, put_back};
+use crate::judging::{JudgedBundle, judge};
+use crate::session::OpenSession;
+use crate::session_index::index_of;
+use crate::turns::{leave, line_alone, reply_alone, stay};
+use action_limits::Tally;
+use doc_model::{
+    DocTables, Entry, LimitKind, MAX_SESSIONS, Refusal, Request, User, UserActionList, Verdict,
+    View, ViewTableList,
+};
+use grist_json::{Line, write_reply};
+use plain_view::changes;
+use std::alloc::{AllocError, Global};
+use view_parts::{Viewer, whole_view};
+
+// Why a request of a session that is not open is refused, but for one that opens it; what is not
+// built yet is no request.
+fn refusal_closed(request: &Request) -> Option<Refusal>
+    ensures { result ≡ refusal_closed request.now }
+{
+    match request {
+        Request::TooLong => Some(Refusal::LineTooLong),
+        Request::Open { .. } | Request::Gone => None,
+        Request::Apply { .. } | Request::Sync | Request::Close => Some(Refusal::NotOpen),
+        _ => Some(Refusal::BadLine),
+    }
+}
+
+// Why a request of an open session is refused; what is not built yet is no request.
+fn refusal_open(request: &Request) -> Option<Refusal>
+    ensures { result ≡ refusal_open request.now }
+{
+    match request {
+        Request::Bad | Request::Undo { .. } | Request::Fetch { .. } => Some(Refusal::BadLine),
+        Request::TooLong => Some(Refusal::LineTooLong),
+        Request::Open { .. } => Some(Refusal::AlreadyOpen),
+        Request::Apply { .. } | Request::Sync | Request::Close | Request::Gone => None,
+    }
+}
+
+fn refused(refusal: Refusal) -> BareVerdict
+    ensures { result ≡ BareVerdict.Refused refusal None }
+{
+    BareVerdict::Refused {
+        refusal,
+        action: None,
+    }
+}
+
+fn user_of<'a>(users: &'a [User], token: &str) -> Option<&'a User>
+    ensures { option_copied result ≡ find (λ user. bytes_eq user.token token.now) users.now }
+{
+    users.iter().find(|user| user.token.as_str() == token)
+}
+
+/// Answers an entry: the lines that its session is given, with the document and the sessions as
+/// they are after it. When out of memory, nothing that can be seen has changed.
+pub(crate) fn answer<D: DocTables>(
+    alloc: Global,
+    users: &[User],
+    tables: &mut D,
+    tally: &mut Tally,
+    sessions: &mut Vec<OpenSession>,
+    entry: &Entry,
+) -> Result<Vec<Line>, AllocError>
+    requires whole { IsWhole (D.document tables.old) }
+    requires tally { IsTally (D.document tables.old) tally.old }
+    requires by_name { IsByIds kept_name sessions.old.items }
+    requires few { AllByRecursion (λ x. x.made < 2 ^ 62) sessions.old.items }
+    requires few_bundles { AllByRecursion (λ x. x.holder.bundles < 2 ^ 62) sessions.old.items }
+    requires kept { entry.now.kept ≡ true }
+    requires well_formed { asks_well_formed entry.now.request ≡ true }
+    ensures ok { IfOk result (λ v. Answers users.now (D.document tables.old)
+        (D.document tables.new) sessions.old.items sessions.new.items entry.now v.items) }
+    ensures whole { IsWhole (D.document tables.new) }
+    ensures tally { IsTally (D.document tables.new) tally.new }
+    ensures err_document { OnErr result (D.document tables.new ≡ D.document tables.old) }
+    ensures err { OnErr result (AreSame sessions.old.items sessions.new.items) }
+{
+    match index_of(sessions, &entry.session) {
+        Err(index) => answer_closed(alloc, users, tables, sessions, index, entry),
+        Ok(index) => answer_open(alloc, users, tables, tally, sessions, index, entry),
+    }
+}
+
+// The entry is of a session that is not open.
+fn answer_closed<D: DocTables>(
+    alloc: Global,
+    users: &[User],
+    tables: &D,
+    sessions: &mut Vec<OpenSession>,
+    index: usize,
+    entry: &Entry,
+) -> Result<Vec<Line>, AllocError>
+    requires misses { Misses entry.now.session sessions.old.items index }
+    requires whole { IsWhole (D.document tables.now) }
+    ensures ok { IfOk result (λ v. Answers users.now (D.document tables.now)
+        (D.document tables.now) sessions.old.items sessions.new.items entry.now v.items) }
+    ensures err { OnErr result (AreSame sessions.old.items sessions.new.items) }
+{
+    if let Some(refusal) = refusal_closed(&entry.request) {
+        return reply_alone(alloc, refused(refusal));
+    }
+    if let Request::Open { token } = &entry.request {
+        return open(alloc, users, tables, sessions, index, entry, token.as_str());
+    }
+    Ok(Vec::new(alloc))
+}
+
+// Opens the session for the user of the token.
+fn open<D: DocTables>(
+    alloc: Global,
+    users: &[User],
+    tables: &D,
+    sessions: &mut Vec<OpenSession>,
+    index: usize,
+    entry: &Entry,
+    token: &str,
+) -> Result<Vec<Line>, AllocError>
+    requires misses { Misses entry.now.session sessions.old.items index }
+    requires asks { entry.now.request ≡ Open token.now }
+    requires whole { IsWhole (D.document tables.now) }
+    ensures ok { IfOk result (λ v. Answers users.now (D.document tables.now)
+        (D.document tables.now) sessions.old.items sessions.new.items entry.now v.items) }
+    ensures err { OnErr result (AreSame sessions.old.items sessions.new.items) }
+{
+    match user_of(users, token) {
+        None => reply_alone(alloc, refused(Refusal::UnknownToken)),
+        Some(user) => open_for(alloc, users, tables, sessions, index, entry, token, user),
+    }
+}
+
+// Opens the session for that user, where there is room for one more.
+fn open_for<D: DocTables>(
+    alloc: Global,
+    users: &[User],
+    tables: &D,
+    sessions: &mut Vec<OpenSession>,
+    index: usize,
+    entry: &Entry,
+    token: &str,
+    user: &User,
+) -> Result<Vec<Line>, AllocError>
+    requires misses { Misses entry.now.session sessions.old.items index }
+    requires asks { entry.now.request ≡ Open token.now }
+    requires known { user_of users.now token.now ≡ Some user.now }
+    requires whole { IsWhole (D.document tables.now) }
+    ensures ok { IfOk result (λ v. Answers users.now (D.document tables.now)
+        (D.document tables.now) sessions.old.items sessions.new.items entry.now v.items) }
+    ensures err { OnErr result (AreSame sessions.old.items sessions.new.items) }
+{
+    if sessions.len() >= MAX_SESSIONS as usize {
+        return reply_alone(alloc, too_many());
+    }
+    sessions.reserve(1)?;
+    let lines = show_all(alloc, tables, user)?;
+    let session = OpenSession::of(alloc, &entry.session, user)?;
+    put_back(sessions, index, session);
+    Ok(lines)
+}
+
+// The reply that shows a user the whole document.
+fn show_all<D: DocTables>(alloc: Global, tables: &D, user: &User) -> Result<Vec<Line>, AllocError>
+    requires { IsWhole (D.document tables.now) }
+    ensures { IfOk result (λ v. v.items
+        ≡ reply_text (Verdict.Changes (changes [] (view user.now (D.document tables.now)))) ∷ []) }
+{
+    let nothing = View {
+        tables: ViewTableList::new(alloc),
+    };
+    let seen = whole_view(alloc, tables, Viewer::of(user))?;
+    let actions = changes(alloc, &nothing, &seen)?;
+    line_alone(alloc, write_reply(alloc, &Verdict::Changes(actions))?)
+}
+
+fn too_many() -> BareVerdict
+    ensures { result ≡ BareVerdict.Limited LimitKind.Sessions 1024 None }
+{
+    BareVerdict::Limited {
+        what: LimitKind::Sessions,
+        bound: MAX_SESSIONS,
+        action: None,
+    }
+}
+
+// The entry is of the open session of that index.
+fn answer_open<D: DocTables>(
+    alloc: Global,
+    users: &[User],
+    tables: &mut D,
+    tally: &mut Tally,
+    sessions: &mut Vec<OpenSession>,
+    index: usize,
+    entry: &Entry,
+) -> Result<Vec<Line>, AllocError>
+    requires finds { Finds entry.now.session sessions.old.items index }
+    requires whole { IsWhole (D.document tables.old) }
+    requires tally { IsTally (D.document tables.old) tally.old }
+    requires few { AllByRecursion (λ x. x.made < 2 ^ 62) sessions.old.items }
+    requires few_bundles { AllByRecursion (λ x. x.holder.bundles < 2 ^ 62) sessions.old.items }
+    requires kept { entry.now.kept ≡ true }
+    requires well_formed { asks_well_formed entry.now.request ≡ true }
+    ensures ok { IfOk result (λ v. Answers users.now (D.document tables.old)
+        (D.document tables.new) sessions.old.items sessions.new.items entry.now v.items) }
+    ensures whole { IsWhole (D.document tables.new) }
+    ensures tally { IsTally (D.document tables.new) tally.new }
+    ensures err_document { OnErr result (D.document tables.new ≡ D.document tables.old) }
+    ensures err { OnErr result (AreSame sessions.old.items sessions.new.items) }
+{
+    if let Request::Gone = &entry.request {
+        drop(sessions.remove(index));
+        return Ok(Vec::new(alloc));
+    }
+    if sessions[index].is_lagging() {
+        return leave(alloc, sessions, index, refused(Refusal::Lagged));
+    }
+    if let Some(refusal) = refusal_open(&entry.request) {
+        return stay(alloc, sessions, index, refused(refusal));
+    }
+    match &entry.request {
+        Request::Apply { actions } => {
+            answer_bundle(alloc, users, tables, tally, sessions, index, entry, actions)
+        }
+        Request::Close => leave(alloc, sessions, index, BareVerdict::Done),
+        _ => stay(alloc, sessions, index, BareVerdict::Done),
+    }
+}
+
+// Judges a bundle of the open session of that index, which does not lag, and does it where it is
+// accepted.
+fn answer_bundle<D: DocTables>(
+    alloc: Global,
+    users: &[User],
+    tables: &mut D,
+    tally: &mut Tally,
+    sessions: &mut Vec<OpenSession>,
+    index: usize,
+    entry: &Entry,
+    actions: &UserActionList,
+) -> Result<Vec<Line>, AllocError>
+    requires finds { Finds entry.now.session sessions.old.items index }
+    requires quick { (d : SessionState) → (get_or sessions.old.items index d).lagging ≡ false }
+    requires asks { entry.now.request ≡ Apply actions.now }
+    requires whole { IsWhole (D.document tables.old) }
+    requires tally { IsTally (D.document tables.old) tally.old }
+    requires few { AllByRecursion (λ x. x.made < 2 ^ 62) sessions.old.items }
+    requires few_bundles { AllByRecursion (λ x. x.holder.bundles < 2 ^ 62) sessions.old.items }
+    requires kept { entry.now.kept ≡ true }
+    requires well_formed { list_all is_well_formed actions.now ≡ true }
+    ensures ok { IfOk result (λ v. Answers users.now (D.document tables.old)
+        (D.document tables.new) sessions.old.items sessions.new.items entry.now v.items) }
+    ensures whole { IsWhole (D.document tables.new) }
+    ensures tally { IsTally (D.document tables.new) tally.new }
+    ensures err_document { OnErr result (D.document tables.new ≡ D.document tables.old) }
+    ensures err { OnErr result (AreSame sessions.old.items sessions.new.items) }
+{
+    match judge(
+        alloc,
+        tables,
+        *tally,
+        sessions[index].user(),
+        actions.as_slice(),
+    )? {
+        JudgedBundle::Refused(verdict) => stay(alloc, sessions, index, verdict),
+        JudgedBundle::Accepted(plan) => {
+            let lines = accept(alloc, tables, sessions, index, &plan)?;
+            *tally = plan.tally;
+            Ok(lines)
+        }
+    }
+}

@@ -1,6 +1,6 @@
 #!/usr/bin/env python3
 """Names the lines of src/ and specs/ that are wider than 100 columns, but for imports and
-attributes, which the layout keeps on one line, and fails where there are any.
+attributes, which the layout keeps on one line, and lines of a script in a text; it fails where there are any.
 
     python3 tools/check_widths.py
 """
@@ -10,7 +10,7 @@ import sys
 
 ROOT = os.path.dirname(os.path.dirname(os.path.abspath(__file__)))
 WIDEST = 100
-ONE_LINE = ("use ", "ghost use ", "pub use ", "#[")
+ONE_LINE = ("use ", "ghost use ", "pub use ", "#[", "> {", "< {")
 
 
 def wide_lines():

@@ -87,7 +87,11 @@ pub(crate) fn see_parts<D: DocTables>(
     ensures { IfOk result (λ l. l.items
         ≡ map (seen_part actions.now (D.document tables.now)) viewers.now) }
 {
-    let parts = all_made(alloc, viewers, |viewer| seen_part(alloc, tables, actions, viewer))?;
+    let parts = all_made(
+        alloc,
+        viewers,
+        |viewer| seen_part(alloc, tables, actions, viewer),
+    )?;
     Ok(parts)
 }
 

@@ -77,8 +77,7 @@ fn view(alloc: Global, steps: &[Step]) -> Result<View, AllocError>
     led(alloc, &empty(alloc), &actions_of(alloc, steps))
 }
 
-const TOLD: &str =
-    "|-table A|+table C|-column Y|+column Z|-rows 1|+rows 4 X 4 Z null\
+const TOLD: &str = "|-table A|+table C|-column Y|+column Z|-rows 1|+rows 4 X 4 Z null\
      |=rows 2 X true|=rows 3 Z true";
 
 // Whether both were made, and these lines lead from one to the other; no line where nothing does.

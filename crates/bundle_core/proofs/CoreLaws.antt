@@ -1,5 +1,5 @@
 -- What a core keeps stays the state that its history leads to.
-use Rattle.std.proofs.Common.{◌≡◌, ℕ, suc, ◌+◌, ◌<◌, ◌≤◌, ◌^◌, Bool, true, false, not, ◌&&◌, ◌||◌, List, [], ◌∷◌, ◌++◌, map, length, sum_by, nat_le, nat_lt, take, drop, get_or, Option, Some, None, is_some, Result, Ok, Err, is_ok, MatchResult, refl, sym, ap, subst, ◌∙◌, arith, if◌then◌else◌}
+use Rattle.std.proofs.Common.{◌≡◌, ℕ, suc, ◌+◌, ◌<◌, ◌≤◌, ◌^◌, Bool, true, false, not, ◌&&◌, ◌||◌, List, [], ◌∷◌, ◌++◌, map, length, sum_by, nat_le, nat_lt, take, drop, get_or, Option, Some, None, is_some, refl, sym, ap, subst, ◌∙◌, arith, if◌then◌else◌}
 use Rattle.std.proofs.lemmas.Bool.{leb-false, false≢true}
 use Rattle.std.proofs.Math.Nat.{le-min, min-le_left, min-le_right}
 use Rattle.std.proofs.lemmas.List.{length-append, take-append-drop}
@@ -12,18 +12,19 @@ use Rattle.doc_model.specs.declared.user.User.{User}
 use Rattle.doc_model.specs.ByIds.{precedes, find_id, IsByIds}
 use Rattle.doc_model.specs.Document.{Document}
 use Rattle.doc_model.specs.DocumentLaws.{IsWhole}
-use Rattle.doc_model.proofs.Choices.{each_weaker, each_mapped, each_unmapped}
+use Rattle.doc_model.proofs.Choices.{each_weaker, each_mapped, each_unmapped, length_map}
 use Rattle.action_limits.specs.declared.tally.Tally.{Tally}
 use Rattle.action_limits.specs.Tallies.{IsTally}
-use Rattle.bundle_core.specs.Core.{state_after, entry_bound, size_bound, size_of, is_gone, is_full, bytes_left, counted, IsCore}
+use Rattle.bundle_core.specs.Core.{CoreState, state_after, entry_bound, entry_of, has_no_effect, history_bound, size_bound, size_of, is_gone, is_full, bytes_left, counted, IsCore, IsStep}
 use Rattle.bundle_core.specs.Dispatch.{AreSame, Answers, Finds, IsCounted, kept_name, Misses, state_of}
 use Rattle.bundle_core.specs.Mailbox.{quiet}
 use Rattle.bundle_core.specs.SessionState.{SessionState, open_of}
 use Rattle.bundle_core.specs.State.{State, Open, Verdicts, session_name, session_of, opening, run, step, after_turn, verdicts, given, from_closed, from_open, from_lagging}
 use Rattle.bundle_core.proofs.Answering.{with_opens, opens, opens-append, opens_above, opens_below}
-use Rattle.bundle_core.proofs.OpenLemmas.{around, some_session}
+use Rattle.bundle_core.proofs.ClosedLemmas.{miss_gone}
+use Rattle.bundle_core.proofs.OpenLemmas.{around, code_gone, find_gone, same_length, some_session}
 use Rattle.bundle_core.proofs.Spots.{find_absent_at, find_at}
-use Rattle.bundle_core.proofs.Keeping.{IsBelow, IsGood, step_good, without_good}
+use Rattle.bundle_core.proofs.Keeping.{IsBelow, IsGood, step_good, step_length, without_good}
 
 run_append : (users : List User) (st : State) (es : List Entry) (e : Entry) → run users st (es ++ e ∷ []) ≡ step users (run users st es) e
 run_append users st [] e = refl
@@ -78,17 +79,6 @@ gone_good n users st e is g =
     let P : Verdicts → Type 0 = λ v. IsGood n (after_turn st e v).open_sessions in
     subst P (sym (verdicts_gone users st e is)) (without_good n e.session st.open_sessions g)
 
-gone_is : (r : Request) → is_gone r ≡ true → r ≡ request.Gone
-gone_is request.Gone h = refl
-gone_is request.Bad h = absurd (false≢true h)
-gone_is request.TooLong h = absurd (false≢true h)
-gone_is (request.Open token) h = absurd (false≢true h)
-gone_is (request.Apply actions) h = absurd (false≢true h)
-gone_is (request.Undo bundle) h = absurd (false≢true h)
-gone_is request.Sync h = absurd (false≢true h)
-gone_is (request.Fetch table) h = absurd (false≢true h)
-gone_is request.Close h = absurd (false≢true h)
-
 -- ---- bounds
 
 or_false : (a b : Bool) → (a || b) ≡ false → a ≡ false
@@ -129,34 +119,54 @@ module _ (users : List User) (start s s' : Document) (tally : Tally) (xs xs' : L
   pub lines_at : lines ≡ given users (state_after users start es) e
   lines_at = sym a.lines_given ∙ ap (λ t. given users t e) (sym k.state)
 
-  from_good : (tally' : Tally) (bytes' : Option ℕ) → IsWhole s' → IsTally s' tally' → IsGood (counted more) (step users st e).open_sessions → bytes' ≡ bytes_left (sum_by size_of more) → IsCore users start more s' tally' xs' bytes'
-  from_good tally' bytes' whole is g left =
-      let P : State → Type 0 = λ t. IsGood (counted more) t.open_sessions in
-      let g' : IsGood (counted more) (map (open_of s') xs') = subst P a.state g in
-      record { state = leads; whole = whole; counts = is; by_name = kept_by_name s' xs' g'.by_name; few = kept_few s' (counted more) xs' g'; left = left }
+  -- one session more is open at most
+  pub more_open : length xs' ≤ length xs + 1
+  more_open =
+      let P : State → Type 0 = λ t. length t.open_sessions ≤ length st.open_sessions + 1 in
+      let h : length (map (open_of s') xs') ≤ length (map (open_of s) xs) + 1 = subst P a.state (step_length users st e) in
+      omega (arith, h, length_map (open_of s') xs', length_map (open_of s) xs)
 
-  -- where there was room
-  core_roomy : (tally' : Tally) (bytes' : Option ℕ) → IsWhole s' → IsTally s' tally' → length es < entry_bound → bytes' ≡ bytes_left (sum_by size_of more) → IsCore users start more s' tally' xs' bytes'
-  core_roomy tally' bytes' whole is lt left =
-      let c = counted_one es e lt in
-      from_good tally' bytes' whole is (more_good (counted es + 1) (counted more) _ c (step_good (counted es) users st e was_good)) left
+  one_more : length more ≡ length es + 1
+  one_more = length-append es (e ∷ [])
 
-  -- at the end of a connection
-  core_gone : (tally' : Tally) (bytes' : Option ℕ) → IsWhole s' → IsTally s' tally' → e.request ≡ request.Gone → bytes' ≡ bytes_left (sum_by size_of more) → IsCore users start more s' tally' xs' bytes'
-  core_gone tally' bytes' whole is gone left =
-      let c = counted_more es e in
-      from_good tally' bytes' whole is (more_good (counted es) (counted more) _ c (gone_good (counted es) users st e gone was_good)) left
-
-  -- what was not full has room, or is the end of a connection
-  pub core_after : (tally' : Tally) (bytes' : Option ℕ) → IsWhole s' → IsTally s' tally' → is_full es e.request e.size ≡ false → bytes' ≡ bytes_left (sum_by size_of es + e.size) → IsCore users start more s' tally' xs' bytes'
-  core_after tally' bytes' whole is room left =
+  from_good : (tally' : Tally) (bytes' : Option ℕ) → IsWhole s' → IsTally s' tally' → IsGood (counted more) (step users st e).open_sessions → length xs' ≤ length more → length more + length xs' ≤ history_bound
+      → bytes' ≡ bytes_left (sum_by size_of es + e.size) → IsCore users start more s' tally' xs' bytes'
+  from_good tally' bytes' whole is g few_open bounded left =
       let all = sum_by-append size_of es (e ∷ []) in
       let sums : sum_by size_of more ≡ sum_by size_of es + e.size = omega (arith, all) in
-      let left' : bytes' ≡ bytes_left (sum_by size_of more) = left ∙ ap bytes_left (sym sums) in
-      elim (is_gone e.request) as (λ g. is_gone e.request ≡ g → (not g && (nat_le entry_bound (length es) || nat_lt size_bound (sum_by size_of es + e.size))) ≡ false → IsCore users start more s' tally' xs' bytes') [
-        | true ↦ λ gone _. core_gone tally' bytes' whole is (gone_is e.request gone) left'
-        | false ↦ λ _ r. core_roomy tally' bytes' whole is (short es (or_false (nat_le entry_bound (length es)) _ r)) left'
-      ] refl room
+      let P : State → Type 0 = λ t. IsGood (counted more) t.open_sessions in
+      let g' : IsGood (counted more) (map (open_of s') xs') = subst P a.state g in
+      record {
+        state = leads;
+        whole = whole;
+        counts = is;
+        by_name = kept_by_name s' xs' g'.by_name;
+        few = kept_few s' (counted more) xs' g';
+        few_open = few_open;
+        bounded = bounded;
+        left = left ∙ ap bytes_left (sym sums);
+      }
+
+  -- where there was room
+  core_roomy : (tally' : Tally) (bytes' : Option ℕ) → IsWhole s' → IsTally s' tally' → length es < entry_bound → bytes' ≡ bytes_left (sum_by size_of es + e.size) → IsCore users start more s' tally' xs' bytes'
+  core_roomy tally' bytes' whole is lt left =
+      let c = counted_one es e lt in
+      from_good tally' bytes' whole is (more_good (counted es + 1) (counted more) _ c (step_good (counted es) users st e was_good))
+      (omega (arith, one_more, more_open, k.few_open)) (omega (arith, one_more, more_open, k.few_open, lt)) left
+
+  -- at the end of the connection of an open session
+  pub core_gone : (bytes' : Option ℕ) → IsWhole s' → IsTally s' tally → e.request ≡ request.Gone → length xs' + 1 ≡ length xs → bytes' ≡ bytes_left (sum_by size_of es + e.size) → IsCore users start more s' tally xs' bytes'
+  core_gone bytes' whole is gone fewer left =
+      let c = counted_more es e in
+      from_good tally bytes' whole is (more_good (counted es) (counted more) _ c (gone_good (counted es) users st e gone was_good))
+      (omega (arith, one_more, fewer, k.few_open)) (omega (arith, one_more, fewer, k.bounded)) left
+
+  -- what was not full had room, but for the end of a connection
+  pub core_after : (tally' : Tally) (bytes' : Option ℕ) → IsWhole s' → IsTally s' tally' → is_gone e.request ≡ false → is_full es e.request e.size ≡ false → bytes' ≡ bytes_left (sum_by size_of es + e.size) → IsCore users start more s' tally' xs' bytes'
+  core_after tally' bytes' whole is stays room left =
+      let full : Bool = nat_le entry_bound (length es) || nat_lt size_bound (sum_by size_of es + e.size) in
+      let roomy : full ≡ false = ap (λ g. not g && full) (sym stays) ∙ room in
+      core_roomy tally' bytes' whole is (short es (or_false (nat_le entry_bound (length es)) _ roomy)) left
 
 -- ---- counts stay far below the bounds of their types
 
@@ -182,6 +192,8 @@ core_same users start es s s' tally tally' xs ys bytes e is same k =
       counts = subst T e is;
       by_name = kept_by_name s ys g.by_name;
       few = kept_few s (counted es) ys g;
+      few_open = omega (arith, same_length xs ys same, k.few_open);
+      bounded = omega (arith, same_length xs ys same, k.bounded);
       left = k.left;
     })
 
@@ -206,6 +218,49 @@ module _ (users : List User) (start : Document) (es : List Entry) (s : Document)
       (ap (find_id session_name name) (opens-append s (take p xs) (drop p xs))
       ∙ find_absent_at session_name name (opens s (take p xs)) (opens s (drop p xs)) (opens_below s name (take p xs) m.spot.below) (opens_above s name (drop p xs) m.spot.above)))
 
-  pub open_as : (r : Result ℕ ℕ) → MatchResult r (λ p. Finds name xs p) (λ p. Misses name xs p) → is_ok r ≡ is_some (session_of name (state_after users start es))
-  open_as (Ok p) f = sym (open_found p f)
-  open_as (Err p) m = sym (open_missed p m)
+  -- ---- the session goes away
+
+  abbrev now : CoreState
+  now = record { users = users; start = start; history = es }
+
+  abbrev gone : ℕ → Entry
+  gone size = entry_of name request.Gone size true
+
+  abbrev pub later : ℕ → CoreState
+  later size = record { users = users; start = start; history = es ++ gone size ∷ [] }
+
+  -- where it is not open, nothing changes
+  pub gone_missed : (p size : ℕ) → Misses name xs p → IsStep now now (gone size) []
+  gone_missed p size m =
+      let effect : has_no_effect now (gone size) ≡ true = ap not (open_missed p m) in
+      record {
+        has_room = refl;
+        lines_given = lines_at users start s s tally xs xs es (gone size) [] bytes k (miss_gone users s xs p (gone size) m refl (λ token is. cc));
+        added = sym (ap (λ b. if b then now else later size) effect);
+      }
+
+  module _ (p : ℕ) (f : Finds name xs p) (size : ℕ) where
+    abbrev pub others : List SessionState
+    others = take p xs ++ drop (suc p) xs
+
+    parts : Answers users s s xs others (gone size) []
+    parts =
+        let x = get_or xs p some_session in
+        find_gone users s xs p (gone size) f some_session (λ l. code_gone s l x.lagging x.holder true request.Gone refl)
+
+    pub one_fewer : length others + 1 ≡ length xs
+    one_fewer =
+        let d = some_session in
+        omega (arith, length-append (take p xs) (drop (suc p) xs), length-append (take p xs) (get_or xs p d ∷ drop (suc p) xs), ap length (around xs p d f.within))
+
+    pub gone_found : IsStep now (later size) (gone size) []
+    gone_found =
+        let effect : has_no_effect now (gone size) ≡ false = ap not (open_found p f) in
+        record {
+          has_room = refl;
+          lines_given = lines_at users start s s tally xs others es (gone size) [] bytes k parts;
+          added = sym (ap (λ b. if b then now else later size) effect);
+        }
+
+    pub core_parted : (bytes' : Option ℕ) → bytes' ≡ bytes_left (sum_by size_of es + size) → IsCore users start (es ++ gone size ∷ []) s tally others bytes'
+    core_parted bytes' left = core_gone users start s s tally xs others es (gone size) [] bytes k parts bytes' k.whole k.counts refl one_fewer left

@@ -1,5 +1,6 @@
 -- What stays true of every state that a history leads to.
-use Rattle.std.proofs.Common.{◌≡◌, ℕ, ◌+◌, ◌≤◌, Bool, true, false, cond, ◌||◌, List, [], ◌∷◌, ◌++◌, map, length, nat_le, Option, Some, None, refl, ap, ◌∙◌, arith, option_map, if◌then◌else◌}
+use Rattle.std.proofs.Common.{◌≡◌, ℕ, ◌+◌, ◌≤◌, Bool, true, false, not, cond, ◌||◌, List, [], ◌∷◌, ◌++◌, map, length, nat_le, Option, Some, None, refl, ap, subst, ◌∙◌, arith, option_map, if◌then◌else◌}
+use Rattle.std.proofs.lemmas.List.Filters.{length-filter_both}
 use Rattle.std.specs.List.{AllByRecursion}
 use Rattle.std.specs.Str.{bytes_eq}
 use Rattle.doc_model.specs.declared.entry.Entry.{Entry}
@@ -13,7 +14,7 @@ use Rattle.doc_model.specs.ByIds.{precedes, find_id, IsByIds, put_by_id, without
 use Rattle.doc_model.specs.Changes.{changes}
 use Rattle.doc_model.specs.Document.{Document}
 use Rattle.doc_model.proofs.ByIdsLaws.{IsByIds-put_by_id, IsByIds-filter, found_all}
-use Rattle.doc_model.proofs.Choices.{each_weaker, each_filter, each_mapped}
+use Rattle.doc_model.proofs.Choices.{each_weaker, each_filter, each_mapped, length_map}
 use Rattle.doc_model.specs.declared.limit.LimitKind.TheVariants as limit
 use Rattle.grist_json.specs.Lines.{stream_text}
 use Rattle.bundle_core.specs.declared.bare_verdict.BareVerdict.TheVariants as verdict
@@ -192,3 +193,37 @@ step_good n users st e g =
     (verdicts_few n users st e found)
     (own-made n (mailbox_of e.session st) e.request (verdicts users st e).outcome _ (found_made n (session_of e.session st) found))
     (posted_good n (verdicts users st e) st.open_sessions g)
+
+-- ---- how many sessions are open
+
+without_length : (name : List ℕ) (os : List Open) → length (without_id session_name name os) ≤ length os
+without_length name os =
+    let p : Open → Bool = λ o. not (bytes_eq o.session name) in
+    omega (arith, length-filter_both p (λ o. not (p o)) (λ o. refl) os)
+
+put_length : (o : Open) (os : List Open) → length (put_by_id session_name o os) ≤ length os + 1
+put_length o [] = omega arith
+put_length o (x ∷ os) =
+    elim (precedes o.session x.session) as (λ b. length (cond b (o ∷ x ∷ os) (cond (bytes_eq o.session x.session) (o ∷ os) (x ∷ put_by_id session_name o os))) ≤ length (x ∷ os) + 1) [
+      | true ↦ omega arith
+      | false ↦ elim (bytes_eq o.session x.session) as (λ b. length (cond b (o ∷ os) (x ∷ put_by_id session_name o os)) ≤ length (x ∷ os) + 1) [
+        | true ↦ omega arith
+        | false ↦ omega (arith, put_length o os)
+      ]
+    ]
+
+session_length : (name : List ℕ) (h : Option Holder) (m : Option Mailbox) (os : List Open) → length (with_session name h m os) ≤ length os + 1
+session_length name (Some h) (Some m) os = put_length _ os
+session_length name (Some h) None os = omega (arith, without_length name os)
+session_length name None m os = omega (arith, without_length name os)
+
+posted_length : (v : Verdicts) (os : List Open) → length (posted_all v os) ≡ length os
+posted_length v os =
+    elim v.is_bundle as (λ b. length (if b then map (posted_to v.document) os else os) ≡ length os) [ true ↦ length_map (posted_to v.document) os | false ↦ refl ]
+
+-- an entry opens one session at most
+pub step_length : (users : List User) (st : State) (e : Entry) → length (step users st e).open_sessions ≤ length st.open_sessions + 1
+step_length users st e =
+    let v = verdicts users st e in
+    let P : ℕ → Type 0 = λ n. length (step users st e).open_sessions ≤ n + 1 in
+    subst P (posted_length v st.open_sessions) (session_length e.session v.holder (turn_of st e v).mailbox (posted_all v st.open_sessions))

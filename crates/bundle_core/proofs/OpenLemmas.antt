@@ -152,7 +152,7 @@ same_take n xs qs h s = map-take (open_of s) n qs ∙ ap (take n) (h s) ∙ sym 
 same_drop : (n : ℕ) (xs qs : List SessionState) → AreSame xs qs → AreSame (drop n xs) (drop n qs)
 same_drop n xs qs h s = map-drop (open_of s) n qs ∙ ap (drop n) (h s) ∙ sym (map-drop (open_of s) n xs)
 
-same_length : (xs qs : List SessionState) → AreSame xs qs → length qs ≡ length xs
+pub same_length : (xs qs : List SessionState) → AreSame xs qs → length qs ≡ length xs
 same_length xs qs h = sym (length_map (open_of new_document) qs) ∙ ap length (h new_document) ∙ length_map (open_of new_document) xs
 
 ready_take : (P : SessionState → Type 0) (n : ℕ) (xs : List SessionState) → AllByRecursion P xs → AllByRecursion P (take n xs)

@@ -1,5 +1,5 @@
 -- A core: what it was given, and what it answers.
-use Rattle.std.specs.Prelude.{ℕ, ◌+◌, ◌-◌, ◌≡◌, Bool, true, false, not, ◌&&◌, ◌||◌, List, [], ◌∷◌, ◌++◌, length, sum_by, nat_le, nat_lt, min, Option, Some, None, is_some, if◌then◌else◌}
+use Rattle.std.specs.Prelude.{ℕ, ◌+◌, ◌-◌, ◌≡◌, ◌≤◌, Bool, true, false, not, ◌&&◌, ◌||◌, List, [], ◌∷◌, ◌++◌, length, sum_by, nat_le, nat_lt, min, Option, Some, None, is_some, if◌then◌else◌}
 use Rattle.std.specs.List.{AllByRecursion}
 use Rattle.doc_model.specs.declared.entry.Entry.{Entry}
 use Rattle.doc_model.specs.declared.request.Request.{Request}
@@ -30,6 +30,10 @@ state_after users start es = run users (opening start) es
 -- how many entries a history has before a step answers that it is full
 abbrev pub entry_bound : ℕ
 entry_bound = 1048576
+
+-- how many entries a history ever has: besides those, one for the end of each open session
+abbrev pub history_bound : ℕ
+history_bound = 2097152
 
 -- how many bytes the lines of a history have together
 abbrev pub size_bound : ℕ
@@ -81,7 +85,8 @@ counted es = min (length es) entry_bound
 abbrev pub document_of : Opening → Document
 document_of NewDocument = new_document
 
--- what a core keeps is the state that its history leads to
+-- what a core keeps is the state that its history leads to; each open session was opened by an
+-- entry, and there is one entry more at most for its end
 pub record IsCore (users : List User) (start : Document) (es : List Entry) (s : Document)
     (tally : Tally) (sessions : List SessionState) (bytes : Option ℕ) : Type 0 where
   pub state : state_after users start es ≡ state_of s sessions
@@ -89,4 +94,6 @@ pub record IsCore (users : List User) (start : Document) (es : List Entry) (s : 
   pub counts : IsTally s tally
   pub by_name : IsByIds kept_name sessions
   pub few : AllByRecursion (IsCounted (counted es)) sessions
+  pub few_open : length sessions ≤ length es
+  pub bounded : length es + length sessions ≤ history_bound
   pub left : bytes ≡ bytes_left (sum_by size_of es)

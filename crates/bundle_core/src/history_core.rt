@@ -1,11 +1,11 @@
 //! The core: a document and its sessions as a history of requests leads to them.
 
-ghost use Rattle.std.specs.Prelude.{ℕ, ◌≡◌, true, false, [], IfOk, OnErr, ◌+◌, is_some, nat_lt};
+ghost use Rattle.std.specs.Prelude.{ℕ, ◌≡◌, ◌≤◌, true, false, [], IfOk, IsOk, OnErr, ◌+◌, length, nat_lt};
 ghost use Rattle.doc_model.specs.NewDocument.{new_document};
 ghost use Rattle.doc_model.specs.WellFormed.{asks_well_formed};
-ghost use Rattle.bundle_core.specs.Core.{bytes_left, entry_of, has_no_effect, is_full, is_gone, size_bound, state_after, IsStep};
+ghost use Rattle.doc_model.specs.declared.request.Request.TheVariants.{Gone};
+ghost use Rattle.bundle_core.specs.Core.{bytes_left, entry_of, history_bound, is_full, is_gone, size_bound, IsStep};
 ghost use Rattle.bundle_core.specs.Steps.{IsAnswer};
-ghost use Rattle.bundle_core.specs.State.{session_of};
 
 use crate::dispatch::answer;
 use crate::session::OpenSession;
@@ -57,6 +57,7 @@ pub struct Core {
 }
 
 impl Model for Core {
+    ghost use Rattle.std.specs.Prelude.{◌+◌, ◌≤◌, length, vec_capacity, vec_len};
     ghost use Rattle.bundle_core.specs.Core.{CoreState, IsCore, document_of};
 
     ghost Value = { CoreState };
@@ -68,7 +69,8 @@ impl Model for Core {
     } };
 
     ghost invariant = { λ c. IsCore c.users (document_of c.opening) c.entries.items c.tables
-        c.tally c.sessions.items c.bytes_left };
+        c.tally c.sessions.items c.bytes_left
+        × (vec_len c.entries + length c.sessions.items ≤ vec_capacity c.entries) };
 }
 
 impl Core {
@@ -104,7 +106,8 @@ impl Core {
     ///
     /// Units: the size is the byte count of the request's line.
     /// Errors: `Full` where the history has no room for the request; it changes nothing.
-    /// Memory: where there is none, nothing changes.
+    /// Memory: where there is none, nothing changes. A session that goes away takes none: as it was
+    /// opened, room was made for the entry of its end, which has its name.
     pub fn step(
         &mut self,
         session: &Name,
@@ -115,29 +118,44 @@ impl Core {
         ensures ok { IfOk result (λ a. IsAnswer self.old self.new
             (entry_of session.now request size true) a) }
         ensures err { OnErr result (self.new ≡ self.old) }
+        ensures gone { is_gone request ≡ true → IsOk result }
     {
+        if is_gone(&request) {
+            drop(request);
+            return Ok(Answer::Lines(self.go_away(session, size)));
+        }
         if self.is_full(&request, size) {
             drop(request);
             return Ok(Answer::Full);
         }
         let entry = kept_entry(session, request, size)?;
-        if self.has_no_effect(&entry) {
-            drop(entry);
-            return Ok(Answer::Lines(LineList::from(Vec::new(self.alloc))));
-        }
         Ok(Answer::Lines(self.take(entry)?))
     }
 
-    // Takes an entry that there is room for.
+    // The connection of the session ended: where it is open, its name goes into the entry.
+    fn go_away(&mut self, session: &Name, size: u32) -> LineList
+        ensures { IsStep self.old self.new (entry_of session.now Gone size true) result }
+    {
+        let nothing = LineList::from(Vec::new(self.alloc));
+        let Ok(index) = index_of(&self.sessions, session) else {
+            return nothing;
+        };
+        let entry = last_entry(self.sessions.remove(index), size);
+        self.bytes_left = left_after(self.bytes_left, size);
+        self.entries.push_reserved(entry);
+        nothing
+    }
+
+    // Takes an entry that there is room for. There is room then for the end of each open session.
     fn take(&mut self, entry: Entry) -> Result<LineList, AllocError>
         requires room { is_full self.old.history entry.request entry.size ≡ false }
-        requires effect { has_no_effect self.old entry ≡ false }
+        requires stays { is_gone entry.request ≡ false }
         requires kept { entry.kept ≡ true }
         requires well_formed { asks_well_formed entry.request ≡ true }
         ensures ok { IfOk result (λ lines. IsStep self.old self.new entry lines) }
         ensures err { OnErr result (self.new ≡ self.old) }
     {
-        self.entries.reserve(1)?;
+        self.entries.reserve(self.sessions.len() + 2)?;
         let users = self.users.as_slice();
         let lines = answer(
             self.alloc,
@@ -154,7 +172,8 @@ impl Core {
 
     /// The entries so far.
     pub fn history(&self) -> &[Entry]
-        ensures { result.now ≡ self.now.history }
+        ensures entries { result.now ≡ self.now.history }
+        ensures bounded { length result.now ≤ history_bound }
     {
         self.entries.as_slice()
     }
@@ -170,20 +189,6 @@ impl Core {
         ensures { result ≡ is_full self.now.history request.now size }
     {
         !is_gone(request) && (self.entries.len() >= MAX_ENTRIES || is_past(self.bytes_left, size))
-    }
-
-    fn has_no_effect(&self, entry: &Entry) -> bool
-        ensures { result ≡ has_no_effect self.now entry.now }
-    {
-        is_gone(&entry.request) && !self.is_open(&entry.session)
-    }
-
-    fn is_open(&self, session: &Name) -> bool
-        ensures { result
-            ≡ is_some
-            (session_of session.now (state_after self.now.users self.now.start self.now.history)) }
-    {
-        index_of(&self.sessions, session).is_ok()
     }
 }
 
@@ -201,6 +206,18 @@ fn kept_entry(session: &Name, request: Request, size: u32) -> Result<Entry, Allo
             drop(request);
             Err(fault)
         }
+    }
+}
+
+// The entry of the end of an open session.
+fn last_entry(session: OpenSession, size: u32) -> Entry
+    ensures { result ≡ entry_of session.session Gone size true }
+{
+    Entry {
+        session: session.into_name(),
+        request: Request::Gone,
+        size,
+        kept: true,
     }
 }
 

@@ -104,6 +104,13 @@ impl OpenSession {
         &self.name
     }
 
+    /// Its name, where all else of it is dropped.
+    pub fn into_name(self) -> Name
+        ensures { result ≡ self.session }
+    {
+        self.name
+    }
+
     pub fn user(&self) -> &User
         ensures { result.now ≡ self.now.holder.user }
     {

@@ -1,10 +1,9 @@
 -- How entries of sessions that are not open are answered.
-use Rattle.std.proofs.Common.{◌≡◌, ℕ, Bool, true, false, List, [], ◌∷◌, ◌++◌, take, drop, length, nat_le, Option, Some, None, refl, sym, ap, subst, ◌∙◌, if◌then◌else◌}
+use Rattle.std.proofs.Common.{◌≡◌, ℕ, Bool, true, false, List, [], ◌∷◌, ◌++◌, take, drop, length, nat_le, Some, None, refl, sym, ap, subst, ◌∙◌, if◌then◌else◌}
 use Rattle.std.proofs.lemmas.List.{take-append-drop}
 use Rattle.doc_model.specs.declared.entry.Entry.{Entry}
 use Rattle.doc_model.specs.declared.limit.LimitKind.TheVariants as limit
-use Rattle.doc_model.specs.declared.refusal.Refusal.{Refusal}
-use Rattle.doc_model.specs.declared.refusal.Refusal.TheVariants.{BadLine, LineTooLong, NotOpen, UnknownToken}
+use Rattle.doc_model.specs.declared.refusal.Refusal.TheVariants.{UnknownToken}
 use Rattle.doc_model.specs.declared.request.Request.{Request}
 use Rattle.doc_model.specs.declared.request.Request.TheVariants as request
 use Rattle.doc_model.specs.declared.user.User.{User}
@@ -15,39 +14,25 @@ use Rattle.doc_model.proofs.Choices.{length_map}
 use Rattle.grist_json.specs.Lines.{reply_text}
 use Rattle.bundle_core.specs.BareVerdicts.{reply_of}
 use Rattle.bundle_core.specs.declared.bare_verdict.BareVerdict.TheVariants as verdict
+use Rattle.bundle_core.specs.Core.{is_gone}
 use Rattle.bundle_core.specs.Dispatch.{state_of, Misses, Answers}
-use Rattle.bundle_core.specs.Mailbox.{quiet, shows_view, replies}
+use Rattle.bundle_core.specs.Mailbox.{shows_view, replies}
 use Rattle.bundle_core.specs.Requests.{refusal_closed}
 use Rattle.bundle_core.specs.SessionState.{SessionState, open_of}
 use Rattle.bundle_core.specs.State.{State, Verdicts, answered, refusal, from_closed, user_of, session_bound}
 use Rattle.bundle_core.specs.View.{view}
 use Rattle.bundle_core.proofs.Answering.{answers_closed, answers_gone, answers_opened, open_with}
 
-same_refusal : (m n : Refusal) (st : State) → ◌≡◌ {A = Option Refusal} (Some m) (Some n) → answered st.document None (refusal m) ≡ answered st.document None (refusal n)
-same_refusal m n st e = let same : m ≡ n = cc in ap (λ k. answered st.document None (refusal k)) same
-
-code_closed : (users : List User) (st : State) (r : Request) (n : Refusal) → refusal_closed r ≡ Some n → from_closed users st r ≡ answered st.document None (refusal n)
-code_closed users st request.Bad n e = same_refusal BadLine n st e
-code_closed users st request.TooLong n e = same_refusal LineTooLong n st e
-code_closed users st (request.Open token) n e = absurd (cc)
-code_closed users st request.Gone n e = absurd (cc)
-code_closed users st (request.Apply actions) n e = same_refusal NotOpen n st e
-code_closed users st (request.Undo bundle) n e = same_refusal BadLine n st e
-code_closed users st request.Sync n e = same_refusal NotOpen n st e
-code_closed users st (request.Fetch table) n e = same_refusal BadLine n st e
-code_closed users st request.Close n e = same_refusal NotOpen n st e
-
-gone_closed : (users : List User) (st : State) (r : Request) → refusal_closed r ≡ None → ((token : List ℕ) → r ≡ request.Open token → ⊥)
-    → from_closed users st r ≡ record { outcome = quiet; document = st.document; is_bundle = false; holder = None }
-gone_closed users st request.Bad e other = absurd (cc)
-gone_closed users st request.TooLong e other = absurd (cc)
-gone_closed users st (request.Open token) e other = absurd (other token refl)
-gone_closed users st request.Gone e other = refl
-gone_closed users st (request.Apply actions) e other = absurd (cc)
-gone_closed users st (request.Undo bundle) e other = absurd (cc)
-gone_closed users st request.Sync e other = absurd (cc)
-gone_closed users st (request.Fetch table) e other = absurd (cc)
-gone_closed users st request.Close e other = absurd (cc)
+code_closed : (users : List User) (st : State) (r : Request) → is_gone r ≡ false → ((token : List ℕ) → r ≡ request.Open token → ⊥) → from_closed users st r ≡ answered st.document None (refusal (refusal_closed r))
+code_closed users st request.Gone stays other = absurd (cc)
+code_closed users st (request.Open token) stays other = absurd (other token refl)
+code_closed users st request.Bad stays other = refl
+code_closed users st request.TooLong stays other = refl
+code_closed users st (request.Apply actions) stays other = refl
+code_closed users st (request.Undo bundle) stays other = refl
+code_closed users st request.Sync stays other = refl
+code_closed users st (request.Fetch table) stays other = refl
+code_closed users st request.Close stays other = refl
 
 -- the same lines in other words
 pub answers_by : (users : List User) (s s' : Document) (xs ys : List SessionState) (e : Entry) (ls ms : List (List ℕ)) → ms ≡ ls → Answers users s s' xs ys e ls → Answers users s s' xs ys e ms
@@ -57,15 +42,16 @@ module _ (users : List User) (s : Document) (xs : List SessionState) (index : �
   abbrev split : State
   split = state_of s (take index xs ++ drop index xs)
 
-  pub miss_refused : (n : Refusal) → refusal_closed e.request ≡ Some n → Answers users s s xs xs e (reply_of (refusal n) ∷ [])
-  miss_refused n q =
+  pub miss_refused : is_gone e.request ≡ false → ((token : List ℕ) → e.request ≡ request.Open token → ⊥) → Answers users s s xs xs e (reply_of (refusal (refusal_closed e.request)) ∷ [])
+  miss_refused stays other =
+      let n = refusal_closed e.request in
       let P : List SessionState → Type 0 = λ l. Answers users s s l l e (reply_of (refusal n) ∷ []) in
-      subst P (take-append-drop index xs) (answers_closed users s (take index xs) (drop index xs) e m.spot (refusal n) (code_closed users split e.request n q))
+      subst P (take-append-drop index xs) (answers_closed users s (take index xs) (drop index xs) e m.spot (refusal n) (code_closed users split e.request stays other))
 
-  pub miss_gone : refusal_closed e.request ≡ None → ((token : List ℕ) → e.request ≡ request.Open token → ⊥) → Answers users s s xs xs e []
-  miss_gone q other =
+  pub miss_gone : e.request ≡ request.Gone → Answers users s s xs xs e []
+  miss_gone is =
       let P : List SessionState → Type 0 = λ l. Answers users s s l l e [] in
-      subst P (take-append-drop index xs) (answers_gone users s (take index xs) (drop index xs) e m.spot (gone_closed users split e.request q other))
+      subst P (take-append-drop index xs) (answers_gone users s (take index xs) (drop index xs) e m.spot (ap (from_closed users split) is))
 
   pub miss_unknown : (token : List ℕ) → e.request ≡ request.Open token → user_of users token ≡ None → Answers users s s xs xs e (reply_of (refusal UnknownToken) ∷ [])
   miss_unknown token asks none =

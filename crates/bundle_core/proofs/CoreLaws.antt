@@ -6,7 +6,6 @@ use Rattle.std.proofs.lemmas.List.{length-append, take-append-drop}
 use Rattle.std.proofs.lemmas.List.Sums.{sum_by-append}
 use Rattle.std.specs.List.{AllByRecursion}
 use Rattle.doc_model.specs.declared.entry.Entry.{Entry}
-use Rattle.doc_model.specs.declared.request.Request.{Request}
 use Rattle.doc_model.specs.declared.request.Request.TheVariants as request
 use Rattle.doc_model.specs.declared.user.User.{User}
 use Rattle.doc_model.specs.ByIds.{precedes, find_id, IsByIds}
@@ -235,7 +234,7 @@ module _ (users : List User) (start : Document) (es : List Entry) (s : Document)
       let effect : has_no_effect now (gone size) ≡ true = ap not (open_missed p m) in
       record {
         has_room = refl;
-        lines_given = lines_at users start s s tally xs xs es (gone size) [] bytes k (miss_gone users s xs p (gone size) m refl (λ token is. cc));
+        lines_given = lines_at users start s s tally xs xs es (gone size) [] bytes k (miss_gone users s xs p (gone size) m refl);
         added = sym (ap (λ b. if b then now else later size) effect);
       }
 

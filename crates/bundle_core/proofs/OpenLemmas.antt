@@ -21,6 +21,7 @@ use Rattle.bundle_core.specs.BareVerdicts.{reply_of}
 use Rattle.bundle_core.specs.declared.bare_verdict.BareVerdict.TheVariants as verdict
 use Rattle.bundle_core.specs.declared.bare_verdict.BareVerdict.{BareVerdict}
 use Rattle.bundle_core.specs.declared.created.Created.{Created}
+use Rattle.bundle_core.specs.Core.{is_gone}
 use Rattle.bundle_core.specs.Dispatch.{AreSame, state_of, IsSpot, Finds, Answers, Leaves, Stays, Bundles, bundle_number, bundle_reply, user_at, values_told}
 use Rattle.bundle_core.specs.Judgement.{accepted, refused, judge}
 use Rattle.bundle_core.specs.Created.{told_of}
@@ -48,8 +49,8 @@ code_open st h kept (request.Fetch table) n e = same_refusal BadLine n st h e
 code_open st h kept request.Close n e = absurd (cc)
 code_open st h kept request.Gone n e = absurd (cc)
 
-pub code_lagging : (st : State) (r : Request) → (r ≡ request.Gone → ⊥) → from_lagging st r ≡ answered st.document None (refusal Lagged)
-code_lagging st request.Gone other = absurd (other refl)
+pub code_lagging : (st : State) (r : Request) → is_gone r ≡ false → from_lagging st r ≡ answered st.document None (refusal Lagged)
+code_lagging st request.Gone other = absurd (cc)
 code_lagging st request.Bad other = refl
 code_lagging st request.TooLong other = refl
 code_lagging st (request.Open token) other = refl
@@ -59,7 +60,7 @@ code_lagging st request.Sync other = refl
 code_lagging st (request.Fetch table) other = refl
 code_lagging st request.Close other = refl
 
-pub code_sync : (st : State) (h : Holder) (kept : Bool) (r : Request) → refusal_open r ≡ None → (r ≡ request.Gone → ⊥) → ((actions : List UserAction) → r ≡ request.Apply actions → ⊥) → (r ≡ request.Close → ⊥)
+pub code_sync : (st : State) (h : Holder) (kept : Bool) (r : Request) → refusal_open r ≡ None → is_gone r ≡ false → ((actions : List UserAction) → r ≡ request.Apply actions → ⊥) → (r ≡ request.Close → ⊥)
     → from_open st h kept r ≡ answered st.document (Some h) verdict.Done
 code_sync st h kept request.Sync e g a k = refl
 code_sync st h kept request.Bad e g a k = absurd (cc)
@@ -69,7 +70,7 @@ code_sync st h kept (request.Apply actions) e g a k = absurd (a actions refl)
 code_sync st h kept (request.Undo bundle) e g a k = absurd (cc)
 code_sync st h kept (request.Fetch table) e g a k = absurd (cc)
 code_sync st h kept request.Close e g a k = absurd (k refl)
-code_sync st h kept request.Gone e g a k = absurd (g refl)
+code_sync st h kept request.Gone e g a k = absurd (cc)
 
 abbrev pub parted : Document → Verdicts
 parted s = record { outcome = quiet; document = s; is_bundle = false; holder = None }

@@ -1,5 +1,5 @@
 -- What a core keeps of its state, and when it answers an entry as the state says.
-use Rattle.std.specs.Prelude.{◌≡◌, ℕ, Bool, ◌+◌, suc, zero, ◌<◌, ◌≤◌, true, take, drop, get_or, List, [], ◌∷◌, ◌++◌, map, length, option_to_list, Option, Some, None, if◌then◌else◌}
+use Rattle.std.specs.Prelude.{◌≡◌, ℕ, ◌+◌, suc, zero, ◌<◌, ◌≤◌, true, take, drop, get_or, List, [], ◌∷◌, ◌++◌, map, length, option_to_list, Option, Some, None}
 use Rattle.std.specs.List.{AllByRecursion}
 use Rattle.doc_model.specs.declared.entry.Entry.{Entry}
 use Rattle.doc_model.specs.declared.user.User.{User}

@@ -5,16 +5,14 @@ use Rattle.doc_model.specs.declared.refusal.Refusal.TheVariants.{BadLine, LineTo
 use Rattle.doc_model.specs.declared.request.Request.{Request}
 use Rattle.doc_model.specs.declared.request.Request.TheVariants as request
 
--- of a session that is not open: all but one that opens it, and the end of its connection; what is
--- not built yet is no request
-abbrev pub refusal_closed : Request → Option Refusal
-refusal_closed request.TooLong = Some LineTooLong
-refusal_closed (request.Open token) = None
-refusal_closed request.Gone = None
-refusal_closed (request.Apply actions) = Some NotOpen
-refusal_closed request.Sync = Some NotOpen
-refusal_closed request.Close = Some NotOpen
-refusal_closed _ = Some BadLine
+-- of a session that is not open, where it does not ask for the document; what is not built yet is
+-- no request
+abbrev pub refusal_closed : Request → Refusal
+refusal_closed request.TooLong = LineTooLong
+refusal_closed (request.Apply actions) = NotOpen
+refusal_closed request.Sync = NotOpen
+refusal_closed request.Close = NotOpen
+refusal_closed _ = BadLine
 
 -- of a session that is open; what is not built yet is no request
 abbrev pub refusal_open : Request → Option Refusal

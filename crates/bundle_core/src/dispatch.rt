@@ -12,6 +12,7 @@ ghost use Rattle.doc_model.specs.WellFormed.{asks_well_formed, is_well_formed};
 ghost use Rattle.doc_model.specs.declared.request.Request.TheVariants.{Open, Apply};
 ghost use Rattle.grist_json.specs.Lines.{reply_text};
 ghost use Rattle.action_limits.specs.Tallies.{IsTally};
+ghost use Rattle.bundle_core.specs.Core.{is_gone};
 ghost use Rattle.bundle_core.specs.Dispatch.{AreSame, Answers, Misses, Finds, kept_name};
 ghost use Rattle.bundle_core.specs.Requests.{refusal_closed, refusal_open};
 ghost use Rattle.bundle_core.specs.SessionState.{SessionState};
@@ -34,16 +35,15 @@ use plain_view::changes;
 use std::alloc::{AllocError, Global};
 use view_parts::{Viewer, whole_view};
 
-// Why a request of a session that is not open is refused, but for one that opens it; what is not
-// built yet is no request.
-fn refusal_closed(request: &Request) -> Option<Refusal>
+// Why a request of a session that is not open is refused, where it does not ask for the document;
+// what is not built yet is no request.
+fn refusal_closed(request: &Request) -> Refusal
     ensures { result ≡ refusal_closed request.now }
 {
     match request {
-        Request::TooLong => Some(Refusal::LineTooLong),
-        Request::Open { .. } | Request::Gone => None,
-        Request::Apply { .. } | Request::Sync | Request::Close => Some(Refusal::NotOpen),
-        _ => Some(Refusal::BadLine),
+        Request::TooLong => Refusal::LineTooLong,
+        Request::Apply { .. } | Request::Sync | Request::Close => Refusal::NotOpen,
+        _ => Refusal::BadLine,
     }
 }
 
@@ -74,8 +74,9 @@ fn user_of<'a>(users: &'a [User], token: &str) -> Option<&'a User>
     users.iter().find(|user| user.token.as_str() == token)
 }
 
-/// Answers an entry: the lines that its session is given, with the document and the sessions as
-/// they are after it. When out of memory, nothing that can be seen has changed.
+/// Answers an entry of a session that does not go away: the lines that it is given, with the
+/// document and the sessions as they are after it. When out of memory, nothing that can be seen has
+/// changed.
 pub(crate) fn answer<D: DocTables>(
     alloc: Global,
     users: &[User],
@@ -87,6 +88,7 @@ pub(crate) fn answer<D: DocTables>(
     requires whole { IsWhole (D.document tables.old) }
     requires tally { IsTally (D.document tables.old) tally.old }
     requires by_name { IsByIds kept_name sessions.old.items }
+    requires stays { is_gone entry.now.request ≡ false }
     requires few { AllByRecursion (λ x. x.made < 2 ^ 62) sessions.old.items }
     requires few_bundles { AllByRecursion (λ x. x.holder.bundles < 2 ^ 62) sessions.old.items }
     requires kept { entry.now.kept ≡ true }
@@ -114,18 +116,18 @@ fn answer_closed<D: DocTables>(
     entry: &Entry,
 ) -> Result<Vec<Line>, AllocError>
     requires misses { Misses entry.now.session sessions.old.items index }
+    requires stays { is_gone entry.now.request ≡ false }
     requires whole { IsWhole (D.document tables.now) }
     ensures ok { IfOk result (λ v. Answers users.now (D.document tables.now)
         (D.document tables.now) sessions.old.items sessions.new.items entry.now v.items) }
     ensures err { OnErr result (AreSame sessions.old.items sessions.new.items) }
 {
-    if let Some(refusal) = refusal_closed(&entry.request) {
-        return reply_alone(alloc, refused(refusal));
+    match &entry.request {
+        Request::Open { token } => {
+            open(alloc, users, tables, sessions, index, entry, token.as_str())
+        }
+        request => reply_alone(alloc, refused(refusal_closed(request))),
     }
-    if let Request::Open { token } = &entry.request {
-        return open(alloc, users, tables, sessions, index, entry, token.as_str());
-    }
-    Ok(Vec::new(alloc))
 }
 
 // Opens the session for the user of the token.
@@ -215,6 +217,7 @@ fn answer_open<D: DocTables>(
     entry: &Entry,
 ) -> Result<Vec<Line>, AllocError>
     requires finds { Finds entry.now.session sessions.old.items index }
+    requires stays { is_gone entry.now.request ≡ false }
     requires whole { IsWhole (D.document tables.old) }
     requires tally { IsTally (D.document tables.old) tally.old }
     requires few { AllByRecursion (λ x. x.made < 2 ^ 62) sessions.old.items }
@@ -228,10 +231,6 @@ fn answer_open<D: DocTables>(
     ensures err_document { OnErr result (D.document tables.new ≡ D.document tables.old) }
     ensures err { OnErr result (AreSame sessions.old.items sessions.new.items) }
 {
-    if let Request::Gone = &entry.request {
-        drop(sessions.remove(index));
-        return Ok(Vec::new(alloc));
-    }
     if sessions[index].is_lagging() {
         return leave(alloc, sessions, index, refused(Refusal::Lagged));
     }

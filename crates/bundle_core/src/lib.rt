@@ -7,9 +7,9 @@
 //! for every document.
 //!
 //! Promises: `Core::step` gives the lines that the state after the history says, and adds the
-//! entry; a full history and running out of memory change nothing. `isolation_law`: a session is
-//! given exactly what its own requests, verdicts and views tell; `equal_bytes_law`: histories that
-//! it observes alike give it equal bytes.
+//! entry; a full history and running out of memory change nothing, and a session that goes away
+//! takes no memory. `isolation_law`: a session is given exactly what its own requests, verdicts and
+//! views tell; `equal_bytes_law`: histories that it observes alike give it equal bytes.
 //! Not built yet: undo and fetching a table, formulas, references, access rules.
 //! Costs: a bundle costs what its actions touch, and a line for each session; see bundle.rt. A
 //! session's index is found by a walk.

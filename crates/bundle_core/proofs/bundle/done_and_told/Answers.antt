@@ -1,4 +1,4 @@
-use Rattle.std.proofs.Common.{List, map, ap, subst, sym, ◌∙◌}
+use Rattle.std.proofs.Common.{List, ap, subst, sym, ◌∙◌}
 use Rattle.std.proofs.lemmas.Result.{IfOk-weaker}
 use Rattle.std.specs.List.{AllByRecursion}
 use Rattle.doc_model.specs.Changes.{changes}
@@ -9,7 +9,7 @@ use Rattle.view_parts.specs.Parts.{affected_part}
 use Rattle.view_parts.specs.Shown.{view as shown_to}
 use Rattle.view_parts.specs.Viewers.{viewer_of}
 use Rattle.bundle_core.specs.declared.view_changes.SeenPart.{SeenPart}
-use Rattle.bundle_core.specs.ViewChanges.{IsSeen, changes_since, seen_part}
+use Rattle.bundle_core.specs.ViewChanges.{IsSeen}
 use Rattle.bundle_core.proofs.ViewLaws.{each_seen, told_to-changes}
 use Rattle.bundle_core.proofs.bundle.done_and_told.Goals as goal
 

@@ -1,23 +1,12 @@
-use Rattle.std.proofs.Common.{◌≡◌, true, false, get_or, List, Some, None, refl, sym, ap, subst, ◌∙◌}
+use Rattle.std.proofs.Common.{◌≡◌, true, false, get_or, Some, None, refl, sym, ap, ◌∙◌}
 use Rattle.std.proofs.lemmas.Result.{IfOk-weaker}
 use Rattle.bundle_core.specs.declared.bare_verdict.BareVerdict.TheVariants.{Done}
-use Rattle.bundle_core.specs.Dispatch.{state_of, Answers}
+use Rattle.bundle_core.specs.Dispatch.{state_of}
 use Rattle.bundle_core.specs.SessionState.{SessionState}
 use Rattle.bundle_core.specs.State.{answered, from_open}
-use Rattle.bundle_core.proofs.OpenLemmas.{code_lagging, code_gone, code_open, code_sync, find_gone, find_leaves, find_stays, comes_lagging, comes_open}
-use Rattle.bundle_core.proofs.ClosedLemmas.{answers_by}
+use Rattle.bundle_core.proofs.OpenLemmas.{code_lagging, code_open, code_sync, find_leaves, find_stays, comes_lagging, comes_open}
 use Rattle.bundle_core.proofs.Prepared.{on_err_always}
 use Rattle.bundle_core.proofs.dispatch.answer_open.Goals as goal
-
-pub returns-in-Gone-clause-ok : goal.returns-in-Gone-clause-ok
-returns-in-Gone-clause-ok g c =
-    let s = g.D.DocTables.document c.args.tables.now in
-    let xs = c.args.sessions.now.items in
-    let e = c.args.entry.now in
-    let x = get_or xs c.args.index c.remove.result in
-    let P : List SessionState → Type 0 = λ ys. Answers c.args.users.now s s xs ys e c.new.result.items in
-    subst P (sym c.remove.ensures.items) (answers_by _ _ _ _ _ _ _ _ c.new.ensures.items
-    (find_gone c.args.users.now s xs c.args.index e c.requires.finds c.remove.result (λ l. code_gone s l x.lagging x.holder e.kept e.request c.in-Gone.is)))
 
 pub returns-then-is_lagging : goal.returns-then-is_lagging
 returns-then-is_lagging g c =
@@ -27,7 +16,7 @@ returns-then-is_lagging g c =
     let d = c.index.result.now in
     let lag : (get_or xs c.args.index d).lagging ≡ true = ap (λ (z : SessionState). z.lagging) (sym c.index.ensures) ∙ sym c.is_lagging.ensures ∙ c.if-is_lagging.true in
     let comes = comes_lagging c.args.users.now s xs c.args.index e c.requires.finds d _ lag
-    (λ l. code_lagging (state_of s l) e.request c.in_default.not-Gone ∙ ap (answered s None) (sym c.refused.ensures)) in
+    (λ l. code_lagging (state_of s l) e.request c.requires.stays ∙ ap (answered s None) (sym c.refused.ensures)) in
     record {
       ok = IfOk-weaker c.leave.result _ _ (λ v left. find_leaves c.args.users.now s xs c.args.index e c.requires.finds d c.refused.result _ v.items comes left) c.leave.ensures.ok;
       whole = c.requires.whole;
@@ -63,7 +52,7 @@ returns-in_default-request g c =
     let h = (get_or xs c.args.index d).holder in
     let quick : (get_or xs c.args.index d).lagging ≡ false = ap (λ (z : SessionState). z.lagging) (sym c.index.ensures) ∙ sym c.is_lagging.ensures ∙ c.if-is_lagging.false in
     let comes = comes_open c.args.users.now s xs c.args.index e c.requires.finds d _ quick
-    (λ l. code_sync (state_of s l) h e.kept e.request (sym c.refusal_open.ensures ∙ c.in_default-refusal_open.is) c.in_default.not-Gone (λ actions is. c.in_default-request.not-Apply actions is) c.in_default-request.not-Close) in
+    (λ l. code_sync (state_of s l) h e.kept e.request (sym c.refusal_open.ensures ∙ c.in_default.is) c.requires.stays (λ actions is. c.in_default-request.not-Apply actions is) c.in_default-request.not-Close) in
     record {
       ok = IfOk-weaker c.stay-in_default-request.result _ _ (λ v kept. find_stays c.args.users.now s xs c.args.index e c.requires.finds d Done _ v.items c.requires.whole comes kept) c.stay-in_default-request.ensures.ok;
       whole = c.requires.whole;

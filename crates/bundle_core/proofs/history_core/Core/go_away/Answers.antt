@@ -1,4 +1,4 @@
-use Rattle.std.proofs.Common.{◌≡◌, ◌+◌, ◌≤◌, true, List, ℕ, ◌∷◌, [], ◌++◌, length, sum_by, Option, ap, subst, sym, ◌∙◌, arith}
+use Rattle.std.proofs.Common.{◌≡◌, true, List, ℕ, ◌∷◌, [], ◌++◌, length, sum_by, ap, subst, sym, ◌∙◌, arith}
 use Rattle.doc_model.specs.declared.entry.Entry.{Entry}
 use Rattle.doc_model.specs.declared.request.Request.TheVariants.{Gone}
 use Rattle.bundle_core.specs.Core.{CoreState, document_of, entry_of, size_of, IsCore, IsStep}

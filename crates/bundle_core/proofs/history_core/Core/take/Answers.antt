@@ -1,4 +1,4 @@
-use Rattle.std.proofs.Common.{◌≡◌, ◌+◌, ◌≤◌, false, not, ◌&&◌, List, ◌∷◌, [], ◌++◌, length, sum_by, is_some, vec_len, vec_capacity, ap, subst, sym, ◌∙◌, arith, if◌then◌else◌}
+use Rattle.std.proofs.Common.{◌≡◌, false, not, ◌&&◌, List, ◌∷◌, [], ◌++◌, sum_by, is_some, ap, subst, sym, ◌∙◌, arith, if◌then◌else◌}
 use Rattle.doc_model.specs.declared.entry.Entry.{Entry}
 use Rattle.doc_model.specs.declared.user.User.{User}
 use Rattle.bundle_core.specs.Core.{CoreState, document_of, has_no_effect, is_full, size_of, state_after, IsCore, IsStep}

@@ -21,6 +21,10 @@ pub mod RecordSteps
 pub mod TableSteps
 pub mod ColumnSteps
 pub mod InverseLaws
+pub mod FirstRows
+pub mod SameRowLaws
+pub mod DescribedRows
+pub mod UntouchedRows
 pub mod FitsLaws
 pub mod NewDocumentLaws
 pub mod Traps

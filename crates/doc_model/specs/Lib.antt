@@ -17,6 +17,8 @@ pub mod Counts
 pub mod Refusals
 pub mod WellFormed
 pub mod DocumentLaws
+pub mod SameRows
+pub mod Touched
 pub mod CountLaws
 pub mod MaximaLaws
 pub mod Same

@@ -3,6 +3,7 @@
 ghost use Rattle.doc_model.specs.CountLaws.{CountsLaw};
 ghost use Rattle.doc_model.specs.DocumentLaws.{InverseAllLaw, InverseLaw, KeptLaw, NewDocumentLaw};
 ghost use Rattle.doc_model.specs.MaximaLaws.{MaximaLaw};
+ghost use Rattle.doc_model.specs.Touched.{UntouchedLaw};
 ghost use Rattle.doc_model.specs.ViewLaws.{ChangesFitLaw, NoChangesLaw, PatchLaw};
 
 /// The new document is sound and agrees with its schema.
@@ -51,4 +52,9 @@ pub fn no_changes_law()
 /// Each of the changes that lead from a view to another fits where it stands.
 pub fn changes_fit_law()
     ensures { ChangesFitLaw }
+{}
+
+/// A valid action leaves each row that it does not touch.
+pub fn untouched_law()
+    ensures { UntouchedLaw }
 {}

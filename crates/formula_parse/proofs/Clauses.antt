@@ -16,7 +16,7 @@ use Rattle.formula_parse.specs.Parsed.{StopsWithin}
 use Rattle.formula_parse.proofs.WordLemmas.{tree_spelled, spelled_tree}
 
 -- no tree has no tokens
-nothing_read : (d : Dialect) → tree_from d [] ≡ None
+pub nothing_read : (d : Dialect) → tree_from d [] ≡ None
 unfolding tree_from read finish
 nothing_read d = refl
 

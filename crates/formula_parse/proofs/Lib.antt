@@ -4,4 +4,5 @@ pub mod Sound
 pub mod WordLemmas
 pub mod Turns
 pub mod Clauses
+pub mod FormulaOfLemmas
 mod OpenKeyLemmas

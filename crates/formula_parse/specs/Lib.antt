@@ -16,5 +16,6 @@ pub mod Machine
 pub mod Operands
 pub mod Steps
 pub mod Runs
+pub mod FormulaOf
 pub mod Parsed
 pub mod Message

@@ -3,6 +3,7 @@
 ghost use Rattle.std.specs.Prelude.{◌≡◌, ◌≤◌, ℕ, List, [], Option, Some, None, IfOk, IfErr, length};
 ghost use Rattle.formula_lex.specs.Places.{IsInOrder};
 ghost use Rattle.formula_lex.specs.Lexed.{Gives};
+ghost use Rattle.formula_parse.specs.FormulaOf.{formula_of, IsNoneAt};
 ghost use Rattle.formula_parse.specs.Parsed.{GivesWithin};
 ghost use Rattle.formula_parse.specs.Spelling.{SpellsIn, SpellsFormula, FitsFault};
 ghost use Rattle.formula_parse.specs.Runs.{token_step, finish, tree_from};
@@ -128,6 +129,10 @@ pub fn parse(alloc: Global, text: &str) -> Result<Formula, ParseFault>
     ensures only { IfOk result
         (λ tree. (other : Tree) → SpellsFormula text.now other → other ≡ tree) }
     ensures fault { IfErr result (FitsFault text.now ((t : Tree) × SpellsFormula text.now t)) }
+
+    // The same by the function: the tree is the text's formula, and at a fault there is none.
+    ensures formula { IfOk result (λ tree. formula_of text.now ≡ Some tree) }
+    ensures none { IfErr result (λ fault. IsNoneAt fault (formula_of text.now)) }
 {
     match read_tree(alloc, Dialect::Formula, text)? {
         Some(tree) => Ok(tree),

@@ -1,3 +1,4 @@
 mod Divisions
 mod Equalities
 mod Parts
+pub mod RaisingLemmas

@@ -7,4 +7,5 @@ pub mod Kind
 pub mod Message
 pub mod Numbers
 pub mod Order
+pub mod Raising
 pub mod Truth

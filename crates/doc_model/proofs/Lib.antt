@@ -3,6 +3,7 @@ pub mod Walks
 pub mod ByIdsLaws
 pub mod WellFormedLaws
 pub mod RowsLaws
+pub mod RowIndexLaws
 pub mod GridLaws
 pub mod RecordsLaws
 pub mod SameLaws

@@ -33,7 +33,7 @@ pub use limit::{
 };
 pub use refusal::Refusal;
 pub use request::Request;
-pub use rows::{have_no_duplicates, index_of_column};
+pub use rows::{have_no_duplicates, index_of_column, search_row};
 pub use tables::{DocCells, DocTables};
 pub use type_texts::type_text;
 pub use user::{User, UserList};

@@ -1,8 +1,8 @@
-//! Row ids and metadata rows: whether rows stand once, and the index of a column.
+//! Row ids and metadata rows: whether rows stand once, and the indexes of rows and of columns.
 
 ghost use Rattle.std.specs.Prelude.{◌≡◌, ◌≤◌, length};
-ghost use Rattle.doc_model.specs.Indexes.{column_index};
-ghost use Rattle.doc_model.specs.Rows.{has_no_duplicates};
+ghost use Rattle.doc_model.specs.Indexes.{column_index, row_search};
+ghost use Rattle.doc_model.specs.Rows.{IsAscending, has_no_duplicates};
 
 use crate::ColDef;
 
@@ -32,4 +32,14 @@ pub fn index_of_column(columns: &[ColDef], row: u32) -> usize
         }
     }
     columns.len()
+}
+
+/// The index of a row, or where it would go.
+///
+/// Memory: none. Cost: the logarithm of the number of rows.
+pub fn search_row(rows: &[u32], row: u32) -> Result<usize, usize>
+    requires { IsAscending rows.now }
+    ensures { result ≡ row_search row rows.now }
+{
+    rows.binary_search(&row)
 }

@@ -17,7 +17,9 @@ use Rattle.doc_model.proofs.GridLaws.{grid_of-cell}
 use Rattle.doc_model.proofs.RowsLaws.{number_itself, each_has, has-insert_row, has-insert_rows, IsAscending-insert_row, IsAscending-insert_rows, same_ascending, none_in_at}
 use Rattle.row_tables.specs.InPlace.{on_rows}
 use Rattle.row_tables.proofs.Walks.{drop_read}
-use Rattle.row_tables.specs.RowIndexes.{row_index, new_indexes, AreNew, AreWithin, put_at, taken_out}
+use Rattle.doc_model.specs.Indexes.{row_index}
+use Rattle.doc_model.proofs.RowIndexLaws.{index_within, insert_index}
+use Rattle.row_tables.specs.RowIndexes.{new_indexes, AreNew, AreWithin, put_at, taken_out}
 
 -- functions that agree give one list
 pub map_same : {X Y : Type 0} (f g : X → Y) (xs : List X) → ((x : X) → f x ≡ g x) → map f xs ≡ map g xs
@@ -31,34 +33,6 @@ map-insert f xs i x =
     ∙ ap (λ ys. take i (map f xs) ++ f x ∷ ys) (sym (drop-map f i xs))
 
 -- ---- one new row
-
-pub index_within : (row : ℕ) (rows : List ℕ) → row_index row rows ≤ length rows
-index_within row [] = omega arith
-index_within row (q ∷ rows) =
-    let later : row_index row rows ≤ length rows = index_within row rows in
-    elim (ltb q row) as (λ b. cond b (row_index row rows + 1) 0 ≤ length (q ∷ rows)) [ true ↦ omega arith | false ↦ omega arith ]
-
-either_false : (a b : Bool) → (a || b) ≡ false → (a ≡ false) × (b ≡ false)
-either_false true b e = absurd (true≢false e)
-either_false false b e = (refl, e)
-
-insert_index : (q : ℕ) (rows : List ℕ) → has rows q ≡ false → insert rows (row_index q rows) q ≡ insert_row q rows
-insert_index q [] apart = refl
-insert_index q (r ∷ rows) apart =
-    let parts : (eqb r q ≡ false) × (has rows q ≡ false) = either_false (eqb r q) (has rows q) apart in
-    let ne : r ≡ q → ⊥ = eqb-false r q parts.0 in
-    let next : suc (row_index q rows) ≡ row_index q rows + 1 = omega arith in
-    elim (ltb r q) as (λ b. ltb r q ≡ b → insert (r ∷ rows) (cond b (row_index q rows + 1) 0) q ≡ insert_row q (r ∷ rows)) [
-      | true ↦ λ below.
-          let lt : r < q = ltb-true r q below in
-          ap (λ n. insert (r ∷ rows) n q) (sym next) ∙ ap (λ qs. r ∷ qs) (insert_index q rows parts.1)
-          ∙ sym (cond_false (ltb q r) (q ∷ r ∷ rows) (cond (eqb q r) (r ∷ rows) (r ∷ insert_row q rows)) (le-ltb q r (omega arith))
-          ∙ cond_false (eqb q r) (r ∷ rows) (r ∷ insert_row q rows) (ne_eqb q r (λ e. absurd (omega arith))))
-      | false ↦ λ above.
-          let le : q ≤ r = ltb-false r q above in
-          let lt : q < r = omega arith in
-          sym (cond_true (ltb q r) (q ∷ r ∷ rows) (cond (eqb q r) (r ∷ rows) (r ∷ insert_row q rows)) (lt-ltb q r lt))
-    ] refl
 
 pub new_first : (q : ℕ) (new rows : List ℕ) → AreNew (q ∷ new) rows → has rows q ≡ false
 new_first q new rows n = not_true (has rows q) (each_true (λ x. not (has rows x)) (q ∷ new) n.2).0

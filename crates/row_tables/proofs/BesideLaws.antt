@@ -4,7 +4,7 @@ use Rattle.std.proofs.lemmas.Bool.{false≢true, ne_eqb, eq-eqb, ltb-true}
 use Rattle.doc_model.specs.Rows.{has, IsAscending}
 use Rattle.doc_model.specs.Grid.{beside}
 use Rattle.doc_model.proofs.Choices.{cond_true, cond_false}
-use Rattle.row_tables.specs.RowIndexes.{row_index}
+use Rattle.doc_model.specs.Indexes.{row_index}
 use Rattle.row_tables.proofs.WrittenLaws.{index_found}
 
 module _ {X : Type 0} where

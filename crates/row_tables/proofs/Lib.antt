@@ -5,7 +5,6 @@ pub mod Indexes
 pub mod SpotLaws
 pub mod KeptLaws
 pub mod StepLaws
-pub mod RowIndexLaws
 pub mod AddedLaws
 pub mod WrittenLaws
 pub mod TakenLaws

@@ -14,7 +14,7 @@ use Rattle.doc_model.proofs.Choices.{cond_true, cond_false, each_weaker, filter_
 use Rattle.doc_model.proofs.GridLaws.{grid_of-cell}
 use Rattle.doc_model.proofs.RowsLaws.{has-filter, IsAscending-filter, same_ascending, number_itself}
 use Rattle.row_tables.specs.InPlace.{rows_left, beside_left, rows_again, cells_again}
-use Rattle.row_tables.specs.RowIndexes.{row_index}
+use Rattle.doc_model.specs.Indexes.{row_index}
 use Rattle.row_tables.specs.declared.removed.TakenRow.{TakenRow}
 use Rattle.row_tables.proofs.AddedLaws.{with_rows}
 use Rattle.row_tables.proofs.WrittenLaws.{index_found}

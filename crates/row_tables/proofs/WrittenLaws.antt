@@ -16,7 +16,7 @@ use Rattle.doc_model.proofs.Choices.{cond_true, cond_false, false_from, each_wea
 use Rattle.doc_model.proofs.GridLaws.{grid_of-cell}
 use Rattle.doc_model.proofs.RowsLaws.{number_itself, each_has, has_below}
 use Rattle.row_tables.specs.InPlace.{id_index, set_cell, written, written_back, column_writes, all_writes}
-use Rattle.row_tables.specs.RowIndexes.{row_index}
+use Rattle.doc_model.specs.Indexes.{row_index}
 use Rattle.row_tables.specs.declared.written.Write.{Write}
 use Rattle.row_tables.proofs.AddedLaws.{map_same}
 use Rattle.row_tables.proofs.Walks.{drop_read}

@@ -7,7 +7,7 @@ use Rattle.doc_model.specs.declared.column.CellColumn.{CellColumn}
 use Rattle.doc_model.specs.declared.column.ColDef.{ColDef}
 use Rattle.doc_model.specs.Grid.{Grid}
 use Rattle.doc_model.specs.Rows.{has}
-use Rattle.row_tables.specs.RowIndexes.{row_index}
+use Rattle.doc_model.specs.Indexes.{row_index}
 use Rattle.row_tables.specs.declared.written.Write.{Write}
 use Rattle.row_tables.specs.declared.removed.TakenRow.{TakenRow}
 use Rattle.row_tables.specs.declared.removed.TakenRows.{TakenRows}

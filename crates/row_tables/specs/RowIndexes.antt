@@ -4,17 +4,9 @@ use Rattle.std.specs.List.{insert, remove}
 use Rattle.std.specs.Str.{bytes_eq}
 use Rattle.cell_types.specs.declared.value.CellValue.{CellValue}
 use Rattle.doc_model.specs.declared.column.CellColumn.{CellColumn}
+use Rattle.doc_model.specs.Indexes.{row_index}
 use Rattle.doc_model.specs.Records.{or_else}
 use Rattle.doc_model.specs.Rows.{has, IsAscending, has_no_duplicates, none_in}
-
--- how many rows before the first one that is not below
-abbrev pub row_index : ℕ → List ℕ → ℕ
-row_index row [] = 0
-row_index row (q ∷ rows) = cond (nat_lt q row) (row_index row rows + 1) 0
-
--- the index of a row, or where it would go
-abbrev pub row_search : ℕ → List ℕ → Result ℕ ℕ
-row_search row rows = cond (has rows row) (Ok (row_index row rows)) (Err (row_index row rows))
 
 -- new rows, none of them twice, and none of them among ascending ones
 abbrev pub AreNew : List ℕ → List ℕ → Type 0

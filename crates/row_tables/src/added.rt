@@ -7,14 +7,14 @@ ghost use Rattle.doc_model.specs.Grid.{IsGrid};
 ghost use Rattle.doc_model.specs.Records.{add_rows, given};
 ghost use Rattle.doc_model.specs.Rows.{IsAscending, has_no_duplicates};
 ghost use Rattle.row_tables.specs.InPlace.{on_rows};
-ghost use Rattle.row_tables.specs.RowIndexes.{AreNew, AreWithin, given_at, new_indexes, put_at, row_index, taken_out};
+ghost use Rattle.doc_model.specs.Indexes.{row_index};
+ghost use Rattle.row_tables.specs.RowIndexes.{AreNew, AreWithin, given_at, new_indexes, put_at, taken_out};
 
 use crate::RowTable;
 use crate::given::given_value;
 use crate::in_place::{insert_reserved, remove_at};
-use crate::search::search_row;
 use cell_types::{CellValue, ValueList, copy_of, default_of};
-use doc_model::{CellColumn, ColDef};
+use doc_model::{CellColumn, ColDef, search_row};
 use list_ops::all_made;
 use std::alloc::{AllocError, Global};
 

@@ -33,7 +33,6 @@ mod plain_change;
 mod put;
 mod removed;
 mod schema;
-mod search;
 mod steps;
 mod table;
 mod tables;

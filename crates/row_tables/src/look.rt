@@ -8,9 +8,8 @@ ghost use Rattle.doc_model.specs.Grid.{beside};
 ghost use Rattle.doc_model.specs.Rows.{IsAscending};
 ghost use Rattle.row_tables.specs.Kept.{found_beside};
 
-use crate::search::search_row;
 use cell_types::{CellValue, Name, ValueList};
-use doc_model::ColDef;
+use doc_model::{ColDef, search_row};
 
 /// The cells of a row; none where there is no such row.
 ///

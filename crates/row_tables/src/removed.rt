@@ -10,8 +10,8 @@ ghost use Rattle.row_tables.specs.InPlace.{beside_left, cells_again, HasRoom, on
 
 use crate::RowTable;
 use crate::in_place::{insert_reserved, move_to};
-use crate::search::search_row;
 use cell_types::ValueList;
+use doc_model::search_row;
 use std::alloc::AllocError;
 
 /// A row that is gone, its index, and its cells.

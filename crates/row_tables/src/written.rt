@@ -10,9 +10,8 @@ ghost use Rattle.row_tables.specs.InPlace.{all_writes, column_writes, id_index, 
 
 use crate::RowTable;
 use crate::in_place::swap_at;
-use crate::search::search_row;
 use cell_types::{CellValue, Name, ValueList, copy_of};
-use doc_model::{CellColumn, ColDef};
+use doc_model::{CellColumn, ColDef, search_row};
 use std::alloc::{AllocError, Global};
 use std::mem;
 

@@ -1,13 +1,15 @@
 //! Tests of values, names and operators.
 //!
-//! Stands on `cell_types`, `name_rules` and `value_ops`. Nothing stands on it; it is a crate of its
-//! own, so that none of those is proved a second time with its tests.
+//! Stands on `cell_types`, `name_rules`, `value_ops` and `lookup_index`. Nothing stands on it; it is a
+//! crate of its own, so that none of those is proved a second time with its tests.
 //!
 //! Promises: nothing. What is tested is what no clause says: that the tables of conversion, names
 //! and operators are the ones meant, and that calls succeed where there is memory.
 //! Read first: conversions.rt, names.rt or operators.rt.
 #![tactic(auto)]
 
+#[cfg(test)]
+mod buckets;
 #[cfg(test)]
 mod conversions;
 #[cfg(test)]

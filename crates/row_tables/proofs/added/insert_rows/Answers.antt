@@ -1,6 +1,7 @@
 use Rattle.std.proofs.Common.{ℕ, get_or, ◌++◌, ap, ◌∙◌, drop, ◌+◌, ◌≡◌, arith}
 use Rattle.std.proofs.lemmas.List.{get_or_default}
-use Rattle.row_tables.specs.RowIndexes.{AreNew, new_indexes, put_at, row_index}
+use Rattle.doc_model.specs.Indexes.{row_index}
+use Rattle.row_tables.specs.RowIndexes.{AreNew, new_indexes, put_at}
 use Rattle.row_tables.proofs.AddedLaws.{rows_step}
 use Rattle.row_tables.proofs.added.insert_rows.Goals as goal
 

@@ -2,10 +2,10 @@ use Rattle.std.proofs.Common.{◌≡◌, true, [], get_or, sym, ap, ◌∙◌, u
 use Rattle.std.proofs.lemmas.Option.{unwrap_or-slice_get}
 use Rattle.std.proofs.lemmas.List.{get_or_past}
 use Rattle.doc_model.specs.Rows.{has}
-use Rattle.row_tables.specs.RowIndexes.{row_index}
+use Rattle.doc_model.specs.Indexes.{row_index}
 use Rattle.row_tables.proofs.BesideLaws.{beside_index}
 use Rattle.row_tables.proofs.KeptLaws.{beside_absent}
-use Rattle.row_tables.proofs.RowIndexLaws.{search_ok, search_err}
+use Rattle.doc_model.proofs.RowIndexLaws.{search_ok, search_err}
 use Rattle.row_tables.proofs.look.search_cells.Goals as goal
 
 pub returns-in_default : goal.returns-in_default

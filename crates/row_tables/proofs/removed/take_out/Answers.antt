@@ -1,9 +1,9 @@
 use Rattle.std.proofs.Common.{ℕ, ◌≡◌, ◌<◌, true, get_or, length, vec_len, vec_capacity, ap, ◌∙◌, arith}
 use Rattle.std.proofs.lemmas.List.{get_or_default}
 use Rattle.doc_model.specs.Rows.{has}
-use Rattle.row_tables.specs.RowIndexes.{row_index, row_search}
+use Rattle.doc_model.specs.Indexes.{row_index, row_search}
 use Rattle.row_tables.specs.declared.removed.TakenRow.{TakenRow}
-use Rattle.row_tables.proofs.RowIndexLaws.{search_ok, search_err}
+use Rattle.doc_model.proofs.RowIndexLaws.{search_ok, search_err}
 use Rattle.row_tables.proofs.TakenLaws.{not_there, taken}
 use Rattle.row_tables.proofs.WrittenLaws.{index_found}
 use Rattle.row_tables.proofs.removed.take_out.Goals as goal

@@ -1,13 +1,14 @@
--- Indexes of rows among ascending ones.
-use Rattle.std.proofs.Common.{ℕ, zero, suc, true, false, cond, ◌||◌, List, [], ◌∷◌, ◌+◌, get_or, length, ◌≡◌, ◌<◌, ◌≤◌, refl, sym, ap, ◌∙◌, Result, Ok, Err, eqb, ltb, arith}
-use Rattle.std.proofs.lemmas.Bool.{lt-ltb, le-ltb, ne_eqb, eq-eqb}
+-- Indexes of rows among ascending ones, and rows put in there.
+use Rattle.std.proofs.Common.{ℕ, zero, suc, true, false, cond, ◌||◌, List, [], ◌∷◌, ◌+◌, get_or, insert, length, ◌≡◌, ◌<◌, ◌≤◌, refl, sym, ap, subst, ◌∙◌, Result, Ok, Err, eqb, ltb, arith}
+use Rattle.std.proofs.lemmas.Bool.{lt-ltb, le-ltb, ne_eqb, eq-eqb, eqb-true, eqb-false, ltb-true, ltb-false, or_parts}
 use Rattle.std.proofs.lemmas.List.Sorted.{searched}
 use Rattle.std.specs.List.{AllByRecursion}
 use Rattle.std.specs.List.Sorted.{IsBinarySearchResult}
 use Rattle.std.specs.Ordering.{nat_cmp}
-use Rattle.doc_model.specs.Rows.{has, IsAscending}
+use Rattle.doc_model.specs.Rows.{has, insert_row, IsAscending}
 use Rattle.doc_model.proofs.Choices.{cond_true, cond_false}
-use Rattle.row_tables.specs.RowIndexes.{row_index, row_search}
+use Rattle.doc_model.proofs.RowsLaws.{has-insert_row, IsAscending-insert_row, same_ascending}
+use Rattle.doc_model.specs.Indexes.{row_index, row_search}
 
 each_number : (P : ℕ → Type 0) (rows : List ℕ) (i : ℕ) → AllByRecursion P rows → i < length rows → P (get_or rows i 0)
 each_number P [] i h l = absurd (omega arith)
@@ -77,3 +78,44 @@ search_err q p rows =
       | true ↦ λ e. absurd (cc)
       | false ↦ λ e. refl
     ]
+
+pub search_gap : (q i : ℕ) (rows : List ℕ) → Err i ≡ row_search q rows → (has rows q ≡ false) × (i ≡ row_index q rows)
+search_gap q i rows =
+    elim (has rows q) as (λ b. ◌≡◌ {A = Result ℕ ℕ} (Err i) (cond b (Ok (row_index q rows)) (Err (row_index q rows))) → (b ≡ false) × (i ≡ row_index q rows)) [
+      | true ↦ λ e. absurd (cc)
+      | false ↦ λ e. (refl, cc)
+    ]
+
+pub index_within : (row : ℕ) (rows : List ℕ) → row_index row rows ≤ length rows
+index_within row [] = omega arith
+index_within row (q ∷ rows) =
+    let later : row_index row rows ≤ length rows = index_within row rows in
+    elim (ltb q row) as (λ b. cond b (row_index row rows + 1) 0 ≤ length (q ∷ rows)) [ true ↦ omega arith | false ↦ omega arith ]
+
+pub insert_index : (q : ℕ) (rows : List ℕ) → has rows q ≡ false → insert rows (row_index q rows) q ≡ insert_row q rows
+insert_index q [] apart = refl
+insert_index q (r ∷ rows) apart =
+    let parts : (eqb r q ≡ false) × (has rows q ≡ false) = or_parts (eqb r q) (has rows q) apart in
+    let ne : r ≡ q → ⊥ = eqb-false r q parts.0 in
+    let next : suc (row_index q rows) ≡ row_index q rows + 1 = omega arith in
+    elim (ltb r q) as (λ b. ltb r q ≡ b → insert (r ∷ rows) (cond b (row_index q rows + 1) 0) q ≡ insert_row q (r ∷ rows)) [
+      | true ↦ λ below.
+          let lt : r < q = ltb-true r q below in
+          ap (λ n. insert (r ∷ rows) n q) (sym next) ∙ ap (λ qs. r ∷ qs) (insert_index q rows parts.1)
+          ∙ sym (cond_false (ltb q r) (q ∷ r ∷ rows) (cond (eqb q r) (r ∷ rows) (r ∷ insert_row q rows)) (le-ltb q r (omega arith))
+          ∙ cond_false (eqb q r) (r ∷ rows) (r ∷ insert_row q rows) (ne_eqb q r (λ e. absurd (omega arith))))
+      | false ↦ λ above.
+          let le : q ≤ r = ltb-false r q above in
+          let lt : q < r = omega arith in
+          sym (cond_true (ltb q r) (q ∷ r ∷ rows) (cond (eqb q r) (r ∷ rows) (r ∷ insert_row q rows)) (lt-ltb q r lt))
+    ] refl
+
+-- a row that is there, put in
+pub insert_there : (q : ℕ) (rows : List ℕ) → IsAscending rows → has rows q ≡ true → rows ≡ insert_row q rows
+insert_there q rows a here =
+    same_ascending rows (insert_row q rows) a (IsAscending-insert_row q rows a) (λ x.
+    elim (eqb q x) as (λ b. eqb q x ≡ b → has rows x ≡ (b || has rows x)) [
+      | true ↦ λ same. subst (λ n. has rows n ≡ true) (eqb-true q x same) here
+      | false ↦ λ _. refl
+    ] refl
+    ∙ sym (has-insert_row q rows x))

@@ -1,0 +1,21 @@
+//! An index of the cells of a column: which rows a looked-up value can be found in.
+//!
+//! Stands on `cell_types` (values), `doc_model` (rows that ascend) and `value_ops` (equality). Used
+//! by the evaluation of lookups.
+//!
+//! Promises: equal values, and a record and the number of its row, have one bucket (`bucket_law`);
+//! `LookupIndex` tells the rows that were put into a bucket, ascending. So the rows of a value's
+//! bucket hold all rows whose cells agree with the value, and what else they hold is for the caller
+//! to leave out.
+//! Not promised: that few other rows share a bucket.
+//! Read first: specs/Buckets.antt, then bucket.rt and index.rt.
+#![tactic(auto)]
+
+mod bucket;
+mod index;
+mod laws;
+mod rows;
+
+pub use bucket::bucket_of;
+pub use index::LookupIndex;
+pub use laws::bucket_law;

@@ -42,7 +42,7 @@ described_rows (t ∷ p) =
     ∙ ap (λ rows. rows ++ map described_row (all_columns p)) (sym (map-map described_row (λ (d : ColDef). let e : Described = record { parent = t.row; column = d } in e) t.grid.columns))
     ∙ ap (λ rows. map column_row t.grid.columns ++ rows) (described_rows p)
 
-each_append : {X : Type 0} (P : X → Type 0) (xs ys : List X) → AllByRecursion P xs → AllByRecursion P ys → AllByRecursion P (xs ++ ys)
+pub each_append : {X : Type 0} (P : X → Type 0) (xs ys : List X) → AllByRecursion P xs → AllByRecursion P ys → AllByRecursion P (xs ++ ys)
 each_append P [] ys h k = k
 each_append P (x ∷ xs) ys h k = (h.0, each_append P xs ys h.1 k)
 

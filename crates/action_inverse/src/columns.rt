@@ -25,16 +25,6 @@ pub(crate) fn columns_of<D: DocTables>(
     Ok(columns)
 }
 
-/// The rows of a table, none where it is not there.
-pub(crate) fn rows_of<'a, D: DocTables>(tables: &'a D, table: &Name) -> &'a [u32]
-    ensures { result.now ≡ (grid_at (D.document tables.now) table.now).rows }
-{
-    match tables.rows(table) {
-        Some(rows) => rows,
-        None => &[],
-    }
-}
-
 /// The column of this id.
 pub(crate) fn find_column<'a>(columns: &'a [ColDef], id: &Name) -> Option<&'a ColDef>
     ensures { option_map (λ d. d.now) result ≡ find_id column_id id.now columns.now }

@@ -9,10 +9,11 @@ ghost use Rattle.doc_model.specs.Inverse.{column_again, inverse};
 ghost use Rattle.doc_model.specs.Valid.{valid};
 
 use crate::cells::{column_cells, data_columns, old_columns};
-use crate::columns::{columns_of, find_column, rows_of};
+use crate::columns::{columns_of, find_column};
 use crate::metadata::metadata_row;
 use cell_types::{Name, RowList};
 use doc_model::{ColDef, ColDefList, ColumnList, DocAction, DocActionList, DocTables};
+use doc_readers::rows_in;
 use std::alloc::{AllocError, Global};
 
 /// The list of one action.
@@ -153,7 +154,7 @@ pub(crate) fn table_again<D: DocTables>(
         return Ok(DocActionList::new(alloc));
     };
     let added = single(alloc, table_added(alloc, tables, table, row)?)?;
-    let rows = rows_of(tables, table);
+    let rows = rows_in(tables, table);
     if rows.is_empty() {
         return Ok(added);
     }
@@ -180,7 +181,7 @@ fn found_again<D: DocTables>(
         l ≡ column_again table.now (grid_at (D.document tables.now) table.now) column.now) }
 {
     let added = single(alloc, column_added(table, column)?)?;
-    let rows = rows_of(tables, table);
+    let rows = rows_in(tables, table);
     if column.info.is_formula || rows.is_empty() {
         return Ok(added);
     }

@@ -77,21 +77,13 @@ pub(crate) fn column_weight<D: DocTables>(
     total(rows, |row| cell_weight(tables, table, column, *row))
 }
 
-fn row_of(column: &ColDef) -> u32
-    ensures { result ≡ column.now.row }
-{
-    column.row
-}
-
 /// How many columns a table has.
 pub(crate) fn column_count<D: DocTables>(tables: &D, table: &Name) -> usize
     requires { IsWhole (D.document tables.now) }
     ensures { result ≡ length (grid_at (D.document tables.now) table.now).columns }
 {
     let mut index = 0;
-    while let Some(column) = tables.column(table, index) {
-        // Asked for so that the proof knows it for a row id: no index is greater than that.
-        let _row = row_of(column);
+    while let Some(_column) = tables.column(table, index) {
         index += 1;
     }
     index

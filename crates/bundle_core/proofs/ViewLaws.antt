@@ -9,7 +9,9 @@ use Rattle.doc_model.specs.declared.view.ViewTable.{ViewTable}
 use Rattle.doc_model.specs.Changes.{changes, IsView}
 use Rattle.doc_model.specs.Document.{Document}
 use Rattle.doc_model.specs.DocumentLaws.{IsWhole}
+use Rattle.doc_model.specs.LaidOut.{IsLaidOut}
 use Rattle.doc_model.proofs.ChangesLaws.{changes_none, changes_empty}
+use Rattle.doc_model.proofs.LaidOutLaws.{laid_out}
 use Rattle.view_parts.specs.declared.viewers.Viewer.{Viewer}
 use Rattle.view_parts.specs.Parts.{affected_part}
 use Rattle.view_parts.specs.Shown.{view as shown_to}
@@ -23,7 +25,7 @@ use Rattle.bundle_core.specs.View.{view}
 use Rattle.bundle_core.specs.ViewChanges.{IsSeen, changes_since, is_among, seen_part, told_to}
 
 pub is_view : (user : User) (s : Document) → IsWhole s → IsView (view user s)
-is_view user s w = IsView-view (viewer_of user) s w
+is_view user s w = IsView-view (viewer_of user) s (laid_out s w)
 
 -- what did not change shows no changes
 pub changes-again : (user : User) (s : Document) → IsWhole s → changes (view user s) (view user s) ≡ []
@@ -34,12 +36,12 @@ pub same_view : (user : User) (s s' : Document) → IsWhole s → IsWhole s' →
 same_view user s s' w w' e = changes_empty (view user s) (view user s') (is_view user s w) (is_view user s' w') e
 
 -- what a viewer sees of what actions are about is a view
-seen_view : (actions : List DocAction) (s : Document) → IsWhole s → (v : Viewer) → IsSeen (seen_part actions s v)
+seen_view : (actions : List DocAction) (s : Document) → IsLaidOut s → (v : Viewer) → IsSeen (seen_part actions s v)
 seen_view actions s w v =
     let P : List ViewTable → Type 0 = λ l. IsView l in
     subst P (wanted_affected v actions s w) (IsView-wanted v (Some actions) s w)
 
-pub each_seen : (actions : List DocAction) (s : Document) → IsWhole s → (viewers : List Viewer) → AllByRecursion IsSeen (map (seen_part actions s) viewers)
+pub each_seen : (actions : List DocAction) (s : Document) → IsLaidOut s → (viewers : List Viewer) → AllByRecursion IsSeen (map (seen_part actions s) viewers)
 each_seen actions s w [] = tt
 each_seen actions s w (v ∷ viewers) = (seen_view actions s w v, each_seen actions s w viewers)
 

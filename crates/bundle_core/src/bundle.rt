@@ -125,6 +125,7 @@ fn done_and_told<D: DocTables>(
 }
 
 // The reply to a bundle of the session whose actions created this.
+#[tactic(auto, using(doc_model::proofs::LaidOutLaws::laid_out))]
 fn reply_to<D: DocTables>(
     alloc: Global,
     tables: &D,

@@ -2,6 +2,7 @@
 
 ghost use Rattle.std.specs.Prelude.{◌≡◌, [], map, true, IfOk, is_some};
 ghost use Rattle.doc_model.specs.DocumentLaws.{IsWhole};
+ghost use Rattle.doc_model.specs.LaidOut.{IsLaidOut};
 ghost use Rattle.doc_model.specs.Rows.{IsAscending};
 ghost use Rattle.user_actions.specs.Allowed.{is_allowed};
 ghost use Rattle.user_actions.specs.StepLaws.{action_of};
@@ -10,7 +11,9 @@ ghost use Rattle.bundle_core.specs.View.{view};
 ghost use Rattle.bundle_core.specs.Created.{is_single, known_rows, created_alone, created_by, created_of, records_created, row_told, told_of};
 
 use cell_types::{Name, RowList};
-use doc_model::{DocAction, DocTables, RetIdList, RetValue, RetValueList, Step, User, UserAction};
+use doc_model::{
+    DocAction, DocReader, DocTables, RetIdList, RetValue, RetValueList, Step, User, UserAction,
+};
 use doc_readers::holds_row;
 use name_rules::name_of;
 use std::alloc::{AllocError, Global};
@@ -116,8 +119,8 @@ pub(crate) fn created_of<D: DocTables>(
 }
 
 // The rows of a table that a viewer sees, none where it does not see the table.
-fn known_rows<'a, D: DocTables>(tables: &'a D, viewer: Viewer, table: &Name) -> &'a [u32]
-    requires { IsWhole (D.document tables.now) }
+fn known_rows<'a, D: DocReader>(tables: &'a D, viewer: Viewer, table: &Name) -> &'a [u32]
+    requires { IsLaidOut (D.document tables.now) }
     ensures rows { result.now ≡ known_rows (shown_to viewer (D.document tables.now)) table.now }
     ensures ascending { IsAscending result.now }
 {
@@ -155,13 +158,13 @@ fn name_told(name: &Name) -> Result<RetValue, AllocError>
 }
 
 // What a viewer is told of what an action created, by what it sees of the document now.
-fn told_of<D: DocTables>(
+fn told_of<D: DocReader>(
     alloc: Global,
     tables: &D,
     viewer: Viewer,
     created: &Created,
 ) -> Result<RetValue, AllocError>
-    requires { IsWhole (D.document tables.now) }
+    requires { IsLaidOut (D.document tables.now) }
     ensures { IfOk result (λ v. v ≡ told_of (shown_to viewer (D.document tables.now)) created.now) }
 {
     match created {
@@ -181,13 +184,13 @@ fn told_of<D: DocTables>(
 
 /// What a user is told of what the actions of a bundle created, by what he sees of the document
 /// now.
-pub(crate) fn all_told<D: DocTables>(
+pub(crate) fn all_told<D: DocReader>(
     alloc: Global,
     tables: &D,
     user: &User,
     created: &[Created],
 ) -> Result<RetValueList, AllocError>
-    requires { IsWhole (D.document tables.now) }
+    requires { IsLaidOut (D.document tables.now) }
     ensures { IfOk result (λ l. l
         ≡ map (told_of (view user.now (D.document tables.now))) created.now) }
 {

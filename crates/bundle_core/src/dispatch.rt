@@ -8,6 +8,7 @@ ghost use Rattle.std.specs.Str.{bytes_eq};
 ghost use Rattle.doc_model.specs.ByIds.{IsByIds};
 ghost use Rattle.doc_model.specs.Changes.{changes};
 ghost use Rattle.doc_model.specs.DocumentLaws.{IsWhole};
+ghost use Rattle.doc_model.specs.LaidOut.{IsLaidOut};
 ghost use Rattle.doc_model.specs.WellFormed.{asks_well_formed, is_well_formed};
 ghost use Rattle.doc_model.specs.declared.request.Request.TheVariants.{Open, Apply};
 ghost use Rattle.grist_json.specs.Lines.{reply_text};
@@ -27,8 +28,8 @@ use crate::session_index::index_of;
 use crate::turns::{leave, line_alone, reply_alone, stay};
 use action_limits::Tally;
 use doc_model::{
-    DocTables, Entry, LimitKind, MAX_SESSIONS, Refusal, Request, User, UserActionList, Verdict,
-    View, ViewTableList,
+    DocReader, DocTables, Entry, LimitKind, MAX_SESSIONS, Refusal, Request, User, UserActionList,
+    Verdict, View, ViewTableList,
 };
 use grist_json::{Line, write_reply};
 use plain_view::changes;
@@ -154,6 +155,7 @@ fn open<D: DocTables>(
 }
 
 // Opens the session for that user, where there is room for one more.
+#[tactic(auto, using(doc_model::proofs::LaidOutLaws::laid_out))]
 fn open_for<D: DocTables>(
     alloc: Global,
     users: &[User],
@@ -183,8 +185,8 @@ fn open_for<D: DocTables>(
 }
 
 // The reply that shows a user the whole document.
-fn show_all<D: DocTables>(alloc: Global, tables: &D, user: &User) -> Result<Vec<Line>, AllocError>
-    requires { IsWhole (D.document tables.now) }
+fn show_all<D: DocReader>(alloc: Global, tables: &D, user: &User) -> Result<Vec<Line>, AllocError>
+    requires { IsLaidOut (D.document tables.now) }
     ensures { IfOk result (λ v. v.items
         ≡ reply_text (Verdict.Changes (changes [] (view user.now (D.document tables.now)))) ∷ []) }
 {

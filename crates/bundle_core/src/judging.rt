@@ -119,6 +119,7 @@ fn plan_action<D: DocTables>(
 }
 
 // The steps of an action that nothing stands against, or the limit that they would pass.
+#[tactic(auto, using(doc_model::proofs::LaidOutLaws::laid_out))]
 fn judge_steps<D: DocTables>(
     alloc: Global,
     tables: &D,
@@ -145,6 +146,7 @@ fn judge_steps<D: DocTables>(
 }
 
 // What the action at that index of its bundle comes to.
+#[tactic(auto, using(doc_model::proofs::LaidOutLaws::laid_out))]
 fn judge_action<D: DocTables>(
     alloc: Global,
     tables: &D,

@@ -4,12 +4,12 @@
 ghost use Rattle.std.specs.Prelude.{◌≡◌, [], find, map, true, IfOk, OnOk, MatchOption};
 ghost use Rattle.std.specs.List.{AllByRecursion};
 ghost use Rattle.std.specs.Option.{option_copied};
-ghost use Rattle.doc_model.specs.DocumentLaws.{IsWhole};
+ghost use Rattle.doc_model.specs.LaidOut.{IsLaidOut};
 ghost use Rattle.view_parts.specs.Viewers.{is_same, viewer_of};
 ghost use Rattle.bundle_core.specs.ViewChanges.{IsSeen, changes_since, is_among, seen_part, told_to};
 
 use crate::session::OpenSession;
-use doc_model::{DocAction, DocTables, View, ViewAction, ViewActionList};
+use doc_model::{DocAction, DocReader, View, ViewAction, ViewActionList};
 use list_ops::all_made;
 use plain_view::changes;
 use std::alloc::{AllocError, Global};
@@ -60,13 +60,13 @@ pub(crate) fn viewers_of(alloc: Global, sessions: &[OpenSession]) -> Result<Vec<
     Ok(viewers)
 }
 
-fn seen_part<D: DocTables>(
+fn seen_part<D: DocReader>(
     alloc: Global,
     tables: &D,
     actions: &[DocAction],
     viewer: &Viewer,
 ) -> Result<SeenPart, AllocError>
-    requires { IsWhole (D.document tables.now) }
+    requires { IsLaidOut (D.document tables.now) }
     ensures { IfOk result (λ p. p ≡ seen_part actions.now (D.document tables.now) viewer.now) }
 {
     let view = affected_view(alloc, tables, *viewer, actions)?;
@@ -77,13 +77,13 @@ fn seen_part<D: DocTables>(
 }
 
 /// What each viewer sees now of what these actions are about.
-pub(crate) fn see_parts<D: DocTables>(
+pub(crate) fn see_parts<D: DocReader>(
     alloc: Global,
     tables: &D,
     actions: &[DocAction],
     viewers: &[Viewer],
 ) -> Result<Vec<SeenPart>, AllocError>
-    requires { IsWhole (D.document tables.now) }
+    requires { IsLaidOut (D.document tables.now) }
     ensures { IfOk result (λ l. l.items
         ≡ map (seen_part actions.now (D.document tables.now)) viewers.now) }
 {
@@ -95,13 +95,13 @@ pub(crate) fn see_parts<D: DocTables>(
     Ok(parts)
 }
 
-fn changes_since<D: DocTables>(
+fn changes_since<D: DocReader>(
     alloc: Global,
     tables: &D,
     actions: &[DocAction],
     before: &SeenPart,
 ) -> Result<ToldChanges, AllocError>
-    requires whole { IsWhole (D.document tables.now) }
+    requires laid_out { IsLaidOut (D.document tables.now) }
     requires seen { IsSeen before.now }
     ensures { IfOk result (λ t. t ≡ changes_since actions.now (D.document tables.now) before.now) }
 {
@@ -113,13 +113,13 @@ fn changes_since<D: DocTables>(
 }
 
 /// What each viewer is told, in the document after the actions.
-pub(crate) fn tell_changes<D: DocTables>(
+pub(crate) fn tell_changes<D: DocReader>(
     alloc: Global,
     tables: &D,
     actions: &[DocAction],
     before: &[SeenPart],
 ) -> Result<Vec<ToldChanges>, AllocError>
-    requires whole { IsWhole (D.document tables.now) }
+    requires laid_out { IsLaidOut (D.document tables.now) }
     requires seen { AllByRecursion IsSeen before.now }
     ensures { IfOk result (λ l. l.items
         ≡ map (changes_since actions.now (D.document tables.now)) before.now) }

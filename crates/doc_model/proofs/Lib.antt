@@ -26,6 +26,7 @@ pub mod FirstRows
 pub mod SameRowLaws
 pub mod DescribedRows
 pub mod UntouchedRows
+pub mod LaidOutLaws
 pub mod FitsLaws
 pub mod NewDocumentLaws
 pub mod Traps

@@ -19,6 +19,7 @@ pub mod WellFormed
 pub mod DocumentLaws
 pub mod SameRows
 pub mod Touched
+pub mod LaidOut
 pub mod CountLaws
 pub mod MaximaLaws
 pub mod Same

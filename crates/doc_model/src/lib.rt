@@ -4,7 +4,8 @@
 //!
 //! Promises: the definitions in specs/ of documents, their soundness and their schema, of validity,
 //! effect and inverse of document actions, of views, their changes and patches, and of what limits
-//! count; and in laws.rt the laws over them. `DocTables` and `DocCells` say what a store answers.
+//! count; and in laws.rt the laws over them. `DocReader` says what a document that is kept
+//! answers, `DocTables` what a store does.
 //! Not promised: that a store or an action meets the definitions; the crates above promise it.
 //! Read first: specs/Document.antt, Valid.antt, Apply.antt, Inverse.antt, then Changes.antt.
 #![tactic(auto)]
@@ -34,7 +35,7 @@ pub use limit::{
 pub use refusal::Refusal;
 pub use request::Request;
 pub use rows::{have_no_duplicates, index_of_column, search_row};
-pub use tables::{DocCells, DocTables};
+pub use tables::{DocReader, DocTables};
 pub use type_texts::type_text;
 pub use user::{User, UserList};
 pub use user_action::{

@@ -1,17 +1,14 @@
--- What a whole document tells of its tables, and what definitions read.
+-- What a document tells of its tables, and what definitions read.
 use Rattle.std.proofs.Common.{ℕ, true, false, List, ◌≡◌, refl, sym, ◌∙◌, Option, Some, None, Bor}
 use Rattle.std.specs.Option.{is_some, option_copied, MatchOption}
 use Rattle.doc_readers.specs.Parts.{grid_at}
 use Rattle.doc_model.specs.declared.column.ColDef.{ColDef}
 use Rattle.doc_model.specs.ByIds.{find_id, has_id}
 use Rattle.doc_model.specs.Document.{Table, Document, table_id}
-use Rattle.doc_model.specs.DocumentLaws.{IsWhole}
 use Rattle.doc_model.specs.Grid.{Grid}
 use Rattle.doc_model.specs.Readers.{rows_at}
-use Rattle.doc_model.specs.Rows.{IsAscending}
 use Rattle.doc_model.specs.Schema.{no_grid}
-use Rattle.doc_model.specs.Sound.{IsSoundGrid}
-use Rattle.doc_model.proofs.ByIdsLaws.{found_all, has_id-find}
+use Rattle.doc_model.proofs.ByIdsLaws.{has_id-find}
 
 -- a table that tells rows is there, and no other
 has_told : (s : Document) (id : List ℕ) (rows : List ℕ) → rows_at s id ≡ Some rows → has_id table_id s id ≡ true
@@ -34,21 +31,13 @@ pub has_by_rows : (s : Document) (id : List ℕ) (o : Option (Bor (List ℕ))) �
 has_by_rows s id None h = sym (has_not_told s id h)
 has_by_rows s id (Some rows) h = sym (has_told s id rows.now h)
 
--- the table of a record action and of a schema action
--- the rows that are read of a table are its rows, and ascend
+-- the rows that are read of a table are its rows
 pub rows_read : (s : Document) (id : List ℕ) (rows : List ℕ) → rows_at s id ≡ Some rows → rows ≡ (grid_at s id).rows
 rows_read s id rows h =
     elim (find_id table_id id s) as (λ (o : Option Table). elim o as (λ _. Option (List ℕ)) [ None ↦ None | Some t ↦ Some t.grid.rows ] ≡ Some rows → rows ≡ (elim o as (λ _. Grid ColDef) [ None ↦ no_grid | Some t ↦ t.grid ]).rows) [
       | None ↦ λ e. absurd (cc)
       | Some t ↦ λ e. cc
     ] h
-
-pub rows_ascend : (s : Document) → IsWhole s → (id : List ℕ) → IsAscending (grid_at s id).rows
-rows_ascend s whole id =
-    elim (find_id table_id id s) as (λ (o : Option Table). find_id table_id id s ≡ o → IsAscending (elim o as (λ _. Grid ColDef) [ None ↦ no_grid | Some t ↦ t.grid ]).rows) [
-      | None ↦ λ _. tt
-      | Some t ↦ λ e. (found_all table_id (λ t. IsSoundGrid t.grid) id s t whole.sound.grids e).is_grid.ascending
-    ] refl
 
 pub some_copied : {X : Type 0} (o : Option (Bor X)) → is_some o ≡ is_some (option_copied o)
 some_copied None = refl

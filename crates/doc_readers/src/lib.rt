@@ -1,11 +1,11 @@
-//! What a store tells of a document, and the tests of ids, rows and values that several crates
-//! make.
+//! What a document tells of its tables, however it is kept, and the tests of ids, rows and values
+//! that several crates make.
 //!
-//! Stands on `cell_types` (values and names) and `doc_model` (documents, and what a store answers).
-//! Used by the crates that test, expand and apply actions.
+//! Stands on `cell_types` (values and names) and `doc_model` (documents, and what one tells). Used
+//! by the crates that test, expand and apply actions, and by those that show documents.
 //!
 //! Promises: each call is the part of the definitions that its clause names, and takes no memory.
-//! Where a document is asked for its columns or rows it has to be whole.
+//! Nothing is asked of the document but that the schema tables stand first, where they are wanted.
 //! Not promised: speed. A column is found by a walk.
 //! Read first: table_readers.rt.
 #![tactic(auto)]

@@ -142,6 +142,7 @@ fn is_bare(action: &UserAction) -> bool
 }
 
 // Whether nothing stands against the action.
+#[tactic(auto, using(doc_model::proofs::LaidOutLaws::laid_out))]
 fn is_unrefused(alloc: Global, document: &RowTables, action: &UserAction) -> bool
     requires { IsWhole document.now }
     ensures { result ≡ true → is_allowed document.now action.now ≡ true }

@@ -1,7 +1,7 @@
 //! Plan: that a new document is made and told (`a_new_document_has_one_plain_table`), which no
 //! clause says; the traps of order are computed in the proofs of `doc_model`.
 
-use doc_model::DocTables;
+use doc_model::DocReader;
 use row_tables::RowTables;
 use std::alloc::{AllocError, Global};
 

@@ -4,7 +4,7 @@
 //! table: its id, its columns, a formula behind a `=`, and each row with its cells, null as `-`.
 
 use cell_types::{CellText, CellValue, Name};
-use doc_model::{ColDef, DocTables};
+use doc_model::{ColDef, DocReader};
 use row_tables::RowTables;
 use std::alloc::{AllocError, Global};
 

@@ -8,11 +8,11 @@ ghost use Rattle.meta_schema.specs.Decoding.{holds};
 use crate::metadata_tables::{
     has_columns_table, has_resources_table, has_rules_table, has_tables_table,
 };
-use crate::reading::rows_in;
 use crate::told_cells::{holds, text_in, truth_in};
 use crate::type_texts::is_type_text;
 use cell_types::{ColType, Name};
 use doc_model::{ColDef, DocTables};
+use doc_readers::rows_in;
 
 // Whether the cell of a row, in the column at an index, holds that text.
 fn has_text<D: DocTables>(tables: &D, table: &Name, index: usize, row: u32, text: &str) -> bool

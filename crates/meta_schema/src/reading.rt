@@ -1,7 +1,6 @@
 //! The schema, read from the schema tables.
 
 ghost use Rattle.std.specs.Prelude.{◌≡◌, IfOk};
-ghost use Rattle.doc_readers.specs.Parts.{grid_at};
 ghost use Rattle.meta_schema.specs.Decoding.{column_in, column_under, columns_under, schema_of, table_in};
 ghost use Rattle.meta_schema.specs.Names.{AreSchemaNames};
 
@@ -10,17 +9,8 @@ use crate::told_cells::{holds, name_in, text_in, truth_in, type_in};
 use crate::{Schema, SchemaTable};
 use cell_types::Name;
 use doc_model::{ColDef, ColDefList, ColInfo, DocTables};
+use doc_readers::rows_in;
 use std::alloc::{AllocError, Global};
-
-/// The rows of a table, none where it is not there.
-pub(crate) fn rows_in<'a, D: DocTables>(tables: &'a D, table: &Name) -> &'a [u32]
-    ensures { result.now ≡ (grid_at (D.document tables.now) table.now).rows }
-{
-    match tables.rows(table) {
-        Some(rows) => rows,
-        None => &[],
-    }
-}
 
 // The column that a row of the table of columns says.
 fn column_in<D: DocTables>(

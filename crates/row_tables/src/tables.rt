@@ -14,7 +14,7 @@ use crate::metadata::empty_table;
 use crate::put::{Replaced, action_put, put_back};
 use crate::schema::{schema_tables, swap_schema};
 use cell_types::{CellValue, Name};
-use doc_model::{ColDef, DocAction, DocTables};
+use doc_model::{ColDef, DocAction, DocReader, DocTables};
 use list_ops::all_made;
 use std::alloc::{AllocError, Global};
 use std::marker::Model;
@@ -92,16 +92,8 @@ pub struct RowBack {
     replaced: Replaced,
 }
 
-impl DocTables for RowTables {
-    ghost use Rattle.row_tables.specs.Back.{fits_back, put_back};
-
-    type Back = RowBack;
-
+impl DocReader for RowTables {
     ghost document = { λ s. s };
-
-    ghost undone = { λ back s. put_back back.replaced s };
-
-    ghost fits = { λ back s. fits_back back.replaced s };
 
     fn table(&self, index: usize) -> Option<&Name> {
         Some(self.tables.get(index)?.id())
@@ -118,6 +110,16 @@ impl DocTables for RowTables {
     fn cell(&self, table: &Name, column: &Name, row: u32) -> Option<&CellValue> {
         find_table(&self.tables, table)?.search_cell(column, row)
     }
+}
+
+impl DocTables for RowTables {
+    ghost use Rattle.row_tables.specs.Back.{fits_back, put_back};
+
+    type Back = RowBack;
+
+    ghost undone = { λ back s. put_back back.replaced s };
+
+    ghost fits = { λ back s. fits_back back.replaced s };
 
     fn put(&mut self, action: &DocAction) -> Result<RowBack, AllocError> {
         let replaced = action_put(&mut self.tables, action)?;

@@ -8,11 +8,11 @@ use Rattle.doc_model.specs.declared.view.ViewCol.{ViewCol}
 use Rattle.doc_model.specs.ByIds.{AreDistinct, by_id, find_id, has_id, put_by_id}
 use Rattle.doc_model.specs.Column.{column_id}
 use Rattle.doc_model.specs.Document.{Document, Table, table_id}
-use Rattle.doc_model.specs.DocumentLaws.{IsWhole}
+use Rattle.doc_model.specs.LaidOut.{IsLaidOut}
 use Rattle.doc_model.specs.Grid.{Grid}
 use Rattle.doc_model.specs.Readers.{table_at}
 use Rattle.doc_model.specs.Schema.{no_grid}
-use Rattle.doc_model.specs.Sound.{IsSoundGrid}
+use Rattle.doc_model.specs.Grid.{IsGrid}
 use Rattle.doc_model.specs.ViewEdits.{shown_id}
 use Rattle.doc_model.proofs.ByIdsLaws.{found_all, has_id-by_id, has_id-map}
 use Rattle.doc_readers.specs.Parts.{grid_at}
@@ -20,11 +20,11 @@ use Rattle.view_parts.specs.Shown.{shown_column}
 use Rattle.view_parts.proofs.PlacedLemmas.{absent_before, all_taken, by_id-last, take_next}
 
 -- a whole document's tables have no two columns of one id
-pub distinct_columns : (s : Document) → IsWhole s → (c : List ℕ) → AreDistinct column_id (grid_at s c).columns
-distinct_columns s whole c =
+pub distinct_columns : (s : Document) → IsLaidOut s → (c : List ℕ) → AreDistinct column_id (grid_at s c).columns
+distinct_columns s laid c =
     elim (find_id table_id c s) as (λ (o : Option Table). find_id table_id c s ≡ o → AreDistinct column_id (elim o as (λ _. Grid ColDef) [ None ↦ no_grid | Some t ↦ t.grid ]).columns) [
       | None ↦ λ _. tt
-      | Some t ↦ λ e. (found_all table_id (λ t. IsSoundGrid t.grid) c s t whole.sound.grids e).is_grid.distinct
+      | Some t ↦ λ e. (found_all table_id (λ t. IsGrid column_id t.grid) c s t laid.grids e).distinct
     ] refl
 
 -- one more column is put in its place

@@ -9,7 +9,7 @@ use Rattle.cell_types.specs.NameRule.{has_name_characters, is_name, is_reserved}
 use Rattle.doc_model.specs.declared.column.ColDef.{ColDef}
 use Rattle.doc_model.specs.ByIds.{find_id}
 use Rattle.doc_model.specs.Document.{Document, Table, table_id}
-use Rattle.doc_model.specs.DocumentLaws.{IsWhole}
+use Rattle.doc_model.specs.LaidOut.{IsLaidOut}
 use Rattle.doc_model.specs.MetadataIds.{columns_id, is_acl_id, is_metadata_id, is_schema_id, resources_id, rules_id, tables_id}
 use Rattle.doc_model.specs.Sound.{has_names}
 use Rattle.doc_model.proofs.ByIdsLaws.{found_all, found_id}
@@ -53,12 +53,12 @@ metadata_length c h =
     (or_cases (is_schema_id c) (is_acl_id c) h)
 
 -- a text that is no name is no table's id
-pub no_table : (s : Document) → IsWhole s → (c : List ℕ) → (HasNameLength c → ⊥) → find_id table_id c s ≡ None
-no_table s whole c long =
+pub no_table : (s : Document) → IsLaidOut s → (c : List ℕ) → (HasNameLength c → ⊥) → find_id table_id c s ≡ None
+no_table s laid c long =
     elim (find_id table_id c s) as (λ (o : Option Table). find_id table_id c s ≡ o → o ≡ None) [
       | None ↦ λ _. refl
       | Some t ↦ λ found.
-          let named : (is_metadata_id t.id || has_names t) ≡ true = found_all table_id (λ t. (is_metadata_id t.id || has_names t) ≡ true) c s t whole.sound.names found in
+          let named : (is_metadata_id t.id || has_names t) ≡ true = found_all table_id (λ t. (is_metadata_id t.id || has_names t) ≡ true) c s t laid.names found in
           let length : HasNameLength t.id = ⊎_elim (λ is. metadata_length t.id is) (λ is. name_length t.id (and_parts (is_name t.id) (list_all (λ (d : ColDef). is_name d.id) t.grid.columns) is).0) (or_cases (is_metadata_id t.id) (has_names t) named) in
           absurd (long (subst HasNameLength (found_id table_id c s t found) length))
     ] refl

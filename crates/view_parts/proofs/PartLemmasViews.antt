@@ -11,12 +11,14 @@ use Rattle.doc_model.specs.Column.{column_id}
 use Rattle.doc_model.specs.Document.{Table, Document, table_id}
 use Rattle.doc_model.specs.DocumentLaws.{IsWhole}
 use Rattle.doc_model.specs.Grid.{cell}
+use Rattle.doc_model.specs.LaidOut.{IsLaidOut}
 use Rattle.doc_model.specs.MetadataIds.{is_schema_id, is_metadata_id}
 use Rattle.doc_model.specs.ViewEdits.{shown_id}
 use Rattle.doc_model.proofs.Choices.{not_true}
 use Rattle.doc_model.proofs.ByIdsLaws.{found_id}
 use Rattle.doc_model.proofs.GridLaws.{cell-grid_of}
 use Rattle.doc_model.proofs.InverseLaws.{IsWhole-apply_all}
+use Rattle.doc_model.proofs.LaidOutLaws.{laid_out}
 use Rattle.plain_view.specs.PartsOfViews.{AgreeOutside, AreSame, Both}
 use Rattle.plain_view.proofs.PartLemmas.{both_mapped}
 use Rattle.plain_view.proofs.PartLemmasChanges.{changes_same}
@@ -57,7 +59,8 @@ past_schema viewer c is = not_true (is_schema_id c) (and_parts (not (is_schema_i
 views_agree : (viewer : Viewer) (s : Document) (actions : List DocAction) → IsWhole s → all_valid s actions ≡ true → AgreeOutside (is_affected actions) (is_row_affected actions) (view viewer s) (view viewer (apply_all s actions))
 views_agree viewer s actions whole v =
     let now : Document = apply_all s actions in
-    let still : IsWhole now = IsWhole-apply_all s actions whole v in
+    let laid : IsLaidOut s = laid_out s whole in
+    let still : IsLaidOut now = laid_out now (IsWhole-apply_all s actions whole v) in
     record {
       others = λ c no.
           find-view viewer now still c
@@ -65,9 +68,9 @@ views_agree viewer s actions whole v =
             | true ↦ λ is. ap (option_map shown_table) ((apply_all_leaves s actions whole v c (past_schema viewer c is)).others no)
             | false ↦ λ _. refl
           ] refl
-          ∙ sym (find-view viewer s whole c);
+          ∙ sym (find-view viewer s laid c);
       rows = λ c r no.
-          subst (λ o. Both (AreSame r) o (find_id shown_table_id c (view viewer now))) (sym (find-view viewer s whole c))
+          subst (λ o. Both (AreSame r) o (find_id shown_table_id c (view viewer now))) (sym (find-view viewer s laid c))
           (subst (λ o. Both (AreSame r) (option_map shown_table (cond (is_shown viewer c) (find_id table_id c s) None)) o) (sym (find-view viewer now still c))
           (elim (is_shown viewer c) as (λ b. is_shown viewer c ≡ b → Both (AreSame r) (option_map shown_table (cond b (find_id table_id c s) None)) (option_map shown_table (cond b (find_id table_id c now) None))) [
             | true ↦ λ is. both_mapped (AreSameTables r) (AreSame r) shown_table (shown_same r) (find_id table_id c s) (find_id table_id c now) ((apply_all_leaves s actions whole v c (past_schema viewer c is)).rows r no)
@@ -79,4 +82,4 @@ pub changes-affected_part : PartLaw
 changes-affected_part viewer s actions whole v =
     let now : Document = apply_all s actions in
     changes_same (is_affected actions) (is_row_affected actions) (view viewer s) (view viewer now)
-    (IsView-view viewer s whole) (IsView-view viewer now (IsWhole-apply_all s actions whole v)) (views_agree viewer s actions whole v)
+    (IsView-view viewer s (laid_out s whole)) (IsView-view viewer now (laid_out now (IsWhole-apply_all s actions whole v))) (views_agree viewer s actions whole v)

@@ -11,7 +11,7 @@ use Rattle.doc_model.specs.declared.view.ViewTable.{ViewTable}
 use Rattle.doc_model.specs.ByIds.{AreDistinct, by_id, find_id, has_id, IsByIds, put_by_id, precedes}
 use Rattle.doc_model.specs.Changes.{IsView, shown_table_id}
 use Rattle.doc_model.specs.Document.{Document, Table, table_id}
-use Rattle.doc_model.specs.DocumentLaws.{IsWhole}
+use Rattle.doc_model.specs.LaidOut.{IsLaidOut}
 use Rattle.doc_model.specs.Grid.{Grid}
 use Rattle.doc_model.specs.Rows.{has, IsAscending}
 use Rattle.doc_model.specs.Schema.{no_grid}
@@ -117,8 +117,8 @@ module _ (test : List ℕ → ℕ → Bool) where
 pub wanted_all : (viewer : Viewer) (s : Document) → wanted viewer None s ≡ view viewer s
 wanted_all viewer s = refl
 
-pub wanted_affected : (viewer : Viewer) (actions : List DocAction) (s : Document) → IsWhole s → wanted viewer (Some actions) s ≡ affected_part actions (view viewer s)
-wanted_affected viewer actions s whole =
+pub wanted_affected : (viewer : Viewer) (actions : List DocAction) (s : Document) → IsLaidOut s → wanted viewer (Some actions) s ≡ affected_part actions (view viewer s)
+wanted_affected viewer actions s laid =
     let seen : Table → Bool = λ t. is_shown viewer t.id in
     let affected : Table → Bool = λ t. is_affected actions t.id in
     let told : ViewTable → Bool = λ t. is_affected actions t.id in
@@ -126,7 +126,7 @@ wanted_affected viewer actions s whole =
     let cut : ViewTable → ViewTable = λ t. passing (is_row_affected actions t.id) t in
     sym (
     ap (map cut) (
-    filter-by_id shown_table_id told (map shown_table shown) (AreDistinct-shown shown (AreDistinct-filter table_id seen s whole.sound.distinct))
+    filter-by_id shown_table_id told (map shown_table shown) (AreDistinct-shown shown (AreDistinct-filter table_id seen s laid.distinct))
     ∙ ap (by_id shown_table_id) (filter-map told shown_table shown ∙ ap (map shown_table) (filter-filter affected seen s)))
     ∙ map-by_id (is_row_affected actions) (map shown_table (filter (λ t. affected t && seen t) s))
     ∙ ap (by_id shown_table_id) (
@@ -136,48 +136,48 @@ wanted_affected viewer actions s whole =
 
 -- ---- the part that a user action requests
 
-requested_found : (viewer : Viewer) (s : Document) → IsWhole s → (a : UserAction)
+requested_found : (viewer : Viewer) (s : Document) → IsLaidOut s → (a : UserAction)
     → requested_part a (view viewer s) ≡ map (passing (has (rows_requested a))) (option_to_list (cond (is_shown viewer (table_of a)) (option_map shown_table (find_id table_id (table_of a) s)) None))
-requested_found viewer s whole a =
+requested_found viewer s laid a =
     ap (map (passing (has (rows_requested a)))) (
     filter-one shown_table_id (table_of a) (view viewer s) (IsByIds-by_id shown_table_id (map shown_table (filter (λ (t : Table). is_shown viewer t.id) s)))
-    ∙ ap option_to_list (find_seen viewer s whole (table_of a)))
+    ∙ ap option_to_list (find_seen viewer s laid (table_of a)))
 
-pub requested_hidden : (viewer : Viewer) (s : Document) → IsWhole s → (a : UserAction) → is_shown viewer (table_of a) ≡ false → [] ≡ requested_part a (view viewer s)
-requested_hidden viewer s whole a hidden =
-    sym (requested_found viewer s whole a
+pub requested_hidden : (viewer : Viewer) (s : Document) → IsLaidOut s → (a : UserAction) → is_shown viewer (table_of a) ≡ false → [] ≡ requested_part a (view viewer s)
+requested_hidden viewer s laid a hidden =
+    sym (requested_found viewer s laid a
     ∙ ap (λ b. map (passing (has (rows_requested a))) (option_to_list (cond b (option_map shown_table (find_id table_id (table_of a) s)) None))) hidden)
 
-pub requested_nowhere : (viewer : Viewer) (s : Document) → IsWhole s → (a : UserAction) → find_id table_id (table_of a) s ≡ None → [] ≡ requested_part a (view viewer s)
-requested_nowhere viewer s whole a none =
-    sym (requested_found viewer s whole a
+pub requested_nowhere : (viewer : Viewer) (s : Document) → IsLaidOut s → (a : UserAction) → find_id table_id (table_of a) s ≡ None → [] ≡ requested_part a (view viewer s)
+requested_nowhere viewer s laid a none =
+    sym (requested_found viewer s laid a
     ∙ ap (λ o. map (passing (has (rows_requested a))) (option_to_list (cond (is_shown viewer (table_of a)) (option_map shown_table o) None))) none
     ∙ elim (is_shown viewer (table_of a)) as (λ b. map (passing (has (rows_requested a))) (option_to_list (cond b None None)) ≡ []) [ true ↦ refl | false ↦ refl ])
 
-pub requested_absent : (viewer : Viewer) (s : Document) → IsWhole s → (a : UserAction) → has_id table_id s (table_of a) ≡ false → [] ≡ requested_part a (view viewer s)
-requested_absent viewer s whole a none = requested_nowhere viewer s whole a (find_absent table_id (table_of a) s none)
+pub requested_absent : (viewer : Viewer) (s : Document) → IsLaidOut s → (a : UserAction) → has_id table_id s (table_of a) ≡ false → [] ≡ requested_part a (view viewer s)
+requested_absent viewer s laid a none = requested_nowhere viewer s laid a (find_absent table_id (table_of a) s none)
 
-pub requested_seen : (viewer : Viewer) (s : Document) → IsWhole s → (a : UserAction) → is_shown viewer (table_of a) ≡ true → has_id table_id s (table_of a) ≡ true
+pub requested_seen : (viewer : Viewer) (s : Document) → IsLaidOut s → (a : UserAction) → is_shown viewer (table_of a) ≡ true → has_id table_id s (table_of a) ≡ true
     → shown_with (table_of a) (grid_at s (table_of a)) (filter (has (rows_requested a)) (grid_at s (table_of a)).rows) ∷ [] ≡ requested_part a (view viewer s)
-requested_seen viewer s whole a seen there =
+requested_seen viewer s laid a seen there =
     let f : (t : Table) × (find_id table_id (table_of a) s ≡ Some t) = found_has table_id (table_of a) s there in
     let t : Table = f.0 in
     let its : grid_at s (table_of a) ≡ t.grid = ap (λ (o : Option Table). elim o as (λ _. Grid ColDef) [ None ↦ no_grid | Some t ↦ t.grid ]) f.1 in
     ap (λ g. shown_with (table_of a) g (filter (has (rows_requested a)) g.rows) ∷ []) its
     ∙ ap (λ i. shown_with i t.grid (filter (has (rows_requested a)) t.grid.rows) ∷ []) (sym (found_id table_id (table_of a) s t f.1))
     ∙ ap (λ w. w ∷ []) (sym (passing-shown (has (rows_requested a)) t))
-    ∙ sym (requested_found viewer s whole a
+    ∙ sym (requested_found viewer s laid a
     ∙ ap (λ b. map (passing (has (rows_requested a))) (option_to_list (cond b (option_map shown_table (find_id table_id (table_of a) s)) None))) seen
     ∙ ap (λ o. map (passing (has (rows_requested a))) (option_to_list (option_map shown_table o))) f.1)
 
 -- the table that was made of the rows that are requested
-module _ (viewer : Viewer) (s : Document) (whole : IsWhole s) (a : UserAction) (id wanted told rows seen : List ℕ) (t : ViewTable)
+module _ (viewer : Viewer) (s : Document) (laid : IsLaidOut s) (a : UserAction) (id wanted told rows seen : List ℕ) (t : ViewTable)
     (ascends : IsAscending told) (kept : rows ≡ filter (has wanted) told) (read : seen ≡ rows) (made : t ≡ shown_with id (grid_at s id) seen) where
   pub requested_made : id ≡ table_of a → is_shown viewer id ≡ true → has_id table_id s id ≡ true → told ≡ (grid_at s id).rows → wanted ≡ rows_requested a → t ∷ [] ≡ requested_part a (view viewer s)
   requested_made named shown there its named_rows =
       ap (λ w. w ∷ []) (made ∙ ap (shown_with id (grid_at s id)) (read ∙ kept ∙ ap (λ l. filter (has l) told) named_rows ∙ ap (filter (has (rows_requested a))) its))
       ∙ ap (λ i. shown_with i (grid_at s i) (filter (has (rows_requested a)) (grid_at s i).rows) ∷ []) named
-      ∙ requested_seen viewer s whole a (ap (is_shown viewer) (sym named) ∙ shown) (ap (has_id table_id s) (sym named) ∙ there)
+      ∙ requested_seen viewer s laid a (ap (is_shown viewer) (sym named) ∙ shown) (ap (has_id table_id s) (sym named) ∙ there)
 
   pub requested_is_view : IsView (t ∷ [])
   requested_is_view =

@@ -8,7 +8,7 @@ use Rattle.doc_model.specs.declared.view.ViewTable.{ViewTable}
 use Rattle.doc_model.specs.ByIds.{by_id, has_id, put_by_id}
 use Rattle.doc_model.specs.Changes.{shown_table_id}
 use Rattle.doc_model.specs.Document.{Document, Table, table_id}
-use Rattle.doc_model.specs.DocumentLaws.{IsWhole}
+use Rattle.doc_model.specs.LaidOut.{IsLaidOut}
 use Rattle.doc_model.specs.Grid.{Grid}
 use Rattle.doc_model.specs.Schema.{no_grid}
 use Rattle.doc_model.proofs.ByIdsLaws.{has_id-by_id, has_id-map}
@@ -39,14 +39,14 @@ is_taken viewer o t = is_wanted o t.id && is_shown viewer t.id
 abbrev pub taken : Viewer → Option (List DocAction) → Document → ℕ → List ViewTable
 taken viewer o s k = by_id shown_table_id (map (table_wanted o) (filter (is_taken viewer o) (take k s)))
 
-module _ (viewer : Viewer) (o : Option (List DocAction)) (s : Document) (whole : IsWhole s) (ids : List (List ℕ)) (k : ℕ) (id : List ℕ) (ys : List ViewTable) (named : ids ≡ map table_id s) (lt : k < length ids) (at : id ≡ get_or ids k id) (so : ys ≡ taken viewer o s k) where
+module _ (viewer : Viewer) (o : Option (List DocAction)) (s : Document) (laid : IsLaidOut s) (ids : List (List ℕ)) (k : ℕ) (id : List ℕ) (ys : List ViewTable) (named : ids ≡ map table_id s) (lt : k < length ids) (at : id ≡ get_or ids k id) (so : ys ≡ taken viewer o s k) where
   here : (t : Table) × (slice_get s k ≡ Some t) × (id ≡ t.id)
   here = named_at s k id id (omega (arith, lt, ap length named)) (at ∙ ap (λ l. get_or l k id) named)
 
   absent : has_id shown_table_id (map (table_wanted o) (filter (is_taken viewer o) (take k s))) here.0.id ≡ false
   absent =
       has_id-map shown_table_id (table_wanted o) (filter (is_taken viewer o) (take k s)) here.0.id
-      ∙ absent-filter table_id (is_taken viewer o) (take k s) here.0.id (absent_before table_id s k here.0 whole.sound.distinct here.1)
+      ∙ absent-filter table_id (is_taken viewer o) (take k s) here.0.id (absent_before table_id s k here.0 laid.distinct here.1)
 
   pub table_new : has_id shown_table_id ys id ≡ false
   table_new =
@@ -58,7 +58,7 @@ module _ (viewer : Viewer) (o : Option (List DocAction)) (s : Document) (whole :
   built : shown_with id (grid_at s id) (rows_wanted o id (grid_at s id).rows) ≡ table_wanted o here.0
   built =
       let t : Table = here.0 in
-      let its : grid_at s t.id ≡ t.grid = ap (λ (o : Option Table). elim o as (λ _. Grid ColDef) [ None ↦ no_grid | Some t ↦ t.grid ]) (found_at table_id s k t whole.sound.distinct here.1) in
+      let its : grid_at s t.id ≡ t.grid = ap (λ (o : Option Table). elim o as (λ _. Grid ColDef) [ None ↦ no_grid | Some t ↦ t.grid ]) (found_at table_id s k t laid.distinct here.1) in
       ap (λ i. shown_with i (grid_at s i) (rows_wanted o i (grid_at s i).rows)) here.2
       ∙ ap (λ g. shown_with t.id g (rows_wanted o t.id g.rows)) its
 

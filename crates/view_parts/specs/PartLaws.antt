@@ -7,15 +7,16 @@ use Rattle.doc_model.specs.Apply.{apply_all, all_valid}
 use Rattle.doc_model.specs.Changes.{IsView, changes}
 use Rattle.doc_model.specs.Document.{Document}
 use Rattle.doc_model.specs.DocumentLaws.{IsWhole}
+use Rattle.doc_model.specs.LaidOut.{HaveSameParts, IsLaidOut}
 use Rattle.user_actions.specs.Allowed.{is_allowed}
 use Rattle.user_actions.specs.Objections.{objection_to}
 use Rattle.view_parts.specs.declared.viewers.Viewer.{Viewer}
 use Rattle.view_parts.specs.Shown.{view}
 use Rattle.view_parts.specs.Parts.{affected_part, requested_part}
 
--- a view of a whole document is a view
+-- a view of a document is a view
 abbrev pub ViewLaw : Type 0
-ViewLaw = (viewer : Viewer) (s : Document) → IsWhole s → IsView (view viewer s)
+ViewLaw = (viewer : Viewer) (s : Document) → IsLaidOut s → IsView (view viewer s)
 
 -- the part that actions are about tells all the changes that they make
 abbrev pub PartLaw : Type 0
@@ -31,9 +32,10 @@ abbrev pub RequestedLaw : Type 0
 RequestedLaw = (v : List ViewTable) (a : UserAction) → objection_to (requested_part a v) a
     ≡ objection_to v a
 
--- the document allows what nothing stands against in a view of it
+-- a document allows what nothing stands against in a view of it, or of what it evaluates to: that
+-- has the same tables, columns and rows
 abbrev pub AllowedLaw : Type 0
 AllowedLaw =
-    (viewer : Viewer) (s : Document) (a : UserAction) → IsWhole s → objection_to (view viewer s) a
-    ≡ None
+    (viewer : Viewer) (s t : Document) (a : UserAction) → HaveSameParts s t → IsLaidOut t
+    → objection_to (view viewer t) a ≡ None
     → is_allowed s a ≡ true

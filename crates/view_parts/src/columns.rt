@@ -4,14 +4,14 @@ ghost use Rattle.std.specs.Prelude.{◌≡◌, ◌+◌, false, length, IfOk, OnO
 ghost use Rattle.std.specs.List.{position};
 ghost use Rattle.doc_model.specs.declared.view.ViewCol.{ViewCol};
 ghost use Rattle.doc_model.specs.ByIds.{has_id, put_by_id, precedes};
-ghost use Rattle.doc_model.specs.DocumentLaws.{IsWhole};
+ghost use Rattle.doc_model.specs.LaidOut.{IsLaidOut};
 ghost use Rattle.doc_model.specs.ViewEdits.{shown_id};
 ghost use Rattle.doc_readers.specs.Parts.{grid_at};
 ghost use Rattle.view_parts.specs.Shown.{shown_column};
 ghost use Rattle.view_parts.specs.Wanted.{columns_of};
 
 use cell_types::Name;
-use doc_model::{ColDef, DocTables, ViewCol};
+use doc_model::{ColDef, DocReader, ViewCol};
 use std::alloc::{AllocError, Global};
 
 fn shown_column(column: &ColDef) -> Result<ViewCol, AllocError>
@@ -46,12 +46,12 @@ fn put_column(columns: &mut Vec<ViewCol>, column: ViewCol) -> Result<(), AllocEr
 /// The columns of a table, by id.
 ///
 /// Errors: out of memory. Cost: the square of the columns.
-pub(crate) fn shown_columns<D: DocTables>(
+pub(crate) fn shown_columns<D: DocReader>(
     alloc: Global,
     tables: &D,
     table: &Name,
 ) -> Result<Vec<ViewCol>, AllocError>
-    requires { IsWhole (D.document tables.now) }
+    requires { IsLaidOut (D.document tables.now) }
     ensures { IfOk result (λ l. l.items ≡ columns_of (grid_at (D.document tables.now) table.now)) }
 {
     let mut columns = Vec::new(alloc);

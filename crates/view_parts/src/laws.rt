@@ -4,7 +4,7 @@ ghost use Rattle.view_parts.specs.PartLaws.{AllowedLaw, RequestedLaw, PartLaw, V
 
 use user_actions::{one_table_law, unopposed_law};
 
-/// A view of a whole document is a view.
+/// A view of a document is a view.
 pub fn view_law()
     ensures { ViewLaw }
 {}
@@ -21,7 +21,7 @@ pub fn requested_law()
     one_table_law();
 }
 
-/// The document allows what nothing stands against in a view of it.
+/// A document allows what nothing stands against in a view of it, or of what it evaluates to.
 pub fn allowed_law()
     ensures { AllowedLaw }
 {

@@ -1,13 +1,14 @@
 //! Views of a document, and the parts of them that actions are about.
 //!
-//! Stands on `doc_model` (documents, views and changes), `doc_readers` (what a store tells) and
+//! Stands on `doc_model` (documents, views and changes), `doc_readers` (what a document tells) and
 //! `user_actions` (what stands against a user action). Used by the core.
 //!
 //! Promises: `whole_view` is what a viewer sees of a document. `affected_view` is the part of
 //! it that actions are about, and `part_law` says that this part tells all the changes that they
 //! make. `requested_view` is the part that a user action names, and `requested_law` says that what
-//! stands against the action rests on it alone. `view_law`: each is a view. `allowed_law`: the
-//! document allows what nothing stands against in such a view. `rows_shown` and `is_column_shown`
+//! stands against the action rests on it alone. `view_law`: each is a view. `allowed_law`: a
+//! document allows what nothing stands against in a view of it, or of what it evaluates to.
+//! `rows_shown` and `is_column_shown`
 //! tell of such a view without making it, and take no memory.
 //! Costs: `affected_view` and `requested_view` cost the rows that are named, not those of the
 //! table, unless a schema action names it; and the square of a table's columns.

@@ -4,7 +4,7 @@ ghost use Rattle.std.specs.Prelude.{◌≡◌, IfOk, MatchOption};
 ghost use Rattle.std.specs.Option.{option_to_list};
 ghost use Rattle.cell_types.specs.NameLength.{HasNameLength};
 ghost use Rattle.doc_model.specs.Changes.{IsView};
-ghost use Rattle.doc_model.specs.DocumentLaws.{IsWhole};
+ghost use Rattle.doc_model.specs.LaidOut.{IsLaidOut};
 ghost use Rattle.user_actions.specs.Kinds.{table_of};
 ghost use Rattle.view_parts.specs.Parts.{requested_part, affected_part, rows_requested};
 ghost use Rattle.view_parts.specs.Shown.{view};
@@ -14,7 +14,7 @@ use crate::tables::shown_with;
 use crate::viewers::Viewer;
 use crate::wanted::wanted_tables;
 use cell_types::{CellText, Name};
-use doc_model::{DocAction, DocTables, UserAction, View, ViewTable, ViewTableList};
+use doc_model::{DocAction, DocReader, UserAction, View, ViewTable, ViewTableList};
 use doc_readers::{has_table, rows_in};
 use std::alloc::{AllocError, Global};
 use user_actions::{row_ids, table_of};
@@ -24,13 +24,13 @@ use user_actions::{row_ids, table_of};
 ///
 /// Errors: out of memory. Cost: the cells of those rows, and of whole tables for schema actions;
 /// and the tables times the actions.
-pub fn affected_view<D: DocTables>(
+pub fn affected_view<D: DocReader>(
     alloc: Global,
     tables: &D,
     viewer: Viewer,
     actions: &[DocAction],
 ) -> Result<View, AllocError>
-    requires whole { IsWhole (D.document tables.now) }
+    requires laid_out { IsLaidOut (D.document tables.now) }
     ensures tables { IfOk result (λ v. v.tables
         ≡ affected_part actions.now (view viewer (D.document tables.now))) }
     ensures is_view { IfOk result (λ v. IsView v.tables) }
@@ -63,14 +63,14 @@ fn rows_requested(alloc: Global, action: &UserAction) -> Result<Vec<u32>, AllocE
 }
 
 // The table of this id, which the action names, where it is there to be seen.
-fn named_table<D: DocTables>(
+fn named_table<D: DocReader>(
     alloc: Global,
     tables: &D,
     viewer: Viewer,
     action: &UserAction,
     id: &Name,
 ) -> Result<Option<ViewTable>, AllocError>
-    requires whole { IsWhole (D.document tables.now) }
+    requires laid_out { IsLaidOut (D.document tables.now) }
     requires named { id.now ≡ table_of action.now }
     ensures table { IfOk result (λ o. option_to_list o
         ≡ requested_part action.now (view viewer (D.document tables.now))) }
@@ -86,13 +86,13 @@ fn named_table<D: DocTables>(
     Ok(Some(shown_with(alloc, tables, id, rows.as_slice())?))
 }
 
-fn requested_table<D: DocTables>(
+fn requested_table<D: DocReader>(
     alloc: Global,
     tables: &D,
     viewer: Viewer,
     action: &UserAction,
 ) -> Result<Option<ViewTable>, AllocError>
-    requires { IsWhole (D.document tables.now) }
+    requires { IsLaidOut (D.document tables.now) }
     ensures table { IfOk result (λ o. option_to_list o
         ≡ requested_part action.now (view viewer (D.document tables.now))) }
     ensures is_view { IfOk result (λ o. IsView (option_to_list o)) }
@@ -106,13 +106,13 @@ fn requested_table<D: DocTables>(
 /// The table that a user action names, as a viewer sees it, with the rows that the action names.
 ///
 /// Errors: out of memory. Cost: the cells of those rows.
-pub fn requested_view<D: DocTables>(
+pub fn requested_view<D: DocReader>(
     alloc: Global,
     tables: &D,
     viewer: Viewer,
     action: &UserAction,
 ) -> Result<View, AllocError>
-    requires whole { IsWhole (D.document tables.now) }
+    requires laid_out { IsLaidOut (D.document tables.now) }
     ensures tables { IfOk result (λ v. v.tables
         ≡ requested_part action.now (view viewer (D.document tables.now))) }
     ensures is_view { IfOk result (λ v. IsView v.tables) }

@@ -6,20 +6,20 @@ ghost use Rattle.doc_model.specs.declared.view.ViewTable.{ViewTable};
 ghost use Rattle.doc_model.specs.ByIds.{has_id, put_by_id, precedes};
 ghost use Rattle.doc_model.specs.Changes.{shown_table_id};
 ghost use Rattle.doc_model.specs.Document.{table_id};
-ghost use Rattle.doc_model.specs.DocumentLaws.{IsWhole};
+ghost use Rattle.doc_model.specs.LaidOut.{IsLaidOut};
 ghost use Rattle.doc_readers.specs.Parts.{grid_at};
 ghost use Rattle.view_parts.specs.Wanted.{cells_at, shown_with};
 
 use crate::columns::shown_columns;
 use cell_types::{Name, RowList, ValueList};
-use doc_model::{CellRowList, DocTables, ViewCol, ViewColList, ViewTable};
+use doc_model::{CellRowList, DocReader, ViewCol, ViewColList, ViewTable};
 use doc_readers::cell_in;
 use std::alloc::{AllocError, Global};
 
 /// The ids of all tables, in the order of the document.
 ///
 /// Errors: out of memory. Cost: the tables.
-pub(crate) fn table_ids<D: DocTables>(alloc: Global, tables: &D) -> Result<Vec<Name>, AllocError>
+pub(crate) fn table_ids<D: DocReader>(alloc: Global, tables: &D) -> Result<Vec<Name>, AllocError>
     ensures { IfOk result (λ v. v.items ≡ map table_id (D.document tables.now)) }
 {
     let mut ids = Vec::new(alloc);
@@ -29,7 +29,7 @@ pub(crate) fn table_ids<D: DocTables>(alloc: Global, tables: &D) -> Result<Vec<N
     Ok(ids)
 }
 
-fn row_cells<D: DocTables>(
+fn row_cells<D: DocReader>(
     alloc: Global,
     tables: &D,
     table: &Name,
@@ -46,7 +46,7 @@ fn row_cells<D: DocTables>(
     Ok(ValueList::from(values))
 }
 
-fn all_cells<D: DocTables>(
+fn all_cells<D: DocReader>(
     alloc: Global,
     tables: &D,
     table: &Name,
@@ -66,13 +66,13 @@ fn all_cells<D: DocTables>(
 /// A table as it is seen, with these rows alone.
 ///
 /// Errors: out of memory. Cost: the cells of these rows, and the square of the columns.
-pub(crate) fn shown_with<D: DocTables>(
+pub(crate) fn shown_with<D: DocReader>(
     alloc: Global,
     tables: &D,
     table: &Name,
     rows: &[u32],
 ) -> Result<ViewTable, AllocError>
-    requires { IsWhole (D.document tables.now) }
+    requires { IsLaidOut (D.document tables.now) }
     ensures { IfOk result (λ t. t
         ≡ shown_with table.now (grid_at (D.document tables.now) table.now) rows.now) }
 {

@@ -4,7 +4,7 @@ ghost use Rattle.std.specs.Prelude.{◌≡◌, false, filter, IfOk, OnOk};
 ghost use Rattle.std.specs.Option.{option_copied};
 ghost use Rattle.doc_model.specs.ByIds.{has_id};
 ghost use Rattle.doc_model.specs.Changes.{shown_table_id};
-ghost use Rattle.doc_model.specs.DocumentLaws.{IsWhole};
+ghost use Rattle.doc_model.specs.LaidOut.{IsLaidOut};
 ghost use Rattle.doc_model.specs.Rows.{IsAscending};
 ghost use Rattle.view_parts.specs.Parts.{is_row_affected, is_affected, names_table};
 ghost use Rattle.view_parts.specs.Wanted.{is_about_all, is_wholly_affected, is_wanted, rows_named, rows_of, rows_wanted, wanted, wanted_at, with_wanted};
@@ -13,7 +13,7 @@ use crate::rows::rows_among;
 use crate::tables::{put_table, shown_with, table_ids};
 use crate::viewers::Viewer;
 use cell_types::Name;
-use doc_model::{DocAction, DocTables, ViewTable};
+use doc_model::{DocAction, DocReader, ViewTable};
 use doc_readers::rows_in;
 use std::alloc::{AllocError, Global};
 
@@ -131,13 +131,13 @@ fn wanted_rows(
     Ok(rows)
 }
 
-fn table_wanted<D: DocTables>(
+fn table_wanted<D: DocReader>(
     alloc: Global,
     tables: &D,
     actions: Option<&[DocAction]>,
     id: &Name,
 ) -> Result<ViewTable, AllocError>
-    requires { IsWhole (D.document tables.now) }
+    requires { IsLaidOut (D.document tables.now) }
     ensures { IfOk result (λ t. t ≡ wanted_at (option_copied actions.entry)
         (D.document tables.now) id.now) }
 {
@@ -147,7 +147,7 @@ fn table_wanted<D: DocTables>(
 }
 
 // Puts the table in its place where it is wanted and seen.
-fn put_wanted<D: DocTables>(
+fn put_wanted<D: DocReader>(
     alloc: Global,
     tables: &D,
     viewer: Viewer,
@@ -155,7 +155,7 @@ fn put_wanted<D: DocTables>(
     id: &Name,
     shown: &mut Vec<ViewTable>,
 ) -> Result<(), AllocError>
-    requires whole { IsWhole (D.document tables.now) }
+    requires laid_out { IsLaidOut (D.document tables.now) }
     requires new { has_id shown_table_id shown.old.items id.now ≡ false }
     ensures { OnOk result (shown.new.items ≡ with_wanted viewer (option_copied actions.entry)
         (D.document tables.now) id.now shown.old.items) }
@@ -172,13 +172,13 @@ fn put_wanted<D: DocTables>(
 ///
 /// Errors: out of memory. Cost: the cells of their wanted rows, the square of the tables, and the
 /// tables times the actions.
-pub(crate) fn wanted_tables<D: DocTables>(
+pub(crate) fn wanted_tables<D: DocReader>(
     alloc: Global,
     tables: &D,
     viewer: Viewer,
     actions: Option<&[DocAction]>,
 ) -> Result<Vec<ViewTable>, AllocError>
-    requires { IsWhole (D.document tables.now) }
+    requires { IsLaidOut (D.document tables.now) }
     ensures { IfOk result (λ l. l.items ≡ wanted viewer (option_copied actions.entry)
         (D.document tables.now)) }
 {

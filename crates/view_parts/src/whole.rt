@@ -2,26 +2,26 @@
 
 ghost use Rattle.std.specs.Prelude.{◌≡◌, IfOk, IfSome, MatchOption, None, Some};
 ghost use Rattle.doc_model.specs.Changes.{IsView};
-ghost use Rattle.doc_model.specs.DocumentLaws.{IsWhole};
+ghost use Rattle.doc_model.specs.LaidOut.{IsLaidOut};
 ghost use Rattle.doc_model.specs.Rows.{IsAscending};
 ghost use Rattle.view_parts.specs.Shown.{is_column_shown, rows_shown, view};
 
 use crate::viewers::Viewer;
 use crate::wanted::wanted_tables;
 use cell_types::Name;
-use doc_model::{DocTables, View, ViewTableList};
+use doc_model::{DocReader, View, ViewTableList};
 use doc_readers::has_column;
 use std::alloc::{AllocError, Global};
 
 /// What a viewer sees of a document.
 ///
 /// Errors: out of memory. Cost: all cells that are seen.
-pub fn whole_view<D: DocTables>(
+pub fn whole_view<D: DocReader>(
     alloc: Global,
     tables: &D,
     viewer: Viewer,
 ) -> Result<View, AllocError>
-    requires whole { IsWhole (D.document tables.now) }
+    requires laid_out { IsLaidOut (D.document tables.now) }
     ensures tables { IfOk result (λ v. v.tables ≡ view viewer (D.document tables.now)) }
     ensures is_view { IfOk result (λ v. IsView v.tables) }
 {
@@ -34,12 +34,12 @@ pub fn whole_view<D: DocTables>(
 /// The rows of a table as a viewer sees it, none where it sees no such table.
 ///
 /// Memory: none. Cost: that of the store.
-pub fn rows_shown<'a, D: DocTables>(
+pub fn rows_shown<'a, D: DocReader>(
     tables: &'a D,
     viewer: Viewer,
     table: &Name,
 ) -> Option<&'a [u32]>
-    requires whole { IsWhole (D.document tables.now) }
+    requires laid_out { IsLaidOut (D.document tables.now) }
     ensures rows { MatchOption result
         (rows_shown (view viewer (D.document tables.now)) table.now ≡ None)
         (λ rows. rows_shown (view viewer (D.document tables.now)) table.now ≡ Some rows.now) }
@@ -54,13 +54,13 @@ pub fn rows_shown<'a, D: DocTables>(
 /// Whether a viewer sees the column in the table.
 ///
 /// Memory: none. Cost: linear in the columns of the table.
-pub fn is_column_shown<D: DocTables>(
+pub fn is_column_shown<D: DocReader>(
     tables: &D,
     viewer: Viewer,
     table: &Name,
     column: &Name,
 ) -> bool
-    requires whole { IsWhole (D.document tables.now) }
+    requires laid_out { IsLaidOut (D.document tables.now) }
     ensures { result ≡ is_column_shown (view viewer (D.document tables.now)) table.now column.now }
 {
     viewer.sees(table) && has_column(tables, table, column)

@@ -21,6 +21,7 @@ fn new_document(alloc: Global) -> Result<RowTables, AllocError>
     RowTables::new_document(alloc)
 }
 
+#[tactic(auto, using(doc_model::proofs::LaidOutLaws::laid_out))]
 fn is_shown(document: &RowTables, owner: bool, table: &Name, column: &Name) -> bool
     requires { IsWhole document.now }
 {
@@ -88,6 +89,7 @@ fn is_first(view: &Result<View, AllocError>, want: &str) -> bool {
     }
 }
 
+#[tactic(auto, using(doc_model::proofs::LaidOutLaws::laid_out))]
 fn is_requested(alloc: Global, document: &RowTables, action: &UserAction, want: &str) -> bool
     requires { IsWhole document.now }
 {

@@ -9,5 +9,5 @@ use Rattle.action_inverse.proofs.cells.data_columns.Given as goal
 abbrev pub invariant-loop-column : goal.invariant-loop-column
 invariant-loop-column g l =
     l.data.items
-    ≡ map (λ (d : ColDef). column_of column_id (grid_at (g.D.DocTables.document l.tables) l.table) l.rows d.id)
+    ≡ map (λ (d : ColDef). column_of column_id (grid_at (g.D.DocReader.document l.tables) l.table) l.rows d.id)
     (filter (λ (d : ColDef). not d.info.is_formula) (take l.column-index l.columns))

@@ -17,11 +17,11 @@ use Rattle.action_limits.proofs.expansion.add_expansion.Goals as goal
 pub name_of-requires : goal.name_of-requires
 name_of-requires g c =
     ap is_name c.table_of.ensures
-    ∙ action_named (g.D.DocTables.document c.args.tables.now) c.requires.whole c.args.action.now c.requires.allowed
+    ∙ action_named (g.D.DocReader.document c.args.tables.now) c.requires.whole c.args.action.now c.requires.allowed
 
 pub returns-in-Some : goal.returns-in-Some
 returns-in-Some g c =
-    let s = g.D.DocTables.document c.args.tables.now in
+    let s = g.D.DocReader.document c.args.tables.now in
     let a = c.args.action.now in
     let ok : all_valid s (map action_of (steps_of s a)) ≡ true = all_valid-steps_of s c.requires.whole a c.requires.allowed c.requires.well_formed (add_fresh s a c.args.count c.requires.adds) in
     let named : c.in_ok-table.table ≡ table_of a = c.in_ok-table.ensures ∙ c.table_of.ensures in
@@ -34,7 +34,7 @@ returns-in-Some g c =
 
 pub returns : goal.returns
 returns g c =
-    let s = g.D.DocTables.document c.args.tables.now in
+    let s = g.D.DocReader.document c.args.tables.now in
     let a = c.args.action.now in
     let ok : all_valid s (map action_of (steps_of s a)) ≡ true = all_valid-steps_of s c.requires.whole a c.requires.allowed c.requires.well_formed (add_fresh s a c.args.count c.requires.adds) in
     let named : c.in_ok-table.table ≡ table_of a = c.in_ok-table.ensures ∙ c.table_of.ensures in

@@ -9,7 +9,7 @@ use Rattle.action_limits.proofs.expansion.maxima_after_steps.Goals as goal
 
 pub maxima_after-requires : goal.maxima_after-requires
 maxima_after-requires g c =
-    let s = g.D.DocTables.document c.args.tables.now in
+    let s = g.D.DocReader.document c.args.tables.now in
     let steps = c.args.steps.now in
     let x = c.index-steps-0.result in
     record {
@@ -20,11 +20,11 @@ maxima_after-requires g c =
 
 pub returns-then-steps-eq1 : goal.returns-then-steps-eq1
 returns-then-steps-eq1 g c =
-    let s = g.D.DocTables.document c.args.tables.now in
+    let s = g.D.DocReader.document c.args.tables.now in
     let x = c.index-steps-0.result in
     subst (λ l. TellsMaxima c.maxima_after.result (apply_all s (map action_of l))) (sym (only_one c.args.steps.now x c.if-steps-eq1.true c.index-steps-0.is))
     (subst (λ (y : Step). TellsMaxima c.maxima_after.result (apply s y.action)) (sym c.index-steps-0.is) c.maxima_after.ensures)
 
 pub returns : goal.returns
 returns g c =
-    kept_maxima (g.D.DocTables.document c.args.tables.now) c.args.steps.now c.maxima_before.result c.requires.whole c.requires.valid c.requires.quiet c.if-steps-eq1.false c.maxima_before.ensures
+    kept_maxima (g.D.DocReader.document c.args.tables.now) c.args.steps.now c.maxima_before.result c.requires.whole c.requires.valid c.requires.quiet c.if-steps-eq1.false c.maxima_before.ensures

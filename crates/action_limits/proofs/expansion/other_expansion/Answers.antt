@@ -12,7 +12,7 @@ use Rattle.action_limits.proofs.expansion.other_expansion.Goals as goal
 
 pub after_steps-sums-requires : goal.after_steps-sums-requires
 after_steps-sums-requires g c =
-    let s = g.D.DocTables.document c.args.tables.now in
+    let s = g.D.DocReader.document c.args.tables.now in
     let a = c.args.action.now in
     let made : c.as_slice.result.now ≡ steps_of s a = c.as_slice.ensures ∙ rw c.in-Some.is at c.in_ok-steps.ensures.made in
     let told : TellsSteps s c.sums_of.result (steps_of s a) = other_told s a c.sums_of.result c.requires.whole c.requires.other (exact_from s c.args.tally c.sums_of.result c.requires.tally c.sums_of.ensures) c.in_ok-steps.ensures.valid in
@@ -24,7 +24,7 @@ after_steps-sums-requires g c =
 
 pub maxima_after_steps-most-requires : goal.maxima_after_steps-most-requires
 maxima_after_steps-most-requires g c =
-    let s = g.D.DocTables.document c.args.tables.now in
+    let s = g.D.DocReader.document c.args.tables.now in
     let a = c.args.action.now in
     let made : c.as_slice-2.result.now ≡ steps_of s a = c.as_slice-2.ensures ∙ rw c.in-Some.is at c.in_ok-steps.ensures.made in
     record {
@@ -36,7 +36,7 @@ maxima_after_steps-most-requires g c =
 
 pub returns : goal.returns
 returns g c =
-    let s = g.D.DocTables.document c.args.tables.now in
+    let s = g.D.DocReader.document c.args.tables.now in
     let a = c.args.action.now in
     let made : c.in-Some.steps ≡ steps_of s a = rw c.in-Some.is at c.in_ok-steps.ensures.made in
     let told : TellsSteps s c.sums_of.result (steps_of s a) = other_told s a c.sums_of.result c.requires.whole c.requires.other (exact_from s c.args.tally c.sums_of.result c.requires.tally c.sums_of.ensures) c.in_ok-steps.ensures.valid in

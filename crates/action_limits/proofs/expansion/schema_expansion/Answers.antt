@@ -18,11 +18,11 @@ use Rattle.action_limits.proofs.expansion.schema_expansion.Goals as goal
 pub name_of-requires : goal.name_of-requires
 name_of-requires g c =
     ap is_name c.table_of.ensures
-    ∙ action_named (g.D.DocTables.document c.args.tables.now) c.requires.whole c.args.action.now c.requires.allowed
+    ∙ action_named (g.D.DocReader.document c.args.tables.now) c.requires.whole c.args.action.now c.requires.allowed
 
 pub unreachable-requires : goal.unreachable-requires
 unreachable-requires g c =
-    let s = g.D.DocTables.document c.args.tables.now in
+    let s = g.D.DocReader.document c.args.tables.now in
     let a = c.args.action.now in
     let past : 4294967295 < last_new_row s a = rw c.in_default.is at c.in_ok-steps.ensures.made in
     let seen : 4294967295 < c.maxima_grown-grown.result.row_id = grown_last s a c.maxima_grown-grown.result c.requires.grows c.maxima_grown-grown.ensures past in
@@ -34,7 +34,7 @@ unreachable-requires g c =
 
 pub returns-in_default : goal.returns-in_default
 returns-in_default g c =
-    let s = g.D.DocTables.document c.args.tables.now in
+    let s = g.D.DocReader.document c.args.tables.now in
     let a = c.args.action.now in
     let ok : all_valid s (map action_of (steps_of s a)) ≡ true = c.in_ok-steps.ensures.valid in
     let more : TellsMore c.maxima_grown-grown.result s (after s a) = grown_maxima s a c.maxima_grown-grown.result c.requires.whole c.requires.grows ok c.maxima_grown-grown.ensures in
@@ -48,7 +48,7 @@ returns-in_default g c =
 
 pub returns : goal.returns
 returns g c =
-    let s = g.D.DocTables.document c.args.tables.now in
+    let s = g.D.DocReader.document c.args.tables.now in
     let a = c.args.action.now in
     let made : c.in-Some.steps ≡ steps_of s a = rw c.in-Some.is at c.in_ok-steps.ensures.made in
     let ok : all_valid s (map action_of (steps_of s a)) ≡ true = c.in_ok-steps.ensures.valid in

@@ -4,4 +4,4 @@ use Rattle.action_limits.specs.Capped.{capped, counted_cells}
 use Rattle.action_limits.proofs.limits.all_cells.Given as goal
 
 abbrev pub invariant-loop-index : goal.invariant-loop-index
-invariant-loop-index g l = l.cells ≡ capped (sum_of counted_cells (take l.index (g.D.DocTables.document l.tables)))
+invariant-loop-index g l = l.cells ≡ capped (sum_of counted_cells (take l.index (g.D.DocReader.document l.tables)))

@@ -10,14 +10,14 @@ use Rattle.action_limits.proofs.limits.all_weight.Goals as goal
 
 pub loop-index-preserved : goal.loop-index-preserved
 loop-index-preserved g c =
-    let s = g.D.DocTables.document c.args.tables.now in
+    let s = g.D.DocReader.document c.args.tables.now in
     let within : c.loop-index.index < length s = omega (arith, c.table_count-index-end.ensures.all, c.loop-index-test.true) in
     capped_step counted_weight s c.loop-index.index no_table (table_in s c.loop-index.index) c.loop-index.weight c.saturating_add-weight.result c.counted_weight.result
     within refl c.loop-index.invariant c.counted_weight.ensures c.saturating_add-weight.ensures
 
 pub returns : goal.returns
 returns g c =
-    let s = g.D.DocTables.document c.args.tables.now in
+    let s = g.D.DocReader.document c.args.tables.now in
     let all : take c.loop-index.index s ≡ s = taken_all s c.loop-index.index (omega (arith, c.table_count-index-end.ensures.all, c.loop-index-test.false)) in
     c.loop-index.invariant
     ∙ ap (λ ts. capped (sum_of counted_weight ts)) all

@@ -10,7 +10,7 @@ use Rattle.action_limits.proofs.limits.greatest_maxima.Goals as goal
 
 pub loop-index-preserved : goal.loop-index-preserved
 loop-index-preserved g c =
-    let s = g.D.DocTables.document c.args.tables.now in
+    let s = g.D.DocReader.document c.args.tables.now in
     let within : c.loop-index.index < length s = omega (arith, c.table_count-index-end.ensures.all, c.loop-index-test.true) in
     record {
       columns = greatest_step (λ (t : Table). length t.grid.columns) s c.loop-index.index no_table (table_in s c.loop-index.index) c.loop-index.most.columns c.wider-most.result.columns c.table_maxima.result.columns
@@ -27,18 +27,18 @@ loop-index-preserved g c =
 
 pub returns-clause-columns : goal.returns-clause-columns
 returns-clause-columns g c =
-    let s = g.D.DocTables.document c.args.tables.now in
+    let s = g.D.DocReader.document c.args.tables.now in
     let all : take c.loop-index.index s ≡ s = taken_all s c.loop-index.index (omega (arith, c.table_count-index-end.ensures.all, c.loop-index-test.false)) in
     c.loop-index.invariant.columns ∙ ap (λ ts. greatest (map (λ (t : Table). length t.grid.columns) ts)) all
 
 pub returns-clause-rows : goal.returns-clause-rows
 returns-clause-rows g c =
-    let s = g.D.DocTables.document c.args.tables.now in
+    let s = g.D.DocReader.document c.args.tables.now in
     let all : take c.loop-index.index s ≡ s = taken_all s c.loop-index.index (omega (arith, c.table_count-index-end.ensures.all, c.loop-index-test.false)) in
     c.loop-index.invariant.rows ∙ ap (λ ts. greatest (map (λ (t : Table). length t.grid.rows) ts)) all
 
 pub returns-clause-row_id : goal.returns-clause-row_id
 returns-clause-row_id g c =
-    let s = g.D.DocTables.document c.args.tables.now in
+    let s = g.D.DocReader.document c.args.tables.now in
     let all : take c.loop-index.index s ≡ s = taken_all s c.loop-index.index (omega (arith, c.table_count-index-end.ensures.all, c.loop-index-test.false)) in
     c.loop-index.invariant.row_id ∙ ap (λ ts. greatest (map (λ (t : Table). greatest t.grid.rows) ts)) all

@@ -5,7 +5,7 @@ use Rattle.action_limits.proofs.limits.greatest_maxima.Given as goal
 
 abbrev pub invariant-loop-index : goal.invariant-loop-index
 invariant-loop-index g l =
-    let seen = take l.index (g.D.DocTables.document l.tables) in
+    let seen = take l.index (g.D.DocReader.document l.tables) in
     record {
       columns : l.most.columns ≡ greatest (map (λ (t : Table). length t.grid.columns) seen);
       rows : l.most.rows ≡ greatest (map (λ (t : Table). length t.grid.rows) seen);

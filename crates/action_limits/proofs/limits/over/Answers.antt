@@ -7,7 +7,7 @@ use Rattle.action_limits.proofs.limits.over.Goals as goal
 
 pub returns : goal.returns
 returns g c =
-    let s = g.D.DocTables.document c.args.tables.now in
+    let s = g.D.DocReader.document c.args.tables.now in
     let told = c.counts_of.ensures in
     c.first_passed.ensures ∙ first_passed-same (noted c.counts_of.result) (counts s) (record {
       tables = ap (ltb 2048) told.tables;

@@ -9,14 +9,14 @@ use Rattle.action_limits.proofs.maxima.maxima_after.Goals as goal
 
 pub returns-then-within : goal.returns-then-within
 returns-then-within g c =
-    let s = g.D.DocTables.document c.args.tables.now in
+    let s = g.D.DocReader.document c.args.tables.now in
     let a = c.args.action.now in
     subst (λ e. TellsMaxima e (apply s a)) (sym c.maxima_brought.ensures)
     (within_told s (apply s a) _ (brought_told s a c.requires.whole c.requires.valid) (below_within s (sym c.requires.within ∙ c.if-within.true)))
 
 pub returns : goal.returns
 returns g c =
-    let s = g.D.DocTables.document c.args.tables.now in
+    let s = g.D.DocReader.document c.args.tables.now in
     let a = c.args.action.now in
     let before : TellsMaxima c.greatest_maxima-before.result s = record {
       columns = ap (ltb 1024) c.greatest_maxima-before.ensures.columns;

@@ -6,4 +6,4 @@ use Rattle.action_limits.proofs.weighing.cell_weight.Goals as goal
 
 pub returns-in-None : goal.returns-in-None
 returns-in-None g c =
-    ap (λ v. capped (value_weight v)) (cell_absent (g.D.DocTables.document c.args.tables.now) c.args.table.now c.args.column.now c.args.row c.in-None.ensures)
+    ap (λ v. capped (value_weight v)) (cell_absent (g.D.DocReader.document c.args.tables.now) c.args.table.now c.args.column.now c.args.row c.in-None.ensures)

@@ -7,4 +7,4 @@ use Rattle.action_limits.proofs.weighing.formulas_weight.Given as goal
 
 abbrev pub invariant-loop-index : goal.invariant-loop-index
 invariant-loop-index g l =
-    l.weight ≡ capped (sum_of formula_bytes (take l.index (grid_at (g.D.DocTables.document l.tables) l.table).columns))
+    l.weight ≡ capped (sum_of formula_bytes (take l.index (grid_at (g.D.DocReader.document l.tables) l.table).columns))

@@ -11,14 +11,14 @@ use Rattle.action_limits.proofs.weighing.rows_weight.Goals as goal
 
 pub loop-index-preserved : goal.loop-index-preserved
 loop-index-preserved g c =
-    let t = grid_at (g.D.DocTables.document c.args.tables.now) c.args.table.now in
+    let t = grid_at (g.D.DocReader.document c.args.tables.now) c.args.table.now in
     let d = c.column_at-column.result.now in
     capped_step (λ (d : ColDef). column_weight t c.args.rows.now d.id) t.columns c.loop-index.index d d c.loop-index.weight c.saturating_add-weight.result c.column_weight.result
     (slice_get_within t.columns c.loop-index.index d c.column_at-column.ensures) (get_or_from_slice_get t.columns c.loop-index.index d d c.column_at-column.ensures) c.loop-index.invariant c.column_weight.ensures c.saturating_add-weight.ensures
 
 pub returns : goal.returns
 returns g c =
-    let t = grid_at (g.D.DocTables.document c.args.tables.now) c.args.table.now in
+    let t = grid_at (g.D.DocReader.document c.args.tables.now) c.args.table.now in
     let all : take c.loop-index.index t.columns ≡ t.columns = taken_all t.columns c.loop-index.index (omega (arith, c.column_count-index-end.ensures, c.loop-index-test.false)) in
     c.loop-index.invariant
     ∙ ap (λ ds. capped (sum_of (λ (d : ColDef). column_weight t c.args.rows.now d.id) ds)) all

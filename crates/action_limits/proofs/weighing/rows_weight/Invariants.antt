@@ -8,5 +8,5 @@ use Rattle.action_limits.proofs.weighing.rows_weight.Given as goal
 
 abbrev pub invariant-loop-index : goal.invariant-loop-index
 invariant-loop-index g l =
-    let t = grid_at (g.D.DocTables.document l.tables) l.table in
+    let t = grid_at (g.D.DocReader.document l.tables) l.table in
     l.weight ≡ capped (sum_of (λ (d : ColDef). column_weight t l.rows d.id) (take l.index t.columns))

@@ -10,7 +10,7 @@ use Rattle.action_limits.proofs.weighing.table_weight.Goals as goal
 
 pub returns : goal.returns
 returns g c =
-    let s = g.D.DocTables.document c.args.tables.now in
+    let s = g.D.DocReader.document c.args.tables.now in
     let t = grid_at s c.args.table.now in
     c.saturating_add.ensures
     ∙ ap (λ n. min (n + c.formulas_weight.result) (2 ^ 64 - 1)) (c.rows_weight-cells.ensures ∙ ap (λ rows. capped (rows_weight t rows)) c.rows_in.ensures.value)

@@ -4,4 +4,4 @@ use Rattle.bundle_core.specs.View.{view}
 use Rattle.bundle_core.proofs.created.all_told.Given as goal
 
 abbrev pub invariant-loop-one : goal.invariant-loop-one
-invariant-loop-one g l = l.told.items ≡ map (told_of (view l.user (g.D.DocTables.document l.tables))) (take l.one-index l.created)
+invariant-loop-one g l = l.told.items ≡ map (told_of (view l.user (g.D.DocReader.document l.tables))) (take l.one-index l.created)

@@ -13,14 +13,14 @@ use Rattle.bundle_core.proofs.created.created_alone.Goals as goal
 
 pub name_of-requires-in-RenameColumn : goal.name_of-requires-in-RenameColumn
 name_of-requires-in-RenameColumn g c =
-    let s = g.D.DocTables.document c.args.tables.now in
+    let s = g.D.DocReader.document c.args.tables.now in
     let P : UserAction → Type 0 = λ a. is_allowed s a ≡ true in
     ap is_name c.as_str-in-RenameColumn.ensures
     ∙ table_named s c.requires.whole c.in-RenameColumn.table (λ t. has_id column_id t.grid.columns c.in-RenameColumn.column && is_name c.in-RenameColumn.new) (subst P c.in-RenameColumn.is c.requires.allowed)
 
 pub name_of-requires-in-RenameColumn-2 : goal.name_of-requires-in-RenameColumn-2
 name_of-requires-in-RenameColumn-2 g c =
-    let s = g.D.DocTables.document c.args.tables.now in
+    let s = g.D.DocReader.document c.args.tables.now in
     let P : UserAction → Type 0 = λ a. is_allowed s a ≡ true in
     let test : Table → _ = λ t. has_id column_id t.grid.columns c.in-RenameColumn.column && is_name c.in-RenameColumn.new in
     let p = passes_parts (schema_table s c.in-RenameColumn.table) test (subst P c.in-RenameColumn.is c.requires.allowed) in

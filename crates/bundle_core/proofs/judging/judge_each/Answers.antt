@@ -8,9 +8,9 @@ use Rattle.bundle_core.proofs.judging.judge_each.Goals as goal
 
 pub judge_action-requires-clause-whole : goal.judge_action-requires-clause-whole
 judge_action-requires-clause-whole g c =
-    let start = g.D.DocTables.document c.args.tables.now in
-    let s = g.D.DocTables.document c.loop-index.tables in
-    let t = g.D.DocTables.document c.put_all.new.tables in
+    let start = g.D.DocReader.document c.args.tables.now in
+    let s = g.D.DocReader.document c.loop-index.tables in
+    let t = g.D.DocReader.document c.put_all.new.tables in
     let l = c.loop-index in
     let now : IsAt c.args.user.now start c.args.requested.now l.index t c.append.new.self.items [] l.created.items l.tally =
     at_done c.args.user.now start c.args.requested.now l.index s l.actions.items l.next.items l.created.items l.tally l.invariant.0 t c.append.new.self.items
@@ -22,9 +22,9 @@ judge_action-requires-clause-well_formed g c = holds_at is_well_formed c.args.re
 
 pub returns-in-Refused-clause-judged : goal.returns-in-Refused-clause-judged
 returns-in-Refused-clause-judged g c =
-    let start = g.D.DocTables.document c.args.tables.now in
-    let s = g.D.DocTables.document c.loop-index.tables in
-    let t = g.D.DocTables.document c.put_all.new.tables in
+    let start = g.D.DocReader.document c.args.tables.now in
+    let s = g.D.DocReader.document c.loop-index.tables in
+    let t = g.D.DocReader.document c.put_all.new.tables in
     let l = c.loop-index in
     let now : IsAt c.args.user.now start c.args.requested.now l.index t c.append.new.self.items [] l.created.items l.tally =
     at_done c.args.user.now start c.args.requested.now l.index s l.actions.items l.next.items l.created.items l.tally l.invariant.0 t c.append.new.self.items
@@ -35,9 +35,9 @@ returns-in-Refused-clause-judged g c =
 
 pub loop-index-preserved : goal.loop-index-preserved
 loop-index-preserved g c =
-    let start = g.D.DocTables.document c.args.tables.now in
-    let s = g.D.DocTables.document c.loop-index.tables in
-    let t = g.D.DocTables.document c.put_all.new.tables in
+    let start = g.D.DocReader.document c.args.tables.now in
+    let s = g.D.DocReader.document c.loop-index.tables in
+    let t = g.D.DocReader.document c.put_all.new.tables in
     let l = c.loop-index in
     let now : IsAt c.args.user.now start c.args.requested.now l.index t c.append.new.self.items [] l.created.items l.tally =
     at_done c.args.user.now start c.args.requested.now l.index s l.actions.items l.next.items l.created.items l.tally l.invariant.0 t c.append.new.self.items
@@ -50,8 +50,8 @@ loop-index-preserved g c =
 
 pub returns-clause-judged : goal.returns-clause-judged
 returns-clause-judged g c =
-    let start = g.D.DocTables.document c.args.tables.now in
-    let s = g.D.DocTables.document c.loop-index.tables in
+    let start = g.D.DocReader.document c.args.tables.now in
+    let s = g.D.DocReader.document c.loop-index.tables in
     let l = c.loop-index in
     let le : length c.args.requested.now ≤ l.index = omega (arith, c.loop-index-test.false) in
     planned c.args.user.now start c.args.requested.now l.index s l.actions.items l.next.items l.created.items l.tally l.invariant.0 _ c.requires.few le c.in_ok-append-2.ensures.items refl refl

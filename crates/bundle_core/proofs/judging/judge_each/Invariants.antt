@@ -5,6 +5,6 @@ use Rattle.bundle_core.proofs.judging.judge_each.Given as goal
 
 abbrev pub invariant-loop-index : goal.invariant-loop-index
 invariant-loop-index g l =
-    IsAt l.user (g.D.DocTables.document l.initial.tables) l.requested l.index (g.D.DocTables.document l.tables) l.actions.items l.next.items l.created.items l.tally
-    × AllFit g.D.DocTables.undone g.D.DocTables.fits l.backs.items (g.D.DocTables.document l.tables)
-    × (rolled_back g.D.DocTables.undone g.D.DocTables.fits l.backs.items (g.D.DocTables.document l.tables) ≡ g.D.DocTables.document l.initial.tables)
+    IsAt l.user (g.D.DocReader.document l.initial.tables) l.requested l.index (g.D.DocReader.document l.tables) l.actions.items l.next.items l.created.items l.tally
+    × AllFit g.D.DocTables.undone g.D.DocTables.fits l.backs.items (g.D.DocReader.document l.tables)
+    × (rolled_back g.D.DocTables.undone g.D.DocTables.fits l.backs.items (g.D.DocReader.document l.tables) ≡ g.D.DocReader.document l.initial.tables)

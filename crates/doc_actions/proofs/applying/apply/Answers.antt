@@ -7,4 +7,4 @@ use Rattle.doc_actions.proofs.applying.apply.Goals as goal
 pub returns-clause-kept : goal.returns-clause-kept
 returns-clause-kept g c =
     subst IsWhole (sym c.in_ok-put.ensures.done)
-    (IsWhole-apply (g.D.DocTables.document c.args.tables.now) c.args.action.now c.requires.whole (sym c.is_valid.ensures ∙ c.if-not-is_valid.false))
+    (IsWhole-apply (g.D.DocReader.document c.args.tables.now) c.args.action.now c.requires.whole (sym c.is_valid.ensures ∙ c.if-not-is_valid.false))

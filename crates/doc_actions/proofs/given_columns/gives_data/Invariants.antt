@@ -7,5 +7,5 @@ use Rattle.doc_actions.proofs.given_columns.gives_data.Given as goal
 -- the rest decides
 abbrev pub invariant-loop-column : goal.invariant-loop-column
 invariant-loop-column g l =
-    list_all (gives_column (grid_at (g.D.DocTables.document l.tables) l.table) l.rows) (drop l.column-index l.columns)
-    ≡ list_all (gives_column (grid_at (g.D.DocTables.document l.tables) l.table) l.rows) l.columns
+    list_all (gives_column (grid_at (g.D.DocReader.document l.tables) l.table) l.rows) (drop l.column-index l.columns)
+    ≡ list_all (gives_column (grid_at (g.D.DocReader.document l.tables) l.table) l.rows) l.columns

@@ -10,5 +10,5 @@ use Rattle.doc_actions.proofs.table_readers.is_all_null.Given as goal
 -- the rest decides
 abbrev pub invariant-loop-row : goal.invariant-loop-row
 invariant-loop-row g l =
-    list_all (λ r. is_null (cell column_id (grid_at (g.D.DocTables.document l.tables) l.table) l.column r)) (drop l.row-index l.rows)
-    ≡ all_null (grid_at (g.D.DocTables.document l.tables) l.table) l.column
+    list_all (λ r. is_null (cell column_id (grid_at (g.D.DocReader.document l.tables) l.table) l.column r)) (drop l.row-index l.rows)
+    ≡ all_null (grid_at (g.D.DocReader.document l.tables) l.table) l.column

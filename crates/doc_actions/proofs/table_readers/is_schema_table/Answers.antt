@@ -7,7 +7,7 @@ use Rattle.doc_actions.proofs.table_readers.is_schema_table.Goals as goal
 
 pub returns-then-not-is_metadata_id : goal.returns-then-not-is_metadata_id
 returns-then-not-is_metadata_id g c =
-    let s = g.D.DocTables.document c.args.tables.now in
+    let s = g.D.DocReader.document c.args.tables.now in
     c.has_table.ensures
     ∙ ap (λ b. not b && has_id table_id s c.args.table.now) (sym (sym c.is_metadata_id.ensures ∙ c.if-not-is_metadata_id.true) ∙ ap is_metadata_id c.as_str.ensures.value)
     ∙ schema_some s c.args.table.now

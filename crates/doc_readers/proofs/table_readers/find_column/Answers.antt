@@ -1,23 +1,18 @@
-use Rattle.std.proofs.Common.{◌<◌, ◌^◌, sym, ap, ◌∙◌, arith}
+use Rattle.std.proofs.Common.{sym, ap, ◌∙◌}
 use Rattle.std.specs.Str.{bytes_eq}
-use Rattle.doc_readers.proofs.ColumnLemmas.{column_found, column_passed, column_absent, index_below}
+use Rattle.doc_readers.proofs.ColumnLemmas.{column_found, column_passed, column_absent}
 use Rattle.doc_readers.proofs.table_readers.find_column.Goals as goal
 
 pub returns-then-eq : goal.returns-then-eq
 returns-then-eq g c =
-    column_found (g.D.DocTables.document c.args.tables.now) c.args.table.now c.args.id.now c.loop-column.index c.loop-column.invariant.rest c.in-Some.column.now c.in-Some.ensures
+    column_found (g.D.DocReader.document c.args.tables.now) c.args.table.now c.args.id.now c.loop-column.index c.loop-column.invariant c.in-Some.column.now c.in-Some.ensures.told
     (sym (ap (λ n. bytes_eq n c.args.id.now) c.as_str.ensures.value) ∙ sym (ap (bytes_eq c.as_str.result.now) c.as_str-in-Some.ensures.value) ∙ sym c.eq.ensures ∙ c.if-eq.true)
 
 pub loop-column-preserved : goal.loop-column-preserved
 loop-column-preserved g c =
-    let s = g.D.DocTables.document c.args.tables.now in
-    let row : c.in-Some.column.now.row < 2 ^ 32 = omega arith in
-    record {
-      within = index_below s c.requires c.args.table.now c.loop-column.index c.in-Some.column.now c.in-Some.ensures row;
-      rest = column_passed s c.args.table.now c.args.id.now c.loop-column.index c.loop-column.invariant.rest c.in-Some.column.now c.in-Some.ensures
-          (sym (ap (λ n. bytes_eq n c.args.id.now) c.as_str.ensures.value) ∙ sym (ap (bytes_eq c.as_str.result.now) c.as_str-in-Some.ensures.value) ∙ sym c.eq.ensures ∙ c.if-eq.false);
-    }
+    column_passed (g.D.DocReader.document c.args.tables.now) c.args.table.now c.args.id.now c.loop-column.index c.loop-column.invariant c.in-Some.column.now c.in-Some.ensures.told
+    (sym (ap (λ n. bytes_eq n c.args.id.now) c.as_str.ensures.value) ∙ sym (ap (bytes_eq c.as_str.result.now) c.as_str-in-Some.ensures.value) ∙ sym c.eq.ensures ∙ c.if-eq.false)
 
 pub returns : goal.returns
 returns g c =
-    column_absent (g.D.DocTables.document c.args.tables.now) c.args.table.now c.args.id.now c.loop-column.index c.loop-column.invariant.rest c.in_default.ensures
+    column_absent (g.D.DocReader.document c.args.tables.now) c.args.table.now c.args.id.now c.loop-column.index c.loop-column.invariant c.in_default.ensures.told

@@ -9,4 +9,4 @@ use Rattle.doc_readers.proofs.table_readers.has_column.Goals as goal
 pub returns : goal.returns
 returns g c =
     c.is_some.ensures ∙ some_copied c.find_column.result ∙ ap is_some c.find_column.ensures
-    ∙ sym (has_id-find column_id c.args.id.now (grid_at (g.D.DocTables.document c.args.tables.now) c.args.table.now).columns)
+    ∙ sym (has_id-find column_id c.args.id.now (grid_at (g.D.DocReader.document c.args.tables.now) c.args.table.now).columns)

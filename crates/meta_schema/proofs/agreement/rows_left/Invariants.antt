@@ -7,10 +7,10 @@ use Rattle.meta_schema.proofs.agreement.rows_left.Given as goal
 abbrev pub invariant-loop-column : goal.invariant-loop-column
 invariant-loop-column g l = record {
   within : l.index ≤ l.left;
-  passed : l.index ≤ length (grid_at (g.D.DocTables.document l.tables) l.table).columns;
-  rest : are_said (g.D.DocTables.document l.tables) l.parent l.low (drop l.index (grid_at (g.D.DocTables.document l.tables) l.table).columns)
-      ≡ are_said (g.D.DocTables.document l.tables) l.parent 0 (grid_at (g.D.DocTables.document l.tables) l.table).columns;
+  passed : l.index ≤ length (grid_at (g.D.DocReader.document l.tables) l.table).columns;
+  rest : are_said (g.D.DocReader.document l.tables) l.parent l.low (drop l.index (grid_at (g.D.DocReader.document l.tables) l.table).columns)
+      ≡ are_said (g.D.DocReader.document l.tables) l.parent 0 (grid_at (g.D.DocReader.document l.tables) l.table).columns;
 }
 
 abbrev pub decreases-loop-column : goal.decreases-loop-column
-decreases-loop-column g l = length (grid_at (g.D.DocTables.document l.tables) l.table).columns - l.index
+decreases-loop-column g l = length (grid_at (g.D.DocReader.document l.tables) l.table).columns - l.index

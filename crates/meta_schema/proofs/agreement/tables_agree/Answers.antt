@@ -21,41 +21,41 @@ named s table text id row b told is same = sym (told ∙ ap (λ t. has_text (cel
 
 pub returns-in_default : goal.returns-in_default
 returns-in_default g c =
-    let s = g.D.DocTables.document c.args.tables.now in
+    let s = g.D.DocReader.document c.args.tables.now in
     let rows = c.rows_in-rows.result.now in
-    there s c.args.said.now rows _ c.rows_in-rows.ensures c.requires.tables
-    (tables_short s rows c.loop-index.index c.loop-index.left (tables_said s rows (plain_ids s)) (counted s) c.loop-index.invariant.said c.loop-index.invariant.count c.loop-index-test.true c.in_default.ensures)
+    there s c.args.said.now rows _ c.rows_in-rows.ensures.value c.requires.tables
+    (tables_short s rows c.loop-index.index c.loop-index.left (tables_said s rows (plain_ids s)) (counted s) c.loop-index.invariant.said c.loop-index.invariant.count c.loop-index-test.true c.in_default.ensures.told)
 
 pub returns-then-not-has_text : goal.returns-then-not-has_text
 returns-then-not-has_text g c =
-    let s = g.D.DocTables.document c.args.tables.now in
+    let s = g.D.DocReader.document c.args.tables.now in
     let rows = c.rows_in-rows.result.now in
-    there s c.args.said.now rows _ c.rows_in-rows.ensures c.requires.tables
-    (table_unnamed s rows c.loop-index.index c.loop-index.left (tables_said s rows (plain_ids s)) (counted s) c.loop-index.invariant.said c.loop-index.invariant.count c.in-Some.table.now c.loop-index-test.true c.in-Some.ensures
+    there s c.args.said.now rows _ c.rows_in-rows.ensures.value c.requires.tables
+    (table_unnamed s rows c.loop-index.index c.loop-index.left (tables_said s rows (plain_ids s)) (counted s) c.loop-index.invariant.said c.loop-index.invariant.count c.in-Some.table.now c.loop-index-test.true c.in-Some.ensures.told
     (named s c.args.said.now c.as_str.result.now c.in-Some.table.now (get_or rows c.loop-index.index 0) c.has_text.result c.has_text.ensures c.requires.tables c.as_str.ensures.value ∙ c.if-not-has_text.true))
 
 pub returns-in_default-rows_left : goal.returns-in_default-rows_left
 returns-in_default-rows_left g c =
-    let s = g.D.DocTables.document c.args.tables.now in
+    let s = g.D.DocReader.document c.args.tables.now in
     let rows = c.rows_in-rows.result.now in
-    there s c.args.said.now rows _ c.rows_in-rows.ensures c.requires.tables
-    (table_left_none s rows c.loop-index.index c.loop-index.left (tables_said s rows (plain_ids s)) (counted s) c.loop-index.invariant.said c.loop-index.invariant.count c.in-Some.table.now c.loop-index-test.true c.in-Some.ensures c.in_default-rows_left.ensures)
+    there s c.args.said.now rows _ c.rows_in-rows.ensures.value c.requires.tables
+    (table_left_none s rows c.loop-index.index c.loop-index.left (tables_said s rows (plain_ids s)) (counted s) c.loop-index.invariant.said c.loop-index.invariant.count c.in-Some.table.now c.loop-index-test.true c.in-Some.ensures.told c.in_default-rows_left.ensures)
 
 pub loop-index-preserved : goal.loop-index-preserved
 loop-index-preserved g c =
-    let s = g.D.DocTables.document c.args.tables.now in
+    let s = g.D.DocReader.document c.args.tables.now in
     let rows = c.rows_in-rows.result.now in
-    let both = table_left_some s rows c.loop-index.index c.loop-index.left (tables_said s rows (plain_ids s)) (counted s) c.loop-index.invariant.said c.loop-index.invariant.count c.in-Some.table.now c.rows_left.result c.in-Some-rows_left.rest c.loop-index-test.true c.in-Some.ensures
+    let both = table_left_some s rows c.loop-index.index c.loop-index.left (tables_said s rows (plain_ids s)) (counted s) c.loop-index.invariant.said c.loop-index.invariant.count c.in-Some.table.now c.rows_left.result c.in-Some-rows_left.rest c.loop-index-test.true c.in-Some.ensures.told
     (named s c.args.said.now c.as_str.result.now c.in-Some.table.now (get_or rows c.loop-index.index 0) c.has_text.result c.has_text.ensures c.requires.tables c.as_str.ensures.value ∙ c.if-not-has_text.false) c.rows_left.ensures c.in-Some-rows_left.is in
     record { said = both.0; count = both.1 }
 
 pub returns-then-left-eq0 : goal.returns-then-left-eq0
 returns-then-left-eq0 g c =
-    let s = g.D.DocTables.document c.args.tables.now in
+    let s = g.D.DocReader.document c.args.tables.now in
     let rows = c.rows_in-rows.result.now in
     let i = c.loop-index.index in
     let last : length rows + 4 ≡ i + 4 = omega arith in
-    there s c.args.said.now rows _ c.rows_in-rows.ensures c.requires.tables
-    (told_end s (length rows + 4) c.table-then-left-eq0.result c.is_none.result c.table-then-left-eq0.ensures c.is_none.ensures
+    there s c.args.said.now rows _ c.rows_in-rows.ensures.value c.requires.tables
+    (told_end s (length rows + 4) c.table-then-left-eq0.result c.is_none.result c.table-then-left-eq0.ensures.told c.is_none.ensures
     ∙ ap (λ n. is_none (table_at s n)) last
     ∙ tables_end s rows i c.loop-index.left (tables_said s rows (plain_ids s)) (counted s) c.loop-index.invariant.said c.loop-index.invariant.count (table_at s (i + 4)) c.loop-index-test.false refl c.if-left-eq0.true)

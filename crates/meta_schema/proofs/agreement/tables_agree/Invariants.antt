@@ -8,8 +8,8 @@ use Rattle.meta_schema.proofs.agreement.tables_agree.Given as goal
 -- the rest of the tables and of the rows decides
 abbrev pub invariant-loop-index : goal.invariant-loop-index
 invariant-loop-index g l = record {
-  said : tables_said (g.D.DocTables.document l.tables) (drop l.index l.rows) (drop (l.index + 4) (map table_id (g.D.DocTables.document l.tables)))
-      ≡ tables_said (g.D.DocTables.document l.tables) l.rows (plain_ids (g.D.DocTables.document l.tables));
-  count : nat_eq l.left (column_count (g.D.DocTables.document l.tables) (drop (l.index + 4) (map table_id (g.D.DocTables.document l.tables))))
-      ≡ nat_eq (length (grid_at (g.D.DocTables.document l.tables) columns_id).rows) (column_count (g.D.DocTables.document l.tables) (plain_ids (g.D.DocTables.document l.tables)));
+  said : tables_said (g.D.DocReader.document l.tables) (drop l.index l.rows) (drop (l.index + 4) (map table_id (g.D.DocReader.document l.tables)))
+      ≡ tables_said (g.D.DocReader.document l.tables) l.rows (plain_ids (g.D.DocReader.document l.tables));
+  count : nat_eq l.left (column_count (g.D.DocReader.document l.tables) (drop (l.index + 4) (map table_id (g.D.DocReader.document l.tables))))
+      ≡ nat_eq (length (grid_at (g.D.DocReader.document l.tables) columns_id).rows) (column_count (g.D.DocReader.document l.tables) (plain_ids (g.D.DocReader.document l.tables)));
 }

@@ -9,6 +9,6 @@ use Rattle.meta_schema.proofs.metadata_tables.has_columns_table.Goals as goal
 pub returns-then-ne : goal.returns-then-ne
 unfolding columns_id
 returns-then-ne g c =
-    let s = g.D.DocTables.document c.args.tables.now in
-    other_id s 1 columns_id c.in-Some.table.now (has_naming_columns s && has_formula_columns s) c.in-Some.ensures
+    let s = g.D.DocReader.document c.args.tables.now in
+    other_id s 1 columns_id c.in-Some.table.now (has_naming_columns s && has_formula_columns s) c.in-Some.ensures.told
     (sym (ap (λ n. bytes_eq n columns_id) c.as_str.ensures.value) ∙ not_true (bytes_eq c.as_str.result.now columns_id) (sym c.if-ne.ensures))

@@ -6,7 +6,7 @@ use Rattle.meta_schema.proofs.reading.schema_by.Goals.{in-Some+in_ok-push, in_de
 
 pub loop-row-preserved : goal.loop-row-preserved
 loop-row-preserved g c =
-    let find = table_in (g.D.DocTables.document c.args.tables.now) in
+    let find = table_in (g.D.DocReader.document c.args.tables.now) in
     let rows = c.rows_in-row-items.result.now in
     let i = c.loop-row.row-index in
     let here : i < length rows = omega arith in

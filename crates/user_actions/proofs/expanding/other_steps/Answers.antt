@@ -15,36 +15,36 @@ use Rattle.user_actions.proofs.expanding.other_steps.Goals as goal
 
 pub update_steps-requires-clause-names : goal.update_steps-requires-clause-names
 update_steps-requires-clause-names g c =
-    let s = g.D.DocTables.document c.args.tables.now in
+    let s = g.D.DocReader.document c.args.tables.now in
     ap (list_all has_name) c.as_slice.ensures
     ∙ columns_named s c.requires.whole c.in-Update.table (λ t. may_name t.grid.rows c.in-Update.rows) c.in-Update.columns (sym (ap (is_allowed s) c.in-Update.is) ∙ c.requires.allowed)
 
 pub remove_column_steps-requires : goal.remove_column_steps-requires
 remove_column_steps-requires g c =
-    let s = g.D.DocTables.document c.args.tables.now in
+    let s = g.D.DocReader.document c.args.tables.now in
     ap is_name c.as_str-in-RemoveColumn.ensures
     ∙ only_column_named s c.requires.whole c.in-RemoveColumn.table c.in-RemoveColumn.column (sym (ap (is_allowed s) c.in-RemoveColumn.is) ∙ c.requires.allowed)
 
 pub rename_column_steps-requires-clause-old : goal.rename_column_steps-requires-clause-old
 rename_column_steps-requires-clause-old g c =
-    let s = g.D.DocTables.document c.args.tables.now in
+    let s = g.D.DocReader.document c.args.tables.now in
     ap is_name c.as_str-in-RenameColumn.ensures
     ∙ column_named s c.requires.whole c.in-RenameColumn.table c.in-RenameColumn.column (λ t. is_name c.in-RenameColumn.new) (sym (ap (is_allowed s) c.in-RenameColumn.is) ∙ c.requires.allowed)
 
 pub rename_column_steps-requires-clause-name : goal.rename_column_steps-requires-clause-name
 rename_column_steps-requires-clause-name g c =
-    let s = g.D.DocTables.document c.args.tables.now in
+    let s = g.D.DocReader.document c.args.tables.now in
     ap is_name c.as_str-in-RenameColumn-2.ensures
     ∙ new_name s c.in-RenameColumn.table c.in-RenameColumn.column c.in-RenameColumn.new (sym (ap (is_allowed s) c.in-RenameColumn.is) ∙ c.requires.allowed)
 
 pub modify_steps-requires-clause-name : goal.modify_steps-requires-clause-name
 modify_steps-requires-clause-name g c =
-    let s = g.D.DocTables.document c.args.tables.now in
+    let s = g.D.DocReader.document c.args.tables.now in
     data_column_named s c.requires.whole c.in-ModifyColumn.table c.in-ModifyColumn.column.id (λ t. is_plain c.in-ModifyColumn.column) (sym (ap (is_allowed s) c.in-ModifyColumn.is) ∙ c.requires.allowed)
 
 pub returns-in_ok-steps-in-Update-clause-made : goal.returns-in_ok-steps-in-Update-clause-made
 returns-in_ok-steps-in-Update-clause-made g c =
-    let s : Document = g.D.DocTables.document c.args.tables.now in
+    let s : Document = g.D.DocReader.document c.args.tables.now in
     let made : List ℕ → List ℤ → List UserColumn → List Step = λ table rows ks. if_any (row_ids rows) (direct (BulkUpdate table (row_ids rows) (all_fitted s table ks))) in
     c.in_ok-steps-in-Update.ensures
     ∙ ap (λ t. made t c.as_slice-rows.result.now c.as_slice.result.now) (c.requires.named ∙ ap table_of c.in-Update.is)

@@ -9,7 +9,7 @@ use Rattle.user_actions.proofs.retyping.add_update.Goals as goal
 
 pub returns : goal.returns
 returns g c =
-    let t = grid_at (g.D.DocTables.document c.args.tables.now) c.args.table.now in
+    let t = grid_at (g.D.DocReader.document c.args.tables.now) c.args.table.now in
     let steps = c.args.steps.now in
     let rows = c.in_ok-rows.rows in
     let made : List ℕ → Step = λ rows. indirect (BulkUpdate c.args.table.now rows (column_refitted t c.args.column.now c.args.ty.now rows ∷ [])) in

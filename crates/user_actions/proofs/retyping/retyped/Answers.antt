@@ -10,7 +10,7 @@ use Rattle.user_actions.proofs.retyping.retyped.Goals as goal
 
 pub returns : goal.returns
 returns g c =
-    let t = grid_at (g.D.DocTables.document c.args.tables.now) c.args.table.now in
+    let t = grid_at (g.D.DocReader.document c.args.tables.now) c.args.table.now in
     let d = c.args.known.now in
     let info = info_said d.info.ty c.args.column.now in
     let rest : ColType → List Step = λ ty. if_any (rows_changed t d.id ty) (indirect (BulkUpdate c.args.table.now (rows_changed t d.id ty) (column_refitted t d.id ty (rows_changed t d.id ty) ∷ []))) in

@@ -11,7 +11,7 @@ use Rattle.user_actions.proofs.retyping.rows_changed.Goals.{then-branch+in_ok-pu
 
 pub loop-row-preserved : goal.loop-row-preserved
 loop-row-preserved g c =
-    let t = grid_at (g.D.DocTables.document c.args.tables.now) c.args.table.now in
+    let t = grid_at (g.D.DocReader.document c.args.tables.now) c.args.table.now in
     let differs : ℕ → Bool = λ r. not (same_value (cell column_id t c.args.column.now r) (fit c.args.ty.now (cell column_id t c.args.column.now r))) in
     let all = rows_changed t c.args.column.now c.args.ty.now in
     elim c.if-branch.branch [

@@ -7,7 +7,7 @@ use Rattle.user_actions.proofs.schema_steps.add_column_steps.Goals as goal
 
 pub returns-clause-made : goal.returns-clause-made
 returns-clause-made g c =
-    let s = g.D.DocTables.document c.args.tables.now in
+    let s = g.D.DocReader.document c.args.tables.now in
     let table = c.args.table.now in
     let last : c.last_row-last.result ≡ last_row s columns_id = c.last_row-last.ensures ∙ ap (last_row s) c.columns_table.ensures in
     otherwise c.unless_past.result (4294967295 < c.last_row-last.result + 1) _ (λ l. (c.last_row-last.result + 1 ≤ 4294967295) × (l ≡ c.in_ok-steps.steps)) (λ l. l ≡ direct (AddColumn table (column_said s table c.args.column.now)) ∷ [])

@@ -8,7 +8,7 @@ use Rattle.user_actions.proofs.schema_steps.add_table_steps.Goals as goal
 
 pub returns-clause-made : goal.returns-clause-made
 returns-clause-made g c =
-    let s = g.D.DocTables.document c.args.tables.now in
+    let s = g.D.DocReader.document c.args.tables.now in
     let table = c.args.table.now in
     let cs = c.args.columns.now in
     let row : c.last_row-row.result ≡ last_row s tables_id = c.last_row-row.ensures ∙ ap (last_row s) c.tables_table.ensures in

@@ -14,4 +14,4 @@ returns-clause-made g c =
     let named : List ℕ → List Step = λ new. direct (RenameTable c.args.table.now new) ∷ [] in
     let differs : bytes_eq c.args.table.now c.args.new.now ≡ false = sym (ap (λ t. bytes_eq t c.args.new.now) c.as_str.ensures.value) ∙ sym c.if-eq.ensures in
     c.in_ok-steps.ensures ∙ ap named c.in_ok-new.ensures.made
-    ∙ sym (ap (λ b. cond b [] (named (free_name (table_ids (g.D.DocTables.document c.args.tables.now)) c.args.new.now))) differs)
+    ∙ sym (ap (λ b. cond b [] (named (free_name (table_ids (g.D.DocReader.document c.args.tables.now)) c.args.new.now))) differs)

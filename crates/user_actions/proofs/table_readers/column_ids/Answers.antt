@@ -7,24 +7,24 @@ use Rattle.user_actions.proofs.table_readers.column_ids.Goals as goal
 
 pub loop-column-smaller : goal.loop-column-smaller
 loop-column-smaller g c =
-    let s = g.D.DocTables.document c.args.tables.now in
+    let s = g.D.DocReader.document c.args.tables.now in
     let id = c.args.table.now in
     let counts : c.len.result ≡ length c.loop-column.ids.items = search rules in
     walk_fewer column_id (grid_at s id).columns c.loop-column.ids.items c.push.new.self.items c.len.result c.in-Some.column.now c.in_ok-clone.field-0 counts
-    (column_read s id c.len.result c.in-Some.column.now c.in-Some.ensures) (search rules) c.in_ok-push.ensures.items
+    (column_read s id c.len.result c.in-Some.column.now c.in-Some.ensures.told) (search rules) c.in_ok-push.ensures.items
 
 pub loop-column-preserved : goal.loop-column-preserved
 loop-column-preserved g c =
-    let s = g.D.DocTables.document c.args.tables.now in
+    let s = g.D.DocReader.document c.args.tables.now in
     let id = c.args.table.now in
     let counts : c.len.result ≡ length c.loop-column.ids.items = search rules in
     walk_step column_id (grid_at s id).columns c.loop-column.ids.items c.push.new.self.items c.len.result c.in-Some.column.now c.in_ok-clone.field-0 counts
-    (column_read s id c.len.result c.in-Some.column.now c.in-Some.ensures) (search rules) c.in_ok-push.ensures.items c.loop-column.invariant
+    (column_read s id c.len.result c.in-Some.column.now c.in-Some.ensures.told) (search rules) c.in_ok-push.ensures.items c.loop-column.invariant
 
 pub returns : goal.returns
 returns g c =
-    let s = g.D.DocTables.document c.args.tables.now in
+    let s = g.D.DocReader.document c.args.tables.now in
     let id = c.args.table.now in
     let counts : c.len.result ≡ length c.loop-column.ids.items = search rules in
     walk_end column_id (grid_at s id).columns c.loop-column.ids.items c.len.result counts c.loop-column.invariant
-    (column_past s id c.len.result c.in_default.ensures)
+    (column_past s id c.len.result c.in_default.ensures.told)

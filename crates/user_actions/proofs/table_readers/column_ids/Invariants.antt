@@ -5,7 +5,7 @@ use Rattle.user_actions.proofs.table_readers.column_ids.Given as goal
 
 -- the ids so far
 abbrev pub invariant-loop-column : goal.invariant-loop-column
-invariant-loop-column g l = l.ids.items ≡ map column_id (take (length l.ids.items) (grid_at (g.D.DocTables.document l.tables) l.table).columns)
+invariant-loop-column g l = l.ids.items ≡ map column_id (take (length l.ids.items) (grid_at (g.D.DocReader.document l.tables) l.table).columns)
 
 abbrev pub decreases-loop-column : goal.decreases-loop-column
-decreases-loop-column g l = length (grid_at (g.D.DocTables.document l.tables) l.table).columns - length l.ids.items
+decreases-loop-column g l = length (grid_at (g.D.DocReader.document l.tables) l.table).columns - length l.ids.items

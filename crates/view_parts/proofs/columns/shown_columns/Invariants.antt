@@ -7,7 +7,7 @@ use Rattle.view_parts.proofs.columns.shown_columns.Given as goal
 
 -- the columns so far, in their places
 abbrev pub invariant-loop-column : goal.invariant-loop-column
-invariant-loop-column g l = l.columns.items ≡ by_id shown_id (map shown_column (take (length l.columns.items) (grid_at (g.D.DocTables.document l.tables) l.table).columns))
+invariant-loop-column g l = l.columns.items ≡ by_id shown_id (map shown_column (take (length l.columns.items) (grid_at (g.D.DocReader.document l.tables) l.table).columns))
 
 abbrev pub decreases-loop-column : goal.decreases-loop-column
-decreases-loop-column g l = length (grid_at (g.D.DocTables.document l.tables) l.table).columns - length l.columns.items
+decreases-loop-column g l = length (grid_at (g.D.DocReader.document l.tables) l.table).columns - length l.columns.items

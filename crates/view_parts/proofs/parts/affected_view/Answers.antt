@@ -7,9 +7,9 @@ use Rattle.view_parts.proofs.parts.affected_view.Goals as goal
 pub returns-clause-tables : goal.returns-clause-tables
 returns-clause-tables g c =
     c.from.ensures ∙ c.in_ok-affected.ensures
-    ∙ wanted_affected c.args.viewer c.args.actions.now (g.D.DocTables.document c.args.tables.now) c.requires.whole
+    ∙ wanted_affected c.args.viewer c.args.actions.now (g.D.DocReader.document c.args.tables.now) c.requires.laid_out
 
 pub returns-clause-is_view : goal.returns-clause-is_view
 returns-clause-is_view g c =
     subst IsView (sym (c.from.ensures ∙ c.in_ok-affected.ensures))
-    (IsView-wanted c.args.viewer (Some c.args.actions.now) (g.D.DocTables.document c.args.tables.now) c.requires.whole)
+    (IsView-wanted c.args.viewer (Some c.args.actions.now) (g.D.DocReader.document c.args.tables.now) c.requires.laid_out)

@@ -8,7 +8,7 @@ use Rattle.view_parts.proofs.parts.requested_table.Goals as goal
 
 pub returns-in-None-clause-table : goal.returns-in-None-clause-table
 returns-in-None-clause-table g c =
-    let s = g.D.DocTables.document c.args.tables.now in
+    let s = g.D.DocReader.document c.args.tables.now in
     let a = c.args.action.now in
     let long : HasNameLength (table_of a) → ⊥ = subst (λ (o : Option (List ℕ)). MatchOption o (HasNameLength (table_of a) → ⊥) (λ n. n ≡ table_of a)) c.in-None.is c.in_ok-id.ensures in
     requested_nowhere c.args.viewer s c.requires a (no_table s c.requires (table_of a) long)

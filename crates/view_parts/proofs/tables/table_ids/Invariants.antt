@@ -4,7 +4,7 @@ use Rattle.view_parts.proofs.tables.table_ids.Given as goal
 
 -- the ids so far
 abbrev pub invariant-loop-id : goal.invariant-loop-id
-invariant-loop-id g l = l.ids.items ≡ map table_id (take (length l.ids.items) (g.D.DocTables.document l.tables))
+invariant-loop-id g l = l.ids.items ≡ map table_id (take (length l.ids.items) (g.D.DocReader.document l.tables))
 
 abbrev pub decreases-loop-id : goal.decreases-loop-id
-decreases-loop-id g l = length (g.D.DocTables.document l.tables) - length l.ids.items
+decreases-loop-id g l = length (g.D.DocReader.document l.tables) - length l.ids.items

@@ -4,12 +4,12 @@ use Rattle.view_parts.proofs.whole.is_column_shown.Goals as goal
 
 pub returns-then-sees : goal.returns-then-sees
 returns-then-sees g c =
-    let s = g.D.DocTables.document c.args.tables.now in
+    let s = g.D.DocReader.document c.args.tables.now in
     c.has_column.ensures
-    ∙ sym (column_seen c.args.viewer s c.requires.whole c.args.table.now c.args.column.now (sym c.sees.ensures ∙ c.if-sees.true))
+    ∙ sym (column_seen c.args.viewer s c.requires.laid_out c.args.table.now c.args.column.now (sym c.sees.ensures ∙ c.if-sees.true))
 
 pub returns-else-sees : goal.returns-else-sees
 returns-else-sees g c =
-    let s = g.D.DocTables.document c.args.tables.now in
+    let s = g.D.DocReader.document c.args.tables.now in
     c.if-sees.false
-    ∙ sym (column_hidden c.args.viewer s c.requires.whole c.args.table.now c.args.column.now (sym c.sees.ensures ∙ c.if-sees.false))
+    ∙ sym (column_hidden c.args.viewer s c.requires.laid_out c.args.table.now c.args.column.now (sym c.sees.ensures ∙ c.if-sees.false))

@@ -6,4 +6,4 @@ use Rattle.view_parts.proofs.whole.whole_view.Goals as goal
 pub returns-clause-is_view : goal.returns-clause-is_view
 returns-clause-is_view g c =
     subst IsView (sym (c.from.ensures ∙ c.in_ok-shown.ensures))
-    (IsView-wanted c.args.viewer None (g.D.DocTables.document c.args.tables.now) c.requires.whole)
+    (IsView-wanted c.args.viewer None (g.D.DocReader.document c.args.tables.now) c.requires.laid_out)

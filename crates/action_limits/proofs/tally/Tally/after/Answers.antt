@@ -6,11 +6,11 @@ use Rattle.action_limits.proofs.ExpansionLemmas.{exact_from, has_named-valid, on
 use Rattle.action_limits.proofs.tally.Tally.after.Goals as goal
 
 pub after_action-sums-requires-clause-there : goal.after_action-sums-requires-clause-there
-after_action-sums-requires-clause-there g c = has_named-valid (g.D.DocTables.document c.args.tables.now) c.args.action.now c.requires.valid
+after_action-sums-requires-clause-there g c = has_named-valid (g.D.DocReader.document c.args.tables.now) c.args.action.now c.requires.valid
 
 pub returns : goal.returns
 returns g c =
-    let s = g.D.DocTables.document c.args.tables.now in
+    let s = g.D.DocReader.document c.args.tables.now in
     let a = c.args.action.now in
     let sums = one_told s a c.sums_of.result c.requires.whole c.requires.valid (exact_from s c.args.self c.sums_of.result c.requires.tally c.sums_of.ensures) in
     subst (IsTallyOrLimit (apply s a))

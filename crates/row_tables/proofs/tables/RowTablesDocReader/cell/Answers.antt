@@ -5,7 +5,7 @@ use Rattle.doc_model.specs.Readers.{cell_at}
 use Rattle.doc_model.specs.Sound.{IsSoundGrid}
 use Rattle.doc_model.proofs.ByIdsLaws.{found_all}
 use Rattle.row_tables.proofs.KeptLaws.{told_by, cell-found}
-use Rattle.row_tables.proofs.tables.RowTablesDocTables.cell.Goals as goal
+use Rattle.row_tables.proofs.tables.RowTablesDocReader.cell.Goals as goal
 
 pub search_cell-requires : goal.search_cell-requires
 search_cell-requires c =

@@ -1,0 +1,16 @@
+pub mod Notes
+pub mod Alike
+pub mod BothAlike
+pub mod MatchedAlike
+pub mod EvAlike
+pub mod ReadsAlike
+pub mod Named
+pub mod Obeys
+pub mod TextLaws
+pub mod Collects
+mod Items
+mod Lookups
+mod LookupEnds
+mod SumLemmas
+mod BestLemmas
+mod Traps

@@ -1,0 +1,6 @@
+use Rattle.std.proofs.Common.{◌≡◌, ◌++◌, drop, map}
+use Rattle.formula_eval.specs.Lookup.{key_notes}
+use Rattle.formula_eval.proofs.lookup.note_keys.Given as goal
+
+abbrev pub invariant-loop-key : goal.invariant-loop-key
+invariant-loop-key l = l.notes ++ key_notes l.table (map (λ k. k.name) (drop l.key-index l.keys)) ≡ l.fn.notes ++ key_notes l.table (map (λ k. k.name) l.keys)

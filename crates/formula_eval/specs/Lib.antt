@@ -1,0 +1,17 @@
+pub mod Reader
+pub mod Run
+pub mod Reading
+pub mod Attribute
+pub mod Operator
+pub mod Function
+pub mod Lookup
+pub mod Call
+pub mod Eval
+pub mod OfText
+pub mod Names
+pub mod Likeness
+pub mod Obeys
+pub mod Asked
+pub mod Halted
+pub mod Attempted
+pub mod Laws

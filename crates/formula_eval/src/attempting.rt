@@ -1,0 +1,89 @@
+//! One attempt at a formula.
+
+ghost use Rattle.std.specs.Prelude.{◌≡◌, ◌+◌, IfOk};
+ghost use Rattle.formula_eval.specs.Names.{IsNeeded};
+ghost use Rattle.formula_eval.specs.Run.{reads_of};
+ghost use Rattle.formula_eval.specs.Eval.{as_result, evaluated, is_too_long};
+ghost use Rattle.formula_eval.specs.Attempted.{IsAttempt, IfNeed};
+ghost use Rattle.formula_eval.specs.Halted.{Comes, IsOut};
+
+use crate::evaluate::value_of;
+use crate::halt::Halt;
+use crate::{Attempt, CellReader, NoteList, Steps};
+use cell_types::{CellValue, ErrKind, RowRef};
+use formula_parse::Formula;
+use std::alloc::{AllocError, Global};
+use std::sync::ledger::Ledger;
+
+/// How many items or rows the value of a formula has at most.
+pub const MAX_RESULT_ITEMS: usize = 10_000;
+
+/// One attempt at a formula, in a row of a table.
+pub fn attempt<R: CellReader, L: Ledger>(
+    alloc: Global,
+    formula: &Formula,
+    at: &RowRef,
+    reader: &R,
+    steps: &mut Steps<L>,
+) -> Result<Attempt, AllocError>
+    ensures steps { steps.new ≡ steps.old + 1 }
+    ensures value { IfOk result
+        (λ a. IsAttempt a (evaluated (R.told reader.now) at.now formula.now)) }
+    ensures need { IfOk result (λ a. IfNeed a (IsNeeded (R.told reader.now)
+        (reads_of (evaluated (R.told reader.now) at.now formula.now).notes))) }
+{
+    steps.tick();
+    let mut notes = NoteList::new(alloc);
+    match result_of(alloc, reader, at, formula, &mut notes) {
+        Ok(value) => Ok(Attempt::Value { value, notes }),
+        Err(Halt::Raised(kind)) => Ok(Attempt::Value {
+            value: CellValue::Err(kind),
+            notes,
+        }),
+        Err(Halt::Circular) => Ok(Attempt::Value {
+            value: CellValue::Err(ErrKind::Circular),
+            notes,
+        }),
+        Err(Halt::Need(cell)) => {
+            drop(notes);
+            Ok(Attempt::Need(cell))
+        }
+        Err(Halt::NoMemory) => {
+            drop(notes);
+            Err(AllocError)
+        }
+    }
+}
+
+fn result_of<R: CellReader>(
+    alloc: Global,
+    reader: &R,
+    at: &RowRef,
+    formula: &Formula,
+    notes: &mut NoteList,
+) -> Result<CellValue, Halt>
+    ensures { Comes result notes.old notes.new (evaluated (R.told reader.now) at.now formula.now) }
+{
+    as_result(value_of(alloc, reader, at, formula, notes)?)
+}
+
+fn as_result(value: CellValue) -> Result<CellValue, Halt>
+    ensures { IsOut result (as_result value) }
+{
+    if is_too_long(&value) {
+        drop(value);
+        return Err(Halt::Raised(ErrKind::Overflow));
+    }
+    Ok(value)
+}
+
+#[tactic(auto, unfolding(crate::specs::Eval::result_bound))]
+fn is_too_long(value: &CellValue) -> bool
+    ensures { result ≡ is_too_long value.now }
+{
+    match value {
+        CellValue::List(items) => items.len() > MAX_RESULT_ITEMS,
+        CellValue::RecSet(set) => set.rows.len() > MAX_RESULT_ITEMS,
+        _ => false,
+    }
+}

@@ -1,0 +1,40 @@
+//! The value of a formula, over a reader of the cells around it.
+//!
+//! Stands on `cell_types` (values, cells, reads), `doc_model` (rows that ascend), `formula_parse`
+//! (trees) and `value_ops` (operators). Used by no crate yet; it is for whatever keeps evaluated
+//! cells.
+//!
+//! Promises: `attempt` gives the value that specs/Eval.antt says for a formula in a row, with all
+//! that was read on the way, or a cell that is needed first, in one counted step. Beside each read a
+//! run notes the keys of each lookup with their values. Five laws hold by a formula's text: readers
+//! that tell the same at what is noted make the same run; at what is read is enough for that; a cell
+//! that is needed is named by a read; no error is given as a value, and none raised is that of a
+//! circular cell; a text without a formula raises a syntax error and reads nothing.
+//! Not promised: which of several needed key cells a lookup names. The value is not yet fitted to
+//! its column.
+//! Read first: reader.rt, then attempting.rt and evaluate.rt.
+#![tactic(auto)]
+
+mod attempting;
+mod attribute;
+mod call;
+mod evaluate;
+mod extremes;
+mod function;
+mod halt;
+mod laws;
+mod lookup;
+mod note;
+mod operator;
+mod outcome;
+mod reader;
+mod reading;
+mod steps;
+mod sums;
+
+pub use attempting::{MAX_RESULT_ITEMS, attempt};
+pub use laws::{alike_law, named_law, obeys_law, reads_law, text_law};
+pub use note::{Note, NoteList};
+pub use outcome::Attempt;
+pub use reader::{CellReader, Matching, Reading};
+pub use steps::Steps;

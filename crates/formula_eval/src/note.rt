@@ -1,0 +1,15 @@
+//! What a run notes on its way.
+
+use cell_types::{KeyList, Name, Read, Sequence};
+
+/// What a run notes: each read, and of each lookup the keys with their values, once they are all
+/// there. So what comes of a lookup can be told from its keys alone, without the cells of its key
+/// columns.
+#[derive(Drop)]
+pub enum Note {
+    Read(Read),
+    Met { table: Name, keys: KeyList },
+}
+
+/// Notes in the order in which a run made them; one may stand more than once.
+pub type NoteList = Sequence<Note>;

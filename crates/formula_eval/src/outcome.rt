@@ -1,0 +1,13 @@
+//! What an attempt comes to.
+
+use crate::NoteList;
+use cell_types::{CellId, CellValue};
+
+/// What an attempt comes to.
+#[derive(Drop)]
+pub enum Attempt {
+    /// The value, not yet fitted to its column, and what was noted on the way to it.
+    Value { value: CellValue, notes: NoteList },
+    /// A cell whose value is needed first.
+    Need(CellId),
+}

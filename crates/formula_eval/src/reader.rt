@@ -1,0 +1,58 @@
+//! What a formula asks of the cells around it.
+
+ghost use Rattle.std.specs.Prelude.{◌≡◌, None, Some, IfOk, IfSome, MatchOption};
+ghost use Rattle.formula_eval.specs.Reader.{Reader, cell_at};
+ghost use Rattle.formula_eval.specs.Asked.{told_of, IsMatching};
+ghost use Rattle.formula_eval.specs.Lookup.{matched};
+ghost use Rattle.doc_model.specs.Rows.{IsAscending};
+
+use cell_types::{CellId, CellValue, ColType, KeyList, Name, RowList};
+use std::alloc::{AllocError, Global};
+
+/// What is told of a cell.
+#[derive(Drop)]
+pub enum Reading<'a> {
+    Known(&'a CellValue),
+    NoTable,
+    NoColumn,
+    NoRow,
+    /// It is a formula cell whose value is not there yet.
+    Need,
+}
+
+/// The rows that meet the keys of a lookup.
+#[derive(Drop)]
+pub enum Matching {
+    Rows(RowList),
+    NoTable,
+    NoColumn,
+    /// One of the keys' cells is circular.
+    Circular,
+    /// One of the keys' cells has no value yet, and none is circular.
+    Need(CellId),
+}
+
+/// A reader of cells.
+pub trait CellReader {
+    ghost told: { Self → Reader };
+
+    /// The type of a column.
+    fn ty(&self, table: &Name, column: &Name) -> Option<&ColType>
+        ensures { MatchOption result
+            ((told self.now).kind table.now column.now ≡ None) (λ ty. (told self.now).kind table.now column.now ≡ Some ty.now) };
+
+    /// The rows of a table.
+    fn rows(&self, table: &Name) -> Option<&[u32]>
+        ensures rows { MatchOption result ((told self.now).rows table.now ≡ None)
+            (λ rows. (told self.now).rows table.now ≡ Some rows.now) }
+        ensures ascending { IfSome result (λ rows. IsAscending rows.now) };
+
+    /// What is told of a cell.
+    fn cell(&self, table: &Name, column: &Name, row: u32) -> Reading<'_>
+        ensures { told_of result ≡ (told self.now).cell (cell_at table.now column.now row) };
+
+    /// The rows that meet all the keys.
+    fn matching(&self, alloc: Global, table: &Name, keys: &KeyList) -> Result<Matching, AllocError>
+        ensures { IfOk result
+            (λ found. IsMatching found (matched (told self.now) table.now keys.now)) };
+}

@@ -8,6 +8,7 @@ pub mod Named
 pub mod Obeys
 pub mod TextLaws
 pub mod Collects
+mod Scans
 mod Items
 mod Lookups
 mod LookupEnds

@@ -12,6 +12,7 @@ pub mod Names
 pub mod Likeness
 pub mod Obeys
 pub mod Asked
+pub mod Scanned
 pub mod Halted
 pub mod Attempted
 pub mod Laws

@@ -26,7 +26,7 @@ is_row_of w v = false
 
 -- whether what a cell holds agrees with the value that is looked up
 abbrev pub agrees : CellValue → CellValue → Bool
-agrees w v = is_equal w v || is_row_of w v
+agrees w v = is_equal v w || is_row_of w v
 
 -- whether a list or a set of records has a part that agrees with the value
 abbrev pub holds : CellValue → CellValue → Bool

@@ -18,7 +18,12 @@ use std::sync::ledger::Ledger;
 /// How many items or rows the value of a formula has at most.
 pub const MAX_RESULT_ITEMS: usize = 10_000;
 
-/// One attempt at a formula, in a row of a table.
+/// One attempt at a formula in a row of a table.
+///
+/// Errors: want of memory. What a formula raises is its value, an error.
+/// Memory: the value, a note for each read and each lookup, and what is made on the way.
+/// Cost: linear in the formula and in the rows and items that it works on, beside the reader's calls.
+/// Source: docs/FORMULAS.md, "Values".
 pub fn attempt<R: CellReader, L: Ledger>(
     alloc: Global,
     formula: &Formula,
@@ -26,6 +31,7 @@ pub fn attempt<R: CellReader, L: Ledger>(
     reader: &R,
     steps: &mut Steps<L>,
 ) -> Result<Attempt, AllocError>
+    // One step, whatever comes of it.
     ensures steps { steps.new ≡ steps.old + 1 }
     ensures value { IfOk result
         (λ a. IsAttempt a (evaluated (R.told reader.now) at.now formula.now)) }

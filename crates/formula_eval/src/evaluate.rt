@@ -391,7 +391,8 @@ fn key_item<R: CellReader>(
     notes: &mut NoteList,
 ) -> Result<KeyItem, Halt>
     ensures { ComesAs (λ k. k) result notes.old notes.new
-        (item_run (form_of key.now.name key.now.value) (ev_key (R.told reader.now) at.now key.now.value)) }
+        (item_run (form_of key.now.name key.now.value)
+        (ev_key (R.told reader.now) at.now key.now.value)) }
 {
     let column = key.name.clone()?;
     let contains = is_containing(&key.value);

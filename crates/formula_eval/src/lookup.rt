@@ -12,7 +12,7 @@ ghost use Rattle.formula_eval.specs.Halted.{Comes, ComesAs, IsOut};
 use crate::attribute::is_id;
 use crate::halt::Halt;
 use crate::reading::note;
-use crate::{CellReader, Matching, Note, NoteList};
+use crate::{CellReader, CellSource, Matching, Note, NoteList};
 use cell_types::{CellValue, ErrKind, KeyList, Name, Read, RowList, RowRef, RowSet};
 use formula_parse::{LookupKey, LookupKeyList, LookupKind};
 use std::alloc::{AllocError, Global};
@@ -83,7 +83,8 @@ fn note_keys_met(table: &Name, keys: KeyList, notes: &mut NoteList) -> Result<()
 }
 
 fn of_matching(kind: LookupKind, table: &Name, matching: Matching) -> Result<CellValue, Halt>
-    ensures { (o : Out (List ℕ)) → IsMatching matching o → IsOut result (found_out kind table.now o) }
+    ensures { (o : Out (List ℕ))
+        → IsMatching matching o → IsOut result (found_out kind table.now o) }
 {
     match matching {
         Matching::Rows(rows) => Ok(of_rows(kind, table, rows)?),
@@ -111,8 +112,8 @@ fn of_rows(kind: LookupKind, table: &Name, rows: RowList) -> Result<CellValue, A
 }
 
 /// Whether the table has the column as a key.
-pub(crate) fn is_key_column<R: CellReader>(reader: &R, table: &Name, column: &Name) -> bool
-    ensures { result ≡ is_key_column (R.told reader.now) table.now column.now }
+pub(crate) fn is_key_column<S: CellSource>(reader: &S, table: &Name, column: &Name) -> bool
+    ensures { result ≡ is_key_column (S.told reader.now) table.now column.now }
 {
     is_id(column) || reader.ty(table, column).is_some()
 }

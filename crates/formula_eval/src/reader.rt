@@ -12,6 +12,7 @@ use std::alloc::{AllocError, Global};
 /// What is told of a cell.
 #[derive(Drop)]
 pub enum Reading<'a> {
+    /// Its value; that of a circular cell is the circular error.
     Known(&'a CellValue),
     NoTable,
     NoColumn,
@@ -32,27 +33,39 @@ pub enum Matching {
     Need(CellId),
 }
 
-/// A reader of cells.
-pub trait CellReader {
+/// What is told of cells.
+pub trait CellSource {
+    /// All that it tells.
     ghost told: { Self → Reader };
 
     /// The type of a column.
+    ///
+    /// Memory: none.
     fn ty(&self, table: &Name, column: &Name) -> Option<&ColType>
-        ensures { MatchOption result
-            ((told self.now).kind table.now column.now ≡ None) (λ ty. (told self.now).kind table.now column.now ≡ Some ty.now) };
+        ensures { MatchOption result ((told self.now).kind table.now column.now ≡ None)
+            (λ ty. (told self.now).kind table.now column.now ≡ Some ty.now) };
 
     /// The rows of a table.
+    ///
+    /// Memory: none.
     fn rows(&self, table: &Name) -> Option<&[u32]>
         ensures rows { MatchOption result ((told self.now).rows table.now ≡ None)
             (λ rows. (told self.now).rows table.now ≡ Some rows.now) }
         ensures ascending { IfSome result (λ rows. IsAscending rows.now) };
 
     /// What is told of a cell.
+    ///
+    /// Memory: none.
     fn cell(&self, table: &Name, column: &Name, row: u32) -> Reading<'_>
         ensures { told_of result ≡ (told self.now).cell (cell_at table.now column.now row) };
+}
 
-    /// The rows that meet all the keys.
+/// A source of cells that also answers lookups. `scan` is an answer for every source; one with an
+/// index has a cheaper one.
+pub trait CellReader: CellSource {
+    /// The rows that meet all the keys, ascending. Where cells of key columns are needed, and none
+    /// is circular, it names any of them.
     fn matching(&self, alloc: Global, table: &Name, keys: &KeyList) -> Result<Matching, AllocError>
         ensures { IfOk result
-            (λ found. IsMatching found (matched (told self.now) table.now keys.now)) };
+            (λ found. IsMatching found (matched (Self.told self.now) table.now keys.now)) };
 }

@@ -24,7 +24,7 @@ pub(crate) fn note(notes: &mut NoteList, note: Note) -> Result<(), Halt>
     Ok(())
 }
 
-fn cell_id(table: &Name, column: &Name, row: u32) -> Result<CellId, AllocError>
+pub(crate) fn cell_id(table: &Name, column: &Name, row: u32) -> Result<CellId, AllocError>
     ensures { IfOk result (λ c. c ≡ cell_at table.now column.now row) }
 {
     let table = table.clone()?;

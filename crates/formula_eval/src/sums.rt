@@ -21,7 +21,8 @@ pub(crate) fn total(values: &[CellValue]) -> Result<CellValue, Halt>
     }
 }
 
-// The exact sum; nothing where it passes 128 bits, which takes more numbers than there is memory for.
+// The exact sum; nothing where it passes 128 bits, which takes more numbers than there is memory
+// for.
 #[tactic(auto, using(crate::proofs::SumLemmas::folded_step))]
 fn sum_of_values(values: &[CellValue]) -> Option<i128>
     ensures { IfSome result (λ s. s ≡ folded ◌+ℤ◌ (pos 0) (numbers_in values.now)) }

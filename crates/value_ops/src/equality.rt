@@ -48,7 +48,7 @@ pub fn equality_law()
 /// Whether an item of a list equals a value.
 ///
 /// Memory: none.
-pub(crate) fn item_equals(item: &CellItem, value: &CellValue) -> bool
+pub fn item_equals(item: &CellItem, value: &CellValue) -> bool
     ensures { result ≡ is_equal value.now (value_of_item item.now) }
 {
     match (item, value) {

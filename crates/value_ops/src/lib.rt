@@ -23,7 +23,7 @@ mod order;
 mod truthfulness;
 
 pub use division::division_law;
-pub use equality::{equal, equality_law, same};
+pub use equality::{equal, equality_law, item_equals, same};
 pub use fault::OpFault;
 pub use joining::{MAX_JOINED_ITEMS, add};
 pub use laws::raising_law;

@@ -40,11 +40,11 @@ argument_at-value_of-requires g t c κs within =
 
 pub argument_at-returns-in-Some : goal.argument_at-returns-in-Some
 argument_at-returns-in-Some g t c =
-    rw (argument-there (g.R.CellReader.told c.args.reader.now) c.args.at.now c.args.arguments.now c.args.place c.in-Some.formula.now c.in-Some.ensures.0 c.in-Some.ensures.1) c.value_of.ensures
+    rw (argument-there (g.R.CellSource.told c.args.reader.now) c.args.at.now c.args.arguments.now c.args.place c.in-Some.formula.now c.in-Some.ensures.0 c.in-Some.ensures.1) c.value_of.ensures
 
 pub argument_at-returns-in-None : goal.argument_at-returns-in-None
 argument_at-returns-in-None g t c =
-    search (rules, argument-absent (g.R.CellReader.told c.args.reader.now) c.args.at.now c.args.arguments.now c.args.place c.in-None.ensures)
+    search (rules, argument-absent (g.R.CellSource.told c.args.reader.now) c.args.at.now c.args.arguments.now c.args.place c.in-None.ensures)
 
 pub call-returns-then-not-takes : goal.call-returns-then-not-takes
 call-returns-then-not-takes g t c = search (rules, count_of_from_list)
@@ -54,7 +54,7 @@ call-returns g t c = search (rules, count_of_from_list)
 
 pub items_of-loop-formula-preserved : goal.items_of-loop-formula-preserved
 items_of-loop-formula-preserved g t c =
-    let rd : Reader = g.R.CellReader.told c.args.reader.now in
+    let rd : Reader = g.R.CellSource.told c.args.reader.now in
     let ts : List Tree = c.as_slice-formula-items.result.now in
     let d = each_drop rd c.args.at.now ts c.loop-formula.formula-index c.formula-item.result c.loop-formula-test.true c.formula-item.is in
     let s = collect_step (as_item (ev rd c.args.at.now c.formula-item.result)) (map as_item (ev_each rd c.args.at.now (from_list (drop (c.loop-formula.formula-index + 1) ts)))) c.loop-formula.items.items c.in_ok-item.item c.loop-formula.notes c.item.new.notes c.in_ok-item.ensures in
@@ -63,7 +63,7 @@ items_of-loop-formula-preserved g t c =
 
 pub items_of-returns-in_err-item : goal.items_of-returns-in_err-item
 items_of-returns-in_err-item g t c =
-    let rd : Reader = g.R.CellReader.told c.args.reader.now in
+    let rd : Reader = g.R.CellSource.told c.args.reader.now in
     let ts : List Tree = c.as_slice-formula-items.result.now in
     let d = each_drop rd c.args.at.now ts c.loop-formula.formula-index c.formula-item.result c.loop-formula-test.true c.formula-item.is in
     let p = err_from_is_err_and c.from_residual.result c.from_residual.ensures.1 in
@@ -75,7 +75,7 @@ items_of-returns-in_err-item g t c =
 
 pub values_of-loop-formula-preserved : goal.values_of-loop-formula-preserved
 values_of-loop-formula-preserved g t c =
-    let rd : Reader = g.R.CellReader.told c.args.reader.now in
+    let rd : Reader = g.R.CellSource.told c.args.reader.now in
     let ts : List Tree = c.as_slice-formula-items.result.now in
     let d = each_drop rd c.args.at.now ts c.loop-formula.formula-index c.formula-item.result c.loop-formula-test.true c.formula-item.is in
     let s = collect_step (ev rd c.args.at.now c.formula-item.result) (ev_each rd c.args.at.now (from_list (drop (c.loop-formula.formula-index + 1) ts))) c.loop-formula.values.items c.in_ok-value.value c.loop-formula.notes c.value_of.new.notes c.in_ok-value.ensures in
@@ -84,7 +84,7 @@ values_of-loop-formula-preserved g t c =
 
 pub values_of-returns-in_err-value : goal.values_of-returns-in_err-value
 values_of-returns-in_err-value g t c =
-    let rd : Reader = g.R.CellReader.told c.args.reader.now in
+    let rd : Reader = g.R.CellSource.told c.args.reader.now in
     let ts : List Tree = c.as_slice-formula-items.result.now in
     let d = each_drop rd c.args.at.now ts c.loop-formula.formula-index c.formula-item.result c.loop-formula-test.true c.formula-item.is in
     let p = err_from_is_err_and c.from_residual.result c.from_residual.ensures.1 in
@@ -96,7 +96,7 @@ values_of-returns-in_err-value g t c =
 
 pub value_of-returns-in-Attribute : goal.value_of-returns-in-Attribute
 value_of-returns-in-Attribute g t c =
-    subst (λ (f : Tree). Comes c.field.result c.args.notes.now c.field.new.notes (ev (g.R.CellReader.told c.args.reader.now) c.args.at.now f)) (sym (ap tree_of c.in-Attribute.is) ∙ c.node.ensures) c.field.ensures
+    subst (λ (f : Tree). Comes c.field.result c.args.notes.now c.field.new.notes (ev (g.R.CellSource.told c.args.reader.now) c.args.at.now f)) (sym (ap tree_of c.in-Attribute.is) ∙ c.node.ensures) c.field.ensures
 
 pub key_items-key_item-requires : goal.key_items-key_item-requires
 key_items-key_item-requires g t c κs within =
@@ -107,7 +107,7 @@ key_items-key_item-requires g t c κs within =
 
 pub key_items-returns-in_err-item : goal.key_items-returns-in_err-item
 key_items-returns-in_err-item g t c =
-    let rd : Reader = g.R.CellReader.told c.args.reader.now in
+    let rd : Reader = g.R.CellSource.told c.args.reader.now in
     let ks : List LookupKey = c.as_slice-key-items.result.now in
     let d = keys_drop rd c.args.at.now ks c.loop-key.key-index c.key-item.result c.loop-key-test.true c.key-item.is in
     let i : ℕ = c.loop-key.key-index in
@@ -120,7 +120,7 @@ key_items-returns-in_err-item g t c =
 
 pub key_items-loop-key-preserved : goal.key_items-loop-key-preserved
 key_items-loop-key-preserved g t c =
-    let rd : Reader = g.R.CellReader.told c.args.reader.now in
+    let rd : Reader = g.R.CellSource.told c.args.reader.now in
     let ks : List LookupKey = c.as_slice-key-items.result.now in
     let i : ℕ = c.loop-key.key-index in
     let vs : List KeyItem = c.loop-key.items.items in
@@ -132,31 +132,31 @@ key_items-loop-key-preserved g t c =
 
 pub lookup-returns-in_err-open : goal.lookup-returns-in_err-open
 lookup-returns-in_err-open g t c =
-    let rd : Reader = g.R.CellReader.told c.args.reader.now in
+    let rd : Reader = g.R.CellSource.told c.args.reader.now in
     let ks : Keys = keys_from c.args.keys.now in
     search (rules, opening_halts rd c.args.table.now c.args.kind (forms_of ks) (ev_keys rd c.args.at.now ks) (keys_even rd c.args.at.now ks))
 
 pub lookup-returns-in-Err : goal.lookup-returns-in-Err
 lookup-returns-in-Err g t c =
-    let rd : Reader = g.R.CellReader.told c.args.reader.now in
+    let rd : Reader = g.R.CellSource.told c.args.reader.now in
     let ks : Keys = keys_from c.args.keys.now in
     items_halt rd c.args.table.now c.args.kind (forms_of ks) (ev_keys rd c.args.at.now ks) (keys_even rd c.args.at.now ks) c.args.notes.now c.open.new.notes c.in_ok-open.ensures (λ (l : List KeyItem). l) (λ (v : CellValue). v) c.in-Err.halt c.key_items.new.notes c.in-Err.ensures
 
 pub lookup-returns-in-Ok : goal.lookup-returns-in-Ok
 lookup-returns-in-Ok g t c =
-    let rd : Reader = g.R.CellReader.told c.args.reader.now in
+    let rd : Reader = g.R.CellSource.told c.args.reader.now in
     let ks : Keys = keys_from c.args.keys.now in
     lookup_ends rd c.args.table.now c.args.kind (forms_of ks) (ev_keys rd c.args.at.now ks) (keys_even rd c.args.at.now ks) c.found.result c.in-Ok.items
     c.args.notes.now c.open.new.notes c.key_items.new.notes c.found.new.notes c.in_ok-open.ensures c.in-Ok.ensures c.found.ensures
 
 pub binary-returns : goal.binary-returns
 binary-returns g t c =
-    let rd : Reader = g.R.CellReader.told c.args.reader.now in
+    let rd : Reader = g.R.CellSource.told c.args.reader.now in
     combined_ends c.args.op (ev rd c.args.at.now c.args.left.now) (ev rd c.args.at.now c.args.right.now) c.in_ok-left.left c.with_right.result c.value_of-right.result c.args.notes.now c.value_of.new.notes c.value_of-right.new.notes
     c.in_ok-left.ensures (sym c.is_decided.ensures ∙ c.if-is_decided.false) c.value_of-right.ensures c.with_right.ensures
 
 pub key_item-returns-in-Err : goal.key_item-returns-in-Err
 key_item-returns-in-Err g t c =
-    let rd : Reader = g.R.CellReader.told c.args.reader.now in
+    let rd : Reader = g.R.CellSource.told c.args.reader.now in
     seq_halts (λ (v : CellValue). v) (λ (k : KeyItem). k) c.in-Err.halt (ev_key rd c.args.at.now c.args.key.now.value)
     (λ (v : CellValue). done (gives (record { column = c.args.key.now.name; value = v; contains = (form_of c.args.key.now.name c.args.key.now.value).contains }))) c.args.notes.now c.key_value.new.notes c.in-Err.ensures

@@ -10,7 +10,7 @@ use Rattle.formula_eval.proofs.lookup.open.Goals as goal
 
 pub returns : goal.returns
 returns g c =
-    let rd : Reader = g.R.CellReader.told c.args.reader.now in
+    let rd : Reader = g.R.CellSource.told c.args.reader.now in
     let ks : List LookupKey = c.as_slice.result.now in
     let same : map (λ (k : LookupKey). k.name) ks ≡ columns_of (forms_of (keys_from c.args.keys.now)) =
     subst (λ (l : List (List ℕ × Tree)). map (λ (k : LookupKey). k.name) ks ≡ columns_of (forms_of (keys_from l))) c.as_slice.ensures (sym (columns-keys ks)) in

@@ -16,8 +16,7 @@ use Rattle.view_parts.specs.declared.viewers.Viewer.{Viewer}
 use Rattle.view_parts.specs.Parts.{affected_part}
 use Rattle.view_parts.specs.Shown.{view as shown_to}
 use Rattle.view_parts.specs.Viewers.{is_same, viewer_of}
-use Rattle.view_parts.proofs.SeenLemmas.{IsView-wanted}
-use Rattle.view_parts.proofs.SeenParts.{wanted_affected}
+use Rattle.view_parts.proofs.SeenParts.{IsView-affected}
 use Rattle.view_parts.proofs.ViewLemmas.{IsView-view}
 use Rattle.bundle_core.specs.declared.view_changes.SeenPart.{SeenPart}
 use Rattle.bundle_core.specs.declared.view_changes.ToldChanges.{ToldChanges}
@@ -37,9 +36,7 @@ same_view user s s' w w' e = changes_empty (view user s) (view user s') (is_view
 
 -- what a viewer sees of what actions are about is a view
 seen_view : (actions : List DocAction) (s : Document) → IsLaidOut s → (v : Viewer) → IsSeen (seen_part actions s v)
-seen_view actions s w v =
-    let P : List ViewTable → Type 0 = λ l. IsView l in
-    subst P (wanted_affected v actions s w) (IsView-wanted v (Some actions) s w)
+seen_view actions s w v = IsView-affected v actions [] s w
 
 pub each_seen : (actions : List DocAction) (s : Document) → IsLaidOut s → (viewers : List Viewer) → AllByRecursion IsSeen (map (seen_part actions s) viewers)
 each_seen actions s w [] = tt
@@ -57,20 +54,20 @@ same_viewer v w e = ap (λ b. let u : Viewer = record { is_owner = b } in u) (sa
 -- a viewer who is among others is told the changes of its own part
 told_each : (actions : List DocAction) (s t : Document) (viewers : List Viewer) (v : Viewer) → is_among viewers v ≡ true
     → told_to (map (changes_since actions t) (map (seen_part actions s) viewers)) v
-    ≡ changes (affected_part actions (shown_to v s)) (affected_part actions (shown_to v t))
+    ≡ changes (affected_part actions [] (shown_to v s)) (affected_part actions [] (shown_to v t))
 told_each actions s t [] v among = absurd (false≢true among)
 told_each actions s t (w ∷ viewers) v among =
     let rest : List ToldChanges = map (changes_since actions t) (map (seen_part actions s) viewers) in
     let first : ToldChanges = changes_since actions t (seen_part actions s w) in
     let told : Option ToldChanges → List ViewAction = λ o. elim o as (λ _. List ViewAction) [ None ↦ [] | Some x ↦ x.actions ] in
     elim (is_same w v) as (λ b. is_same w v ≡ b → (b || is_among viewers v) ≡ true → told (cond b (Some first) (find (λ (x : ToldChanges). is_same x.viewer v) rest))
-    ≡ changes (affected_part actions (shown_to v s)) (affected_part actions (shown_to v t))) [
-      | true ↦ λ same _. ap (λ u. changes (affected_part actions (shown_to u s)) (affected_part actions (shown_to u t))) (same_viewer w v same)
+    ≡ changes (affected_part actions [] (shown_to v s)) (affected_part actions [] (shown_to v t))) [
+      | true ↦ λ same _. ap (λ u. changes (affected_part actions [] (shown_to u s)) (affected_part actions [] (shown_to u t))) (same_viewer w v same)
       | false ↦ λ _ later. told_each actions s t viewers v later
     ] refl among
 
 pub told_to-changes : (actions : List DocAction) (s t : Document) (viewers : List Viewer) (v : Viewer) (parts : List SeenPart) (told : List ToldChanges) → is_among viewers v ≡ true
     → parts ≡ map (seen_part actions s) viewers → told ≡ map (changes_since actions t) parts
-    → told_to told v ≡ changes (affected_part actions (shown_to v s)) (affected_part actions (shown_to v t))
+    → told_to told v ≡ changes (affected_part actions [] (shown_to v s)) (affected_part actions [] (shown_to v t))
 told_to-changes actions s t viewers v parts told among e f =
     ap (λ l. told_to l v) (f ∙ ap (map (changes_since actions t)) e) ∙ told_each actions s t viewers v among

@@ -21,7 +21,7 @@ is_among viewers v = list_any (λ (w : Viewer). is_same w v) viewers
 abbrev pub seen_part : List DocAction → Document → Viewer → SeenPart
 seen_part actions s v = record {
   viewer = v;
-  view = record { tables = affected_part actions (view v s) };
+  view = record { tables = affected_part actions [] (view v s) };
 }
 
 abbrev pub IsSeen : SeenPart → Type 0
@@ -31,7 +31,7 @@ IsSeen p = IsView p.view.tables
 abbrev pub changes_since : List DocAction → Document → SeenPart → ToldChanges
 changes_since actions s p = record {
   viewer = p.viewer;
-  actions = changes p.view.tables (affected_part actions (view p.viewer s));
+  actions = changes p.view.tables (affected_part actions [] (view p.viewer s));
 }
 
 -- what a viewer is told

@@ -26,7 +26,7 @@ use crate::view_changes::{ToldChanges, see_parts, tell_changes, viewers_of};
 use doc_model::{DocAction, DocTables};
 use grist_json::Line;
 use std::alloc::{AllocError, Global};
-use view_parts::{Viewer, part_law};
+use view_parts::{Viewer, outside_law, part_law};
 
 /// Does the actions of a bundle of the session of that index, and posts every other open session
 /// the line that tells them. All memory is taken before anything that can be seen changes.
@@ -120,6 +120,7 @@ fn done_and_told<D: DocTables>(
 {
     let before = see_parts(alloc, tables, actions, viewers)?;
     put_all(tables, actions, backs)?;
+    outside_law();
     part_law();
     tell_changes(alloc, tables, actions, &before)
 }

@@ -119,7 +119,6 @@ fn plan_action<D: DocTables>(
 }
 
 // The steps of an action that nothing stands against, or the limit that they would pass.
-#[tactic(auto, using(doc_model::proofs::LaidOutLaws::laid_out))]
 fn judge_steps<D: DocTables>(
     alloc: Global,
     tables: &D,

@@ -69,7 +69,7 @@ fn seen_part<D: DocReader>(
     requires { IsLaidOut (D.document tables.now) }
     ensures { IfOk result (λ p. p ≡ seen_part actions.now (D.document tables.now) viewer.now) }
 {
-    let view = affected_view(alloc, tables, *viewer, actions)?;
+    let view = affected_view(alloc, tables, *viewer, actions, &[])?;
     Ok(SeenPart {
         viewer: *viewer,
         view,
@@ -105,7 +105,7 @@ fn changes_since<D: DocReader>(
     requires seen { IsSeen before.now }
     ensures { IfOk result (λ t. t ≡ changes_since actions.now (D.document tables.now) before.now) }
 {
-    let after = affected_view(alloc, tables, before.viewer, actions)?;
+    let after = affected_view(alloc, tables, before.viewer, actions, &[])?;
     Ok(ToldChanges {
         viewer: before.viewer,
         actions: changes(alloc, &before.view, &after)?,

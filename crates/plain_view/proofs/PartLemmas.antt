@@ -8,12 +8,9 @@ use Rattle.doc_model.specs.Changes.{for_each}
 use Rattle.doc_model.specs.Grid.{Grid, cell}
 use Rattle.doc_model.specs.Rows.{has}
 use Rattle.doc_model.proofs.Choices.{keep}
-use Rattle.plain_view.specs.PartsOfViews.{Both, SameRow}
+use Rattle.doc_model.specs.SameRows.{Both, SameRow}
 
 module _ {C : Type 0} (id : C → List ℕ) where
-  pub SameRow-itself : (r : ℕ) (g : Grid C) → SameRow id r g g
-  SameRow-itself r g = record { columns = refl; rows = refl; cells = λ d found here. refl }
-
   pub SameRow-trans : (r : ℕ) (f g h : Grid C) → SameRow id r f g → SameRow id r g h → SameRow id r f h
   SameRow-trans r f g h a b = record {
     columns = a.columns ∙ b.columns;
@@ -22,10 +19,6 @@ module _ {C : Type 0} (id : C → List ℕ) where
   }
 
 module _ {X : Type 0} (R : X → X → Type 0) where
-  pub both_itself : ((x : X) → R x x) → (o : Option X) → Both R o o
-  both_itself itself None = tt
-  both_itself itself (Some x) = itself x
-
   pub both_trans : ((x y z : X) → R x y → R y z → R x z) → (o p q : Option X) → Both R o p → Both R p q → Both R o q
   both_trans trans None None q a b = b
   both_trans trans None (Some y) q a b = absurd a

@@ -10,7 +10,8 @@ use Rattle.doc_model.proofs.Choices.{not_true, map-map, each_weaker, each_passed
 use Rattle.doc_model.proofs.ByIdsLaws.{found_id, found_all, has_id-find, has_found, find_absent, find-filter, AreDistinct-IsByIds, each_found}
 use Rattle.doc_model.proofs.ChangesLaws.{named, edits_of, revised-renewed}
 use Rattle.doc_model.proofs.ViewEditsLaws.{edits_again}
-use Rattle.plain_view.specs.PartsOfViews.{AgreeOutside, AreSame, Both, passing}
+use Rattle.doc_model.specs.SameRows.{Both}
+use Rattle.plain_view.specs.PartsOfViews.{AgreeOutside, AreSame, passing}
 use Rattle.plain_view.proofs.PartLemmas.{filter_through, for_each_through, for_each_mapped, find-mapped, keep_by_id}
 use Rattle.plain_view.proofs.PartLemmasCells.{passing_all}
 use Rattle.plain_view.proofs.PartLemmasEdits.{edits_same}

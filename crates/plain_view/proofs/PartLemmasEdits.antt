@@ -14,7 +14,7 @@ use Rattle.doc_model.proofs.ByIdsLaws.{each_found}
 use Rattle.doc_model.proofs.RowsLaws.{each_has, has-filter}
 use Rattle.doc_model.proofs.SameLaws.{same_value-Decides}
 use Rattle.doc_model.proofs.ViewEditsLaws.{after, at, gone, new, changed, out, come}
-use Rattle.plain_view.specs.PartsOfViews.{SameRow}
+use Rattle.doc_model.specs.SameRows.{SameRow}
 use Rattle.plain_view.proofs.PartLemmas.{map_every, each_passes, filter_again}
 use Rattle.plain_view.proofs.PartLemmasCells.{passed, cell_passed, IsAlike, alike_after, alike_passed, cell_kept}
 

@@ -1,11 +1,10 @@
 -- Parts of views: some tables with some of their rows, and what the changes of a part rest on.
-use Rattle.std.specs.Prelude.{ℕ, Bool, true, false, cond, List, [], ◌∷◌, map, filter, Option, Some, None, ◌≡◌, ⊤}
+use Rattle.std.specs.Prelude.{ℕ, Bool, false, cond, List, [], ◌∷◌, map, filter, ◌≡◌}
 use Rattle.cell_types.specs.declared.value.CellValue.{CellValue}
 use Rattle.doc_model.specs.declared.view.ViewTable.{ViewTable}
 use Rattle.doc_model.specs.ByIds.{find_id}
 use Rattle.doc_model.specs.Changes.{IsView, changes, grid, shown_table_id}
-use Rattle.doc_model.specs.Grid.{Grid, cell}
-use Rattle.doc_model.specs.Rows.{has}
+use Rattle.doc_model.specs.SameRows.{Both, SameRow}
 use Rattle.doc_model.specs.ViewEdits.{shown_id}
 
 -- the cells of those rows that pass
@@ -29,21 +28,7 @@ abbrev pub part_of : (List ℕ → Bool) → (List ℕ → ℕ → Bool) → Lis
 part_of affected test v =
     map (λ (t : ViewTable). passing (test t.id) t) (filter (λ (t : ViewTable). affected t.id) v)
 
--- two tables hold the same in the row, under the same columns
-pub record SameRow {C : Type 0} (id : C → List ℕ) (r : ℕ) (g h : Grid C) : Type 0 where
-  pub columns : g.columns ≡ h.columns
-  pub rows : has g.rows r ≡ has h.rows r
-  pub cells : (d : C) → find_id id (id d) g.columns ≡ Some d → has g.rows r ≡ true
-      → cell id g (id d) r ≡ cell id h (id d) r
-
--- neither is there, or both are and are so related
-abbrev pub Both : {X : Type 0} → (X → X → Type 0) → Option X → Option X → Type 0
-Both R None None = ⊤
-Both R (Some x) (Some y) = R x y
-Both R None (Some y) = ⊥
-Both R (Some x) None = ⊥
-
--- the same of two tables of views
+-- two tables of views hold the same in the row, under the same columns
 abbrev pub AreSame : ℕ → ViewTable → ViewTable → Type 0
 AreSame r t u = SameRow shown_id r (grid t) (grid u)
 

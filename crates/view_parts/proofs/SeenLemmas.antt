@@ -1,9 +1,8 @@
 -- What is found in a view, and that views of wanted tables are views.
 use Rattle.std.proofs.Common.{ℕ, Bool, true, false, cond, ◌&&◌, List, [], ◌∷◌, map, filter, length, ◌≡◌, refl, sym, ap, subst, ◌∙◌, Option, Some, None, Bor}
-use Rattle.std.specs.Option.{IfSome, MatchOption, option_map}
+use Rattle.std.specs.Option.{MatchOption, option_map}
 use Rattle.std.specs.Str.{bytes_eq}
 use Rattle.cell_types.specs.declared.value.CellValue.{CellValue}
-use Rattle.doc_model.specs.declared.action.DocAction.{DocAction}
 use Rattle.doc_model.specs.declared.column.ColDef.{ColDef}
 use Rattle.doc_model.specs.declared.view.ViewTable.{ViewTable}
 use Rattle.doc_model.specs.ByIds.{find_id, has_id, IsByIds}
@@ -22,6 +21,8 @@ use Rattle.doc_model.proofs.Choices.{cond_false, cond_true, each_filter, each_ma
 use Rattle.doc_model.proofs.RowsLaws.{IsAscending-filter}
 use Rattle.doc_readers.specs.Parts.{grid_at}
 use Rattle.view_parts.specs.declared.viewers.Viewer.{Viewer}
+use Rattle.view_parts.specs.declared.wanted.Wanted.{Wanted}
+use Rattle.view_parts.specs.declared.wanted.Wanted.TheVariants.{Affected, All}
 use Rattle.view_parts.specs.Parts.{is_row_affected}
 use Rattle.view_parts.specs.Shown.{is_column_shown, is_shown, rows_shown, shown_column, shown_table, view}
 use Rattle.view_parts.specs.Wanted.{cells_at, columns_of, is_wanted, rows_wanted, shown_with, table_wanted, wanted}
@@ -104,11 +105,11 @@ IsShown-shown_with id g rows ascends =
       };
     }
 
-wanted_ascend : (o : Option (List DocAction)) (id rows : List ℕ) → IsAscending rows → IsAscending (rows_wanted o id rows)
-wanted_ascend None id rows ascends = ascends
-wanted_ascend (Some actions) id rows ascends = IsAscending-filter (is_row_affected actions id) rows ascends
+wanted_ascend : (o : Wanted) (id rows : List ℕ) → IsAscending rows → IsAscending (rows_wanted o id rows)
+wanted_ascend All id rows ascends = ascends
+wanted_ascend (Affected actions changed) id rows ascends = IsAscending-filter (is_row_affected actions.now changed.now id) rows ascends
 
-pub IsView-wanted : (viewer : Viewer) (o : Option (List DocAction)) (s : Document) → IsLaidOut s → IsView (wanted viewer o s)
+pub IsView-wanted : (viewer : Viewer) (o : Wanted) (s : Document) → IsLaidOut s → IsView (wanted viewer o s)
 IsView-wanted viewer o s laid =
     let some : Table → Bool = λ t. is_wanted o t.id && is_shown viewer t.id in
     record {

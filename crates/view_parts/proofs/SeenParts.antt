@@ -1,5 +1,5 @@
 -- Parts of a view are views of wanted tables.
-use Rattle.std.proofs.Common.{ℕ, Bool, true, false, cond, ◌&&◌, List, [], ◌∷◌, map, filter, ◌≡◌, refl, sym, ap, subst, ◌∙◌, Option, Some, None}
+use Rattle.std.proofs.Common.{ℕ, Bool, true, false, cond, ◌&&◌, List, [], ◌∷◌, map, filter, ◌≡◌, refl, sym, ap, subst, ◌∙◌, Option, Some, None, Bor}
 use Rattle.std.proofs.lemmas.Slice.Eq.{bytes_eq-Decides}
 use Rattle.std.specs.Option.{option_map, option_to_list}
 use Rattle.std.specs.Str.{bytes_eq}
@@ -22,12 +22,14 @@ use Rattle.doc_model.proofs.RowsLaws.{IsAscending-filter}
 use Rattle.doc_readers.specs.Parts.{grid_at}
 use Rattle.plain_view.specs.PartsOfViews.{passing, passing_cells}
 use Rattle.user_actions.specs.Kinds.{table_of}
+use Rattle.view_parts.specs.declared.changed.ChangedRows.{ChangedRows}
 use Rattle.view_parts.specs.declared.viewers.Viewer.{Viewer}
+use Rattle.view_parts.specs.declared.wanted.Wanted.TheVariants.{Affected, All}
 use Rattle.view_parts.specs.Parts.{requested_part, is_row_affected, is_affected, affected_part, rows_requested}
 use Rattle.view_parts.specs.Shown.{is_shown, shown_table, view}
 use Rattle.view_parts.specs.Wanted.{cells_at, columns_of, shown_with, table_wanted, wanted}
 use Rattle.view_parts.proofs.PlacedLemmas.{find-by_id}
-use Rattle.view_parts.proofs.SeenLemmas.{find_seen, IsView-one}
+use Rattle.view_parts.proofs.SeenLemmas.{find_seen, IsView-one, IsView-wanted}
 use Rattle.view_parts.proofs.AffectedRows.{everywhere}
 
 -- ---- rows that pass
@@ -114,25 +116,32 @@ module _ (test : List ℕ → ℕ → Bool) where
 
 -- ---- the part that actions are about
 
-pub wanted_all : (viewer : Viewer) (s : Document) → wanted viewer None s ≡ view viewer s
+pub wanted_all : (viewer : Viewer) (s : Document) → wanted viewer All s ≡ view viewer s
 wanted_all viewer s = refl
 
-pub wanted_affected : (viewer : Viewer) (actions : List DocAction) (s : Document) → IsLaidOut s → wanted viewer (Some actions) s ≡ affected_part actions (view viewer s)
-wanted_affected viewer actions s laid =
+pub wanted_affected : (viewer : Viewer) (actions : Bor (List DocAction)) (changed : Bor (List ChangedRows)) (s : Document) → IsLaidOut s
+    → wanted viewer (Affected actions changed) s ≡ affected_part actions.now changed.now (view viewer s)
+wanted_affected viewer actions changed s laid =
     let seen : Table → Bool = λ t. is_shown viewer t.id in
-    let affected : Table → Bool = λ t. is_affected actions t.id in
-    let told : ViewTable → Bool = λ t. is_affected actions t.id in
+    let affected : Table → Bool = λ t. is_affected actions.now changed.now t.id in
+    let told : ViewTable → Bool = λ t. is_affected actions.now changed.now t.id in
     let shown : List Table = filter seen s in
-    let cut : ViewTable → ViewTable = λ t. passing (is_row_affected actions t.id) t in
+    let cut : ViewTable → ViewTable = λ t. passing (is_row_affected actions.now changed.now t.id) t in
     sym (
     ap (map cut) (
     filter-by_id shown_table_id told (map shown_table shown) (AreDistinct-shown shown (AreDistinct-filter table_id seen s laid.distinct))
     ∙ ap (by_id shown_table_id) (filter-map told shown_table shown ∙ ap (map shown_table) (filter-filter affected seen s)))
-    ∙ map-by_id (is_row_affected actions) (map shown_table (filter (λ t. affected t && seen t) s))
+    ∙ map-by_id (is_row_affected actions.now changed.now) (map shown_table (filter (λ t. affected t && seen t) s))
     ∙ ap (by_id shown_table_id) (
     sym (map-map cut shown_table (filter (λ t. affected t && seen t) s))
-    ∙ map_each (λ t. cut (shown_table t)) (table_wanted (Some actions)) (filter (λ t. affected t && seen t) s)
-    (everywhere (λ (t : Table). cut (shown_table t) ≡ table_wanted (Some actions) t) (λ t. passing-shown (is_row_affected actions t.id) t) (filter (λ t. affected t && seen t) s))))
+    ∙ map_each (λ t. cut (shown_table t)) (table_wanted (Affected actions changed)) (filter (λ t. affected t && seen t) s)
+    (everywhere (λ (t : Table). cut (shown_table t) ≡ table_wanted (Affected actions changed) t) (λ t. passing-shown (is_row_affected actions.now changed.now t.id) t) (filter (λ t. affected t && seen t) s))))
+
+pub IsView-affected : (viewer : Viewer) (actions : List DocAction) (changed : List ChangedRows) (s : Document) → IsLaidOut s → IsView (affected_part actions changed (view viewer s))
+IsView-affected viewer actions changed s laid =
+    let a : Bor (List DocAction) = record { ref_ptr = (0, 0); now = actions } in
+    let b : Bor (List ChangedRows) = record { ref_ptr = (0, 0); now = changed } in
+    subst IsView (wanted_affected viewer a b s laid) (IsView-wanted viewer (Affected a b) s laid)
 
 -- ---- the part that a user action requests
 

@@ -2,7 +2,6 @@
 use Rattle.std.proofs.Common.{ℕ, zero, suc, ◌+◌, ◌<◌, Bool, true, false, cond, ◌&&◌, List, [], ◌∷◌, ◌++◌, append-nil, map, filter, take, length, get_or, slice_get, ◌≡◌, refl, sym, ap, ◌∙◌, Option, Some, None, arith}
 use Rattle.std.proofs.lemmas.List.{map-append}
 use Rattle.std.proofs.lemmas.List.Elements.{filter-append}
-use Rattle.doc_model.specs.declared.action.DocAction.{DocAction}
 use Rattle.doc_model.specs.declared.column.ColDef.{ColDef}
 use Rattle.doc_model.specs.declared.view.ViewTable.{ViewTable}
 use Rattle.doc_model.specs.ByIds.{by_id, has_id, put_by_id}
@@ -15,6 +14,7 @@ use Rattle.doc_model.proofs.ByIdsLaws.{has_id-by_id, has_id-map}
 use Rattle.doc_model.proofs.Choices.{length_map}
 use Rattle.doc_readers.specs.Parts.{grid_at}
 use Rattle.view_parts.specs.declared.viewers.Viewer.{Viewer}
+use Rattle.view_parts.specs.declared.wanted.Wanted.{Wanted}
 use Rattle.view_parts.specs.Shown.{is_shown}
 use Rattle.view_parts.specs.Wanted.{is_wanted, rows_wanted, shown_with, table_wanted, wanted}
 use Rattle.view_parts.proofs.PlacedLemmas.{absent-filter, absent_before, by_id-last, found_at, take_next}
@@ -32,14 +32,14 @@ take_whole (x ∷ xs) zero e = absurd (omega (arith, e))
 take_whole (x ∷ xs) (suc n) e = ap (λ l. x ∷ l) (take_whole xs n (omega (arith, e)))
 
 -- whether a table is wanted and seen
-abbrev pub is_taken : Viewer → Option (List DocAction) → Table → Bool
+abbrev pub is_taken : Viewer → Wanted → Table → Bool
 is_taken viewer o t = is_wanted o t.id && is_shown viewer t.id
 
 -- the first so many tables, as far as they are wanted and seen
-abbrev pub taken : Viewer → Option (List DocAction) → Document → ℕ → List ViewTable
+abbrev pub taken : Viewer → Wanted → Document → ℕ → List ViewTable
 taken viewer o s k = by_id shown_table_id (map (table_wanted o) (filter (is_taken viewer o) (take k s)))
 
-module _ (viewer : Viewer) (o : Option (List DocAction)) (s : Document) (laid : IsLaidOut s) (ids : List (List ℕ)) (k : ℕ) (id : List ℕ) (ys : List ViewTable) (named : ids ≡ map table_id s) (lt : k < length ids) (at : id ≡ get_or ids k id) (so : ys ≡ taken viewer o s k) where
+module _ (viewer : Viewer) (o : Wanted) (s : Document) (laid : IsLaidOut s) (ids : List (List ℕ)) (k : ℕ) (id : List ℕ) (ys : List ViewTable) (named : ids ≡ map table_id s) (lt : k < length ids) (at : id ≡ get_or ids k id) (so : ys ≡ taken viewer o s k) where
   here : (t : Table) × (slice_get s k ≡ Some t) × (id ≡ t.id)
   here = named_at s k id id (omega (arith, lt, ap length named)) (at ∙ ap (λ l. get_or l k id) named)
 
@@ -77,6 +77,6 @@ module _ (viewer : Viewer) (o : Option (List DocAction)) (s : Document) (laid : 
       ∙ ap (λ l. by_id shown_table_id (map (table_wanted o) l)) (sym (filter-append (is_taken viewer o) (take k s) (t ∷ [])))
       ∙ ap (λ l. by_id shown_table_id (map (table_wanted o) (filter (is_taken viewer o) l))) (sym (take_next s k t here.1))
 
-pub tables_end : (viewer : Viewer) (o : Option (List DocAction)) (s : Document) (ids : List (List ℕ)) (k : ℕ) (ys : List ViewTable) → ids ≡ map table_id s → k ≡ length ids → ys ≡ taken viewer o s k → ys ≡ wanted viewer o s
+pub tables_end : (viewer : Viewer) (o : Wanted) (s : Document) (ids : List (List ℕ)) (k : ℕ) (ys : List ViewTable) → ids ≡ map table_id s → k ≡ length ids → ys ≡ taken viewer o s k → ys ≡ wanted viewer o s
 tables_end viewer o s ids k ys named all so =
     so ∙ ap (λ l. by_id shown_table_id (map (table_wanted o) (filter (is_taken viewer o) l))) (take_whole s k (all ∙ ap length named ∙ length_map table_id s))

@@ -21,7 +21,7 @@ use Rattle.view_parts.specs.Shown.{is_shown, shown_column, shown_columns, shown_
 
 -- ---- a view of a document is a view
 
-IsShown-shown : (t : Table) → IsGrid column_id t.grid → IsShown (grid (shown_table t))
+pub IsShown-shown : (t : Table) → IsGrid column_id t.grid → IsShown (grid (shown_table t))
 IsShown-shown t sound = record {
   by_ids = IsByIds-by_id shown_id (map shown_column t.grid.columns);
   is_grid = IsGrid-grid_of shown_id (shown_columns t) t.grid.rows (λ d r. cell column_id t.grid d.id r)

@@ -1,49 +1,41 @@
--- The part of a view that actions are about.
-use Rattle.std.specs.Prelude.{ℕ, Bool, true, cond, ◌&&◌, ◌||◌, List, [], ◌∷◌, map, filter}
+-- The part of a view that actions and changed formula cells are about.
+use Rattle.std.specs.Prelude.{ℕ, Bool, ◌&&◌, ◌||◌, List, [], map}
 use Rattle.std.specs.List.{list_any}
 use Rattle.std.specs.Str.{bytes_eq}
 use Rattle.doc_model.specs.declared.action.DocAction.{DocAction}
-use Rattle.doc_model.specs.declared.action.DocAction.TheVariants.{BulkAdd, BulkUpdate, BulkRemove, AddTable, RemoveTable, RenameTable, AddColumn, RemoveColumn, RenameColumn, ModifyColumn}
 use Rattle.doc_model.specs.declared.user_action.UserAction.{UserAction}
 use Rattle.doc_model.specs.declared.user_action.UserAction.TheVariants.{Update, Remove}
 use Rattle.doc_model.specs.declared.view.ViewTable.{ViewTable}
 use Rattle.doc_model.specs.Rows.{has}
+use Rattle.doc_model.specs.Touched.{is_about, names_table}
 use Rattle.plain_view.specs.PartsOfViews.{part_of, passing}
 use Rattle.user_actions.specs.Kinds.{table_of}
 use Rattle.user_actions.specs.ObjectionLaws.{only}
 use Rattle.user_actions.specs.Steps.{row_ids}
+use Rattle.view_parts.specs.declared.changed.ChangedRows.{ChangedRows}
 
--- whether the action names the table, under its id before or after it
-abbrev pub names_table : DocAction → List ℕ → Bool
-names_table (BulkAdd table rows ks) id = bytes_eq table id
-names_table (BulkUpdate table rows ks) id = bytes_eq table id
-names_table (BulkRemove table rows) id = bytes_eq table id
-names_table (AddTable table row columns) id = bytes_eq table id
-names_table (RemoveTable table) id = bytes_eq table id
-names_table (RenameTable table new) id = bytes_eq table id || bytes_eq new id
-names_table (AddColumn table d) id = bytes_eq table id
-names_table (RemoveColumn table column) id = bytes_eq table id
-names_table (RenameColumn table column new) id = bytes_eq table id
-names_table (ModifyColumn table column info) id = bytes_eq table id
+-- whether a formula cell changed in the table
+abbrev pub has_changed : List ChangedRows → List ℕ → Bool
+has_changed changed id = list_any (λ (w : ChangedRows). bytes_eq w.table id) changed
 
--- whether the action is about that row of its table: a schema action is about all
-abbrev pub is_about : DocAction → ℕ → Bool
-is_about (BulkAdd table rows ks) r = has rows r
-is_about (BulkUpdate table rows ks) r = has rows r
-is_about (BulkRemove table rows) r = has rows r
-is_about _ r = true
+-- whether one changed in that row of it
+abbrev pub has_changed_row : List ChangedRows → List ℕ → ℕ → Bool
+has_changed_row changed id r =
+    list_any (λ (w : ChangedRows). bytes_eq w.table id && has w.rows r) changed
 
--- whether some action names the table
-abbrev pub is_affected : List DocAction → List ℕ → Bool
-is_affected actions id = list_any (λ a. names_table a id) actions
+-- whether some action names the table, or a formula cell of it changed
+abbrev pub is_affected : List DocAction → List ChangedRows → List ℕ → Bool
+is_affected actions changed id = list_any (λ a. names_table a id) actions || has_changed changed id
 
--- whether some action is about that row of the table
-abbrev pub is_row_affected : List DocAction → List ℕ → ℕ → Bool
-is_row_affected actions id r = list_any (λ a. names_table a id && is_about a r) actions
+-- whether some action is about that row of the table, or a formula cell in it changed
+abbrev pub is_row_affected : List DocAction → List ChangedRows → List ℕ → ℕ → Bool
+is_row_affected actions changed id r =
+    list_any (λ a. names_table a id && is_about a r) actions || has_changed_row changed id r
 
--- the tables that actions name, with the rows that they are about
-abbrev pub affected_part : List DocAction → List ViewTable → List ViewTable
-affected_part actions v = part_of (is_affected actions) (is_row_affected actions) v
+-- the tables that actions name and those of changed cells, with the rows that they are about
+abbrev pub affected_part : List DocAction → List ChangedRows → List ViewTable → List ViewTable
+affected_part actions changed v =
+    part_of (is_affected actions changed) (is_row_affected actions changed) v
 
 -- the rows that a user action names
 abbrev pub rows_requested : UserAction → List ℕ

@@ -1,6 +1,7 @@
 -- Views of some tables with some of their rows, as the code builds them.
-use Rattle.std.specs.Prelude.{ℕ, Bool, true, false, cond, ◌&&◌, List, [], ◌∷◌, ◌++◌, map, filter, Option, Some, None}
+use Rattle.std.specs.Prelude.{ℕ, Bool, true, false, cond, ◌&&◌, List, [], ◌∷◌, ◌++◌, map, filter}
 use Rattle.std.specs.List.{list_any}
+use Rattle.std.specs.Str.{bytes_eq}
 use Rattle.cell_types.specs.declared.value.CellValue.{CellValue}
 use Rattle.doc_model.specs.declared.action.DocAction.{DocAction}
 use Rattle.doc_model.specs.declared.action.DocAction.TheVariants.{BulkAdd, BulkUpdate, BulkRemove}
@@ -15,7 +16,11 @@ use Rattle.doc_model.specs.Grid.{Grid, cell}
 use Rattle.doc_model.specs.ViewEdits.{shown_id}
 use Rattle.doc_readers.specs.Parts.{grid_at}
 use Rattle.view_parts.specs.declared.viewers.Viewer.{Viewer}
-use Rattle.view_parts.specs.Parts.{is_row_affected, is_affected, names_table}
+use Rattle.doc_model.specs.Touched.{names_table}
+use Rattle.view_parts.specs.declared.changed.ChangedRows.{ChangedRows}
+use Rattle.view_parts.specs.declared.wanted.Wanted.{Wanted}
+use Rattle.view_parts.specs.declared.wanted.Wanted.TheVariants.{Affected, All}
+use Rattle.view_parts.specs.Parts.{is_row_affected, is_affected}
 use Rattle.view_parts.specs.Shown.{is_shown, shown_column}
 
 -- the cells of a row, one for each of the columns
@@ -35,35 +40,36 @@ shown_with id g rows = record {
   cells = map (cells_at g (columns_of g)) rows;
 }
 
--- whether the table is wanted: where actions are given, one of them has to name it
-abbrev pub is_wanted : Option (List DocAction) → List ℕ → Bool
-is_wanted None id = true
-is_wanted (Some actions) id = is_affected actions id
+-- whether the table is wanted
+abbrev pub is_wanted : Wanted → List ℕ → Bool
+is_wanted All id = true
+is_wanted (Affected actions changed) id = is_affected actions.now changed.now id
 
--- the rows of a table that are wanted: where actions are given, those that they are about
-abbrev pub rows_wanted : Option (List DocAction) → List ℕ → List ℕ → List ℕ
-rows_wanted None id rows = rows
-rows_wanted (Some actions) id rows = filter (is_row_affected actions id) rows
+-- the rows of a table that are wanted
+abbrev pub rows_wanted : Wanted → List ℕ → List ℕ → List ℕ
+rows_wanted All id rows = rows
+rows_wanted (Affected actions changed) id rows =
+    filter (is_row_affected actions.now changed.now id) rows
 
 -- a wanted table, with its wanted rows
-abbrev pub table_wanted : Option (List DocAction) → Table → ViewTable
-table_wanted o t = shown_with t.id t.grid (rows_wanted o t.id t.grid.rows)
+abbrev pub table_wanted : Wanted → Table → ViewTable
+table_wanted w t = shown_with t.id t.grid (rows_wanted w t.id t.grid.rows)
 
 -- the same of the table of an id
-abbrev pub wanted_at : Option (List DocAction) → Document → List ℕ → ViewTable
-wanted_at o s id = shown_with id (grid_at s id) (rows_wanted o id (grid_at s id).rows)
+abbrev pub wanted_at : Wanted → Document → List ℕ → ViewTable
+wanted_at w s id = shown_with id (grid_at s id) (rows_wanted w id (grid_at s id).rows)
 
 -- the tables with that of an id in its place, where it is wanted and seen
-abbrev pub with_wanted : Viewer → Option (List DocAction) → Document → List ℕ → List ViewTable
+abbrev pub with_wanted : Viewer → Wanted → Document → List ℕ → List ViewTable
     → List ViewTable
-with_wanted viewer o s id v =
-    cond (is_wanted o id && is_shown viewer id) (put_by_id shown_table_id (wanted_at o s id) v) v
+with_wanted viewer w s id v =
+    cond (is_wanted w id && is_shown viewer id) (put_by_id shown_table_id (wanted_at w s id) v) v
 
 -- the wanted tables that a viewer sees, by id
-abbrev pub wanted : Viewer → Option (List DocAction) → Document → List ViewTable
-wanted viewer o s =
+abbrev pub wanted : Viewer → Wanted → Document → List ViewTable
+wanted viewer w s =
     by_id shown_table_id
-    (map (table_wanted o) (filter (λ (t : Table). is_wanted o t.id && is_shown viewer t.id) s))
+    (map (table_wanted w) (filter (λ (t : Table). is_wanted w t.id && is_shown viewer t.id) s))
 
 -- whether the action is about all rows of its table
 abbrev pub is_about_all : DocAction → Bool
@@ -84,6 +90,11 @@ abbrev pub rows_named : List DocAction → List ℕ → List ℕ
 rows_named [] id = []
 rows_named (a ∷ actions) id =
     cond (names_table a id) (rows_of a) [] ++ rows_named actions id
+
+-- the rows of the table in which formula cells changed, in their order
+abbrev pub rows_changed : List ChangedRows → List ℕ → List ℕ
+rows_changed [] id = []
+rows_changed (w ∷ changed) id = cond (bytes_eq w.table id) w.rows [] ++ rows_changed changed id
 
 -- whether some action is about all rows of the table
 abbrev pub is_wholly_affected : List DocAction → List ℕ → Bool

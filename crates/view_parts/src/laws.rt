@@ -1,6 +1,6 @@
 //! Laws over views and their parts.
 
-ghost use Rattle.view_parts.specs.PartLaws.{AllowedLaw, RequestedLaw, PartLaw, ViewLaw};
+ghost use Rattle.view_parts.specs.PartLaws.{AllowedLaw, OutsideLaw, PartLaw, RequestedLaw, ViewLaw};
 
 use user_actions::{one_table_law, unopposed_law};
 
@@ -9,9 +9,15 @@ pub fn view_law()
     ensures { ViewLaw }
 {}
 
-/// The part that actions are about tells all the changes that they make.
+/// Where two documents hold the same outside of what actions and changed formula cells are about,
+/// the part that is about these tells all changes.
 pub fn part_law()
     ensures { PartLaw }
+{}
+
+/// Where no formulas are evaluated, valid actions change nothing but what they are about.
+pub fn outside_law()
+    ensures { OutsideLaw }
 {}
 
 /// What stands against a user action rests on the table and the rows alone that it names.

@@ -1,14 +1,17 @@
-//! Views of the tables that actions name, or of all, with the rows that the actions are about.
+//! Views of all tables, or of those that actions and changed formula cells are about, with the rows
+//! that these are about.
 
-ghost use Rattle.std.specs.Prelude.{◌≡◌, false, filter, IfOk, OnOk};
-ghost use Rattle.std.specs.Option.{option_copied};
+ghost use Rattle.std.specs.Prelude.{◌≡◌, ◌++◌, false, filter, IfOk, OnOk};
+ghost use Rattle.std.specs.List.{list_any};
 ghost use Rattle.doc_model.specs.ByIds.{has_id};
 ghost use Rattle.doc_model.specs.Changes.{shown_table_id};
 ghost use Rattle.doc_model.specs.LaidOut.{IsLaidOut};
 ghost use Rattle.doc_model.specs.Rows.{IsAscending};
-ghost use Rattle.view_parts.specs.Parts.{is_row_affected, is_affected, names_table};
-ghost use Rattle.view_parts.specs.Wanted.{is_about_all, is_wholly_affected, is_wanted, rows_named, rows_of, rows_wanted, wanted, wanted_at, with_wanted};
+ghost use Rattle.doc_model.specs.Touched.{names_table};
+ghost use Rattle.view_parts.specs.Parts.{has_changed, is_row_affected, is_affected};
+ghost use Rattle.view_parts.specs.Wanted.{is_about_all, is_wholly_affected, is_wanted, rows_changed, rows_named, rows_of, rows_wanted, wanted, wanted_at, with_wanted};
 
+use crate::changed::ChangedRows;
 use crate::rows::rows_among;
 use crate::tables::{put_table, shown_with, table_ids};
 use crate::viewers::Viewer;
@@ -16,6 +19,17 @@ use cell_types::Name;
 use doc_model::{DocAction, DocReader, ViewTable};
 use doc_readers::rows_in;
 use std::alloc::{AllocError, Global};
+
+/// What is wanted of a view.
+#[derive(Drop)]
+pub(crate) enum Wanted<'a> {
+    All,
+    /// What actions and changed formula cells are about.
+    Affected {
+        actions: &'a [DocAction],
+        changed: &'a [ChangedRows],
+    },
+}
 
 fn names_table(action: &DocAction, id: &Name) -> bool
     ensures { result ≡ names_table action.now id.now }
@@ -58,10 +72,22 @@ fn rows_of(action: &DocAction) -> &[u32]
     }
 }
 
-fn is_affected(actions: &[DocAction], id: &Name) -> bool
-    ensures { result ≡ is_affected actions.now id.now }
+fn has_changed(changed: &[ChangedRows], id: &Name) -> bool
+    ensures { result ≡ has_changed changed.now id.now }
+{
+    changed.iter().any(|one| one.table.as_str() == id.as_str())
+}
+
+fn is_named(actions: &[DocAction], id: &Name) -> bool
+    ensures { result ≡ list_any (λ a. names_table a id.now) actions.now }
 {
     actions.iter().any(|action| names_table(action, id))
+}
+
+fn is_affected(actions: &[DocAction], changed: &[ChangedRows], id: &Name) -> bool
+    ensures { result ≡ is_affected actions.now changed.now id.now }
+{
+    is_named(actions, id) || has_changed(changed, id)
 }
 
 fn is_wholly_affected(actions: &[DocAction], id: &Name) -> bool
@@ -85,48 +111,68 @@ fn rows_named(alloc: Global, actions: &[DocAction], id: &Name) -> Result<Vec<u32
     Ok(named)
 }
 
-// The rows of a table that actions are about: all where a schema action names it.
+// Those rows, and then the rows of the table in which formula cells changed.
+fn rows_listed(
+    alloc: Global,
+    actions: &[DocAction],
+    changed: &[ChangedRows],
+    id: &Name,
+) -> Result<Vec<u32>, AllocError>
+    ensures { IfOk result (λ l. l.items
+        ≡ rows_named actions.now id.now ++ rows_changed changed.now id.now) }
+{
+    let mut listed = rows_named(alloc, actions, id)?;
+    for one in changed {
+        if one.table.as_str() == id.as_str() {
+            listed.extend_from_slice(one.rows.as_slice())?;
+        }
+    }
+    Ok(listed)
+}
+
+// The rows of a table that actions and changed cells are about: all where a schema action names it.
 fn affected_rows(
     alloc: Global,
     actions: &[DocAction],
-    id: &Name,
-    rows: &[u32],
-) -> Result<Vec<u32>, AllocError>
-    requires { IsAscending rows.now }
-    ensures { IfOk result (λ l. l.items ≡ filter (is_row_affected actions.now id.now) rows.now) }
-{
-    if is_wholly_affected(actions, id) {
-        let all = Vec::from_slice(alloc, rows)?;
-        return Ok(all);
-    }
-    let named = rows_named(alloc, actions, id)?;
-    let affected = rows_among(alloc, named, rows)?;
-    Ok(affected)
-}
-
-fn is_wanted(actions: Option<&[DocAction]>, id: &Name) -> bool
-    ensures { result ≡ is_wanted (option_copied actions.entry) id.now }
-{
-    match actions {
-        Some(actions) => is_affected(actions, id),
-        None => true,
-    }
-}
-
-// The rows of a table that are wanted: all where no actions are given.
-fn wanted_rows(
-    alloc: Global,
-    actions: Option<&[DocAction]>,
+    changed: &[ChangedRows],
     id: &Name,
     rows: &[u32],
 ) -> Result<Vec<u32>, AllocError>
     requires { IsAscending rows.now }
     ensures { IfOk result (λ l. l.items
-        ≡ rows_wanted (option_copied actions.entry) id.now rows.now) }
+        ≡ filter (is_row_affected actions.now changed.now id.now) rows.now) }
 {
-    let rows = match actions {
-        Some(actions) => affected_rows(alloc, actions, id, rows)?,
-        None => Vec::from_slice(alloc, rows)?,
+    if is_wholly_affected(actions, id) {
+        let all = Vec::from_slice(alloc, rows)?;
+        return Ok(all);
+    }
+    let listed = rows_listed(alloc, actions, changed, id)?;
+    let affected = rows_among(alloc, listed, rows)?;
+    Ok(affected)
+}
+
+fn is_wanted(want: &Wanted, id: &Name) -> bool
+    ensures { result ≡ is_wanted want.now id.now }
+{
+    match want {
+        Wanted::All => true,
+        Wanted::Affected { actions, changed } => is_affected(actions, changed, id),
+    }
+}
+
+// The rows of a table that are wanted.
+fn wanted_rows(
+    alloc: Global,
+    want: &Wanted,
+    id: &Name,
+    rows: &[u32],
+) -> Result<Vec<u32>, AllocError>
+    requires { IsAscending rows.now }
+    ensures { IfOk result (λ l. l.items ≡ rows_wanted want.now id.now rows.now) }
+{
+    let rows = match want {
+        Wanted::All => Vec::from_slice(alloc, rows)?,
+        Wanted::Affected { actions, changed } => affected_rows(alloc, actions, changed, id, rows)?,
     };
     Ok(rows)
 }
@@ -134,14 +180,13 @@ fn wanted_rows(
 fn table_wanted<D: DocReader>(
     alloc: Global,
     tables: &D,
-    actions: Option<&[DocAction]>,
+    want: &Wanted,
     id: &Name,
 ) -> Result<ViewTable, AllocError>
     requires { IsLaidOut (D.document tables.now) }
-    ensures { IfOk result (λ t. t ≡ wanted_at (option_copied actions.entry)
-        (D.document tables.now) id.now) }
+    ensures { IfOk result (λ t. t ≡ wanted_at want.now (D.document tables.now) id.now) }
 {
-    let rows = wanted_rows(alloc, actions, id, rows_in(tables, id))?;
+    let rows = wanted_rows(alloc, want, id, rows_in(tables, id))?;
     let table = shown_with(alloc, tables, id, rows.as_slice())?;
     Ok(table)
 }
@@ -151,41 +196,41 @@ fn put_wanted<D: DocReader>(
     alloc: Global,
     tables: &D,
     viewer: Viewer,
-    actions: Option<&[DocAction]>,
+    want: &Wanted,
     id: &Name,
     shown: &mut Vec<ViewTable>,
 ) -> Result<(), AllocError>
     requires laid_out { IsLaidOut (D.document tables.now) }
     requires new { has_id shown_table_id shown.old.items id.now ≡ false }
-    ensures { OnOk result (shown.new.items ≡ with_wanted viewer (option_copied actions.entry)
+    ensures { OnOk result (shown.new.items ≡ with_wanted viewer want.now
         (D.document tables.now) id.now shown.old.items) }
 {
-    if !(is_wanted(actions, id) && viewer.sees(id)) {
+    if !(is_wanted(want, id) && viewer.sees(id)) {
         return Ok(());
     }
-    let table = table_wanted(alloc, tables, actions, id)?;
+    let table = table_wanted(alloc, tables, want, id)?;
     put_table(shown, table)?;
     Ok(())
 }
 
-/// The wanted tables that a viewer sees, by id: all where no actions are given.
+/// The wanted tables that a viewer sees, by id.
 ///
 /// Errors: out of memory. Cost: the cells of their wanted rows, the square of the tables, and the
-/// tables times the actions.
+/// tables times the actions and times the tables with changed cells.
 pub(crate) fn wanted_tables<D: DocReader>(
     alloc: Global,
     tables: &D,
     viewer: Viewer,
-    actions: Option<&[DocAction]>,
+    want: &Wanted,
 ) -> Result<Vec<ViewTable>, AllocError>
     requires { IsLaidOut (D.document tables.now) }
-    ensures { IfOk result (λ l. l.items ≡ wanted viewer (option_copied actions.entry)
+    ensures { IfOk result (λ l. l.items ≡ wanted viewer want.now
         (D.document tables.now)) }
 {
     let ids = table_ids(alloc, tables)?;
     let mut shown = Vec::new(alloc);
     for id in ids.as_slice() {
-        put_wanted(alloc, tables, viewer, actions, id, &mut shown)?;
+        put_wanted(alloc, tables, viewer, want, id, &mut shown)?;
     }
     Ok(shown)
 }

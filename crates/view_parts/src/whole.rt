@@ -7,7 +7,7 @@ ghost use Rattle.doc_model.specs.Rows.{IsAscending};
 ghost use Rattle.view_parts.specs.Shown.{is_column_shown, rows_shown, view};
 
 use crate::viewers::Viewer;
-use crate::wanted::wanted_tables;
+use crate::wanted::{Wanted, wanted_tables};
 use cell_types::Name;
 use doc_model::{DocReader, View, ViewTableList};
 use doc_readers::has_column;
@@ -25,7 +25,7 @@ pub fn whole_view<D: DocReader>(
     ensures tables { IfOk result (λ v. v.tables ≡ view viewer (D.document tables.now)) }
     ensures is_view { IfOk result (λ v. IsView v.tables) }
 {
-    let shown = wanted_tables(alloc, tables, viewer, None)?;
+    let shown = wanted_tables(alloc, tables, viewer, &Wanted::All)?;
     Ok(View {
         tables: ViewTableList::from(shown),
     })

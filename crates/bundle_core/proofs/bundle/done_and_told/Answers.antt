@@ -1,6 +1,7 @@
-use Rattle.std.proofs.Common.{List, ap, subst, sym, ◌∙◌}
+use Rattle.std.proofs.Common.{List, [], ap, subst, sym, ◌∙◌}
 use Rattle.std.proofs.lemmas.Result.{IfOk-weaker}
 use Rattle.std.specs.List.{AllByRecursion}
+use Rattle.doc_model.specs.Apply.{apply_all}
 use Rattle.doc_model.specs.Changes.{changes}
 use Rattle.doc_model.specs.Document.{Document}
 use Rattle.doc_model.specs.DocumentLaws.{IsWhole}
@@ -34,5 +35,6 @@ returns-clause-told g c =
     let actions = c.args.actions.now in
     IfOk-weaker c.tell_changes.result _ _ (λ t told user among.
     told_to-changes actions s (g.D.DocReader.document c.put_all.new.tables) c.args.viewers.now (viewer_of user) c.deref.result.now t.items among (c.deref.ensures.value ∙ c.in_ok-before.ensures) told
-    ∙ ap (λ d. changes (affected_part actions (shown_to (viewer_of user) s)) (affected_part actions (shown_to (viewer_of user) d))) c.in_ok-put_all.ensures.done
-    ∙ c.part_law.ensures (viewer_of user) s actions c.requires.whole c.requires.valid) c.tell_changes.ensures
+    ∙ ap (λ d. changes (affected_part actions [] (shown_to (viewer_of user) s)) (affected_part actions [] (shown_to (viewer_of user) d))) c.in_ok-put_all.ensures.done
+    ∙ c.part_law.ensures (viewer_of user) actions [] s (apply_all s actions) (laid_out s c.requires.whole)
+    (laid_out (apply_all s actions) (IsWhole-apply_all s actions c.requires.whole c.requires.valid)) (c.outside_law.ensures s actions c.requires.whole c.requires.valid)) c.tell_changes.ensures

@@ -10,4 +10,4 @@ tables_agree-requires-clause-tables g c =
 
 pub tables_agree-requires-clause-columns : goal.tables_agree-requires-clause-columns
 tables_agree-requires-clause-columns g c =
-    first_id (g.D.DocReader.document c.args.tables.now) 1 columns_id c.in-Some-Some.columns.now (and_parts _ _ (sym c.if-not-has_columns_table.ensures)).0 c.in-Some-Some.ensures.told'
+    first_id (g.D.DocReader.document c.args.tables.now) 1 columns_id c.in-Some-Some.columns.now (and_parts _ _ (sym c.if-not-has_columns_table.ensures)).0 c.in-Some-Some.ensures'.told

@@ -39,7 +39,8 @@ use Rattle.action_limits.specs.Capped.{all_moved, all_moved_at, capped, has_name
 use Rattle.action_limits.specs.Left.{IsOneOrQuiet, TellsMaxima, is_quiet}
 use Rattle.user_actions.specs.Kinds.{makes_rows}
 use Rattle.user_actions.specs.StepLaws.{action_of}
-use Rattle.user_actions.specs.Steps.{all_fitted, column_refitted, direct, indirect, info_said, retyped, row_ids, rows_changed, steps_of}
+use Rattle.user_actions.specs.Marked.{direct, indirect}
+use Rattle.user_actions.specs.Steps.{all_fitted, column_refitted, info_said, retyped, row_ids, rows_changed, steps_of}
 use Rattle.action_limits.specs.Tallies.{after}
 use Rattle.action_limits.proofs.ExpansionLemmas.{IsExact, TellsSums, any_there, any_told, has_named-valid, none_told, one_told}
 use Rattle.action_limits.proofs.MaximaMoves.{IsBelow, SameMaxima, maxima-quiet}

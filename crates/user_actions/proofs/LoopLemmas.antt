@@ -13,28 +13,28 @@ use Rattle.user_actions.specs.StepLaws.{AreFresh}
 use Rattle.user_actions.specs.Steps.{new_column, new_columns}
 
 -- what is left begins with the next one
-next_left : {X : Type 0} (xs : List X) (i : ℕ) (d : X) → i < length xs → drop i xs ≡ get_or xs i d ∷ drop (i + 1) xs
+pub next_left : {X : Type 0} (xs : List X) (i : ℕ) (d : X) → i < length xs → drop i xs ≡ get_or xs i d ∷ drop (i + 1) xs
 next_left xs i d lt = rw (add-one, drop-cons xs i d)
 
-module _ (p : ℕ → Bool) (xs : List ℕ) (i : ℕ) (ys zs all : List ℕ) (b : Bool) (lt : i < length xs) (is : b ≡ p (get_or xs i 0)) (so : ys ++ filter p (drop i xs) ≡ all) where
-  step : cond b (ys ++ (get_or xs i 0 ∷ filter p (drop (i + 1) xs))) (ys ++ filter p (drop (i + 1) xs)) ≡ all
-  step = chosen b (p (get_or xs i 0)) is ∙ sym (ap (λ l. ys ++ filter p l) (next_left xs i 0 lt)) ∙ so
+module _ {X : Type 0} (p : X → Bool) (xs : List X) (i : ℕ) (d : X) (ys zs all : List X) (b : Bool) (lt : i < length xs) (is : b ≡ p (get_or xs i d)) (so : ys ++ filter p (drop i xs) ≡ all) where
+  step : cond b (ys ++ (get_or xs i d ∷ filter p (drop (i + 1) xs))) (ys ++ filter p (drop (i + 1) xs)) ≡ all
+  step = chosen b (p (get_or xs i d)) is ∙ sym (ap (λ l. ys ++ filter p l) (next_left xs i d lt)) ∙ so
     where
-      chosen : (b c : Bool) → b ≡ c → cond b (ys ++ (get_or xs i 0 ∷ filter p (drop (i + 1) xs))) (ys ++ filter p (drop (i + 1) xs)) ≡ ys ++ cond c (get_or xs i 0 ∷ filter p (drop (i + 1) xs)) (filter p (drop (i + 1) xs))
-      chosen true c e = ap (λ c. ys ++ cond c (get_or xs i 0 ∷ filter p (drop (i + 1) xs)) (filter p (drop (i + 1) xs))) e
-      chosen false c e = ap (λ c. ys ++ cond c (get_or xs i 0 ∷ filter p (drop (i + 1) xs)) (filter p (drop (i + 1) xs))) e
+      chosen : (b c : Bool) → b ≡ c → cond b (ys ++ (get_or xs i d ∷ filter p (drop (i + 1) xs))) (ys ++ filter p (drop (i + 1) xs)) ≡ ys ++ cond c (get_or xs i d ∷ filter p (drop (i + 1) xs)) (filter p (drop (i + 1) xs))
+      chosen true c e = ap (λ c. ys ++ cond c (get_or xs i d ∷ filter p (drop (i + 1) xs)) (filter p (drop (i + 1) xs))) e
+      chosen false c e = ap (λ c. ys ++ cond c (get_or xs i d ∷ filter p (drop (i + 1) xs)) (filter p (drop (i + 1) xs))) e
 
   -- the next one passes the test
-  pub filter_taken : (us : List ℕ) → b ≡ true → zs ≡ us → us ≡ ys ++ get_or xs i 0 ∷ [] → zs ++ filter p (drop (i + 1) xs) ≡ all
+  pub filter_taken : (us : List X) → b ≡ true → zs ≡ us → us ≡ ys ++ get_or xs i d ∷ [] → zs ++ filter p (drop (i + 1) xs) ≡ all
   filter_taken us passes same pushed =
-      ap (λ l. l ++ filter p (drop (i + 1) xs)) (same ∙ pushed) ∙ append_assoc ys (get_or xs i 0 ∷ []) (filter p (drop (i + 1) xs))
-      ∙ sym (ap (λ c. cond c (ys ++ (get_or xs i 0 ∷ filter p (drop (i + 1) xs))) (ys ++ filter p (drop (i + 1) xs))) passes) ∙ step
+      ap (λ l. l ++ filter p (drop (i + 1) xs)) (same ∙ pushed) ∙ append_assoc ys (get_or xs i d ∷ []) (filter p (drop (i + 1) xs))
+      ∙ sym (ap (λ c. cond c (ys ++ (get_or xs i d ∷ filter p (drop (i + 1) xs))) (ys ++ filter p (drop (i + 1) xs))) passes) ∙ step
 
   -- or it does not
   pub filter_left : b ≡ false → zs ≡ ys → zs ++ filter p (drop (i + 1) xs) ≡ all
   filter_left fails same =
       ap (λ l. l ++ filter p (drop (i + 1) xs)) same
-      ∙ sym (ap (λ c. cond c (ys ++ (get_or xs i 0 ∷ filter p (drop (i + 1) xs))) (ys ++ filter p (drop (i + 1) xs))) fails) ∙ step
+      ∙ sym (ap (λ c. cond c (ys ++ (get_or xs i d ∷ filter p (drop (i + 1) xs))) (ys ++ filter p (drop (i + 1) xs))) fails) ∙ step
 
 -- the row of the next column, up to the last row id
 pub next_row : (last i row next : ℕ) → next ≡ min (row + 1) 4294967295 → (last + i ≤ 4294967295 → row ≡ last + i) → last + (i + 1) ≤ 4294967295 → next ≡ last + (i + 1)

@@ -41,7 +41,10 @@ use Rattle.doc_readers.specs.Parts.{grid_at}
 use Rattle.user_actions.specs.Allowed.{is_allowed}
 use Rattle.user_actions.specs.Infos.{is_plain, named, type_or}
 use Rattle.user_actions.specs.StepLaws.{action_of}
-use Rattle.user_actions.specs.Steps.{direct, indirect, info_said, rows_changed, column_refitted, retyped, modified}
+use Rattle.user_actions.specs.Marked.{direct, indirect}
+use Rattle.user_actions.specs.CellUpdates.{column_changed, rows_changed}
+use Rattle.user_actions.specs.Steps.{info_said, retyped, modified}
+use Rattle.user_actions.proofs.ClearedLemmas.{valid_update}
 
 -- ---- what a column is said to be is sound
 
@@ -115,44 +118,14 @@ module _ (r u : Grid ColDef) (p : List Table) (good : IsGood r u p) (table : Lis
       ∙ ap (option_map (with_info info)) there)
       ∙ ap not data_info
 
-  module _ (fits : (ty : ColType) (v : CellValue) → is_base v ≡ true → is_base (fit ty v) ≡ true) (rows : List ℕ) (ascend : IsAscending rows) (known : all_in rows t.grid.rows ≡ true) where
-    abbrev refitted : ℕ → CellValue
-    refitted q = fit info.ty (cell column_id t.grid d.id q)
-
-    abbrev given : CellColumn
-    given = column_refitted t.grid d.id info.ty rows
-
-    base_refitted : list_all is_base (map refitted rows) ≡ true
-    base_refitted =
-        true_each is_base (map refitted rows) (each_mapped (λ v. is_base v ≡ true) refitted rows
-        (each_has (λ q. is_base (refitted q) ≡ true) rows (λ q here.
-        fits info.ty (cell column_id t.grid d.id q) (base_held d (cell column_id t.grid d.id q) (sound_t.holds d q there (all_in_at rows t.grid.rows q known here))))))
-
-    gives_refitted : gives_data (changed t.grid) rows (given ∷ []) ≡ true
-    gives_refitted =
-        both_true (gives_column (changed t.grid) rows given) true
-        (both_true (is_data (changed t.grid) d.id && eqb (length (map refitted rows)) (length rows)) (list_all is_base (map refitted rows))
-        (both_true (is_data (changed t.grid) d.id) (eqb (length (map refitted rows)) (length rows)) data_after (eq-eqb (length (map refitted rows)) (length rows) (length_map refitted rows)))
-        base_refitted) refl
-
-    valid_refitted : valid after (action.BulkUpdate table rows (given ∷ [])) ≡ true
-    valid_refitted =
-        ap (λ o. passes o (λ x. has_no_duplicates rows && from_one rows && all_in rows x.grid.rows && gives_data x.grid rows (given ∷ []))) (record_table_plain r u (with_table table (on_grid changed) p) table plain ∙ found_after)
-        ∙ both_true ((has_no_duplicates rows && from_one rows) && all_in rows t.grid.rows) (gives_data (changed t.grid) rows (given ∷ []))
-        (both_true (has_no_duplicates rows && from_one rows) (all_in rows t.grid.rows)
-        (both_true (has_no_duplicates rows) (from_one rows) (once_ascending rows ascend) (from_one_in rows t.grid sound_t known))
-        known) gives_refitted
-
   valid_retyped : ((ty : ColType) (v : CellValue) → is_base v ≡ true → is_base (fit ty v) ≡ true) → is_sound_info info ≡ true → all_valid whole (map action_of (retyped table t.grid d info)) ≡ true
   valid_retyped fits sound =
-      let differs : ℕ → Bool = λ (q : ℕ). not (same_value (cell column_id t.grid d.id q) (fit info.ty (cell column_id t.grid d.id q))) in
-      let rows : List ℕ = rows_changed t.grid d.id info.ty in
+      let rows : List ℕ = rows_changed t.grid d.id (fit info.ty) t.grid.rows in
       let a : DocAction = action.ModifyColumn table d.id info in
-      let b : DocAction = action.BulkUpdate table rows (column_refitted t.grid d.id info.ty rows ∷ []) in
+      let b : DocAction = action.BulkUpdate table rows (column_changed t.grid d.id (fit info.ty) rows ∷ []) in
       let first : valid whole a ≡ true = valid_info sound in
-      let known : all_in rows t.grid.rows ≡ true = true_each (λ q. has t.grid.rows q) rows (each_has (λ q. has t.grid.rows q ≡ true) rows (λ q here.
-      (and_parts (differs q) (has t.grid.rows q) (sym (has-filter differs t.grid.rows q) ∙ here)).1)) in
-      let second : valid after b ≡ true = valid_refitted fits rows (IsAscending-filter differs t.grid.rows sound_t.is_grid.ascending) known in
+      let second : valid after b ≡ true = valid_update t.grid sound_t d there (fit info.ty) (fits info.ty) t.grid.rows sound_t.is_grid.ascending (λ q here. here)
+      after table (on_grid changed t) (record_table_plain r u (with_table table (on_grid changed) p) table plain ∙ found_after) data_after (λ q here. here) in
       let leads : apply whole a ≡ after = applied whole a first in
       unless_valid whole (same_type d.info.ty info.ty) (direct a ∷ if_any rows (indirect b))
       (two_valid whole a b rows first (ap (λ s. valid s b) leads ∙ second))

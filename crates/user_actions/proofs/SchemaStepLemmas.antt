@@ -33,7 +33,7 @@ use Rattle.user_actions.proofs.RecordStepLemmas.{above_from_one, above_none_in, 
 
 -- ---- ids
 
-bytes_symm : (c e : List ℕ) → bytes_eq c e ≡ bytes_eq e c
+pub bytes_symm : (c e : List ℕ) → bytes_eq c e ≡ bytes_eq e c
 bytes_symm c e =
     elim (bytes_eq c e) as (λ b. bytes_eq c e ≡ b → b ≡ bytes_eq e c) [
       | true ↦ λ is. let same : c ≡ e = (bytes_eq-Decides c e).0 is in sym (ap (λ x. bytes_eq x c) (sym same) ∙ bytes_itself c)
@@ -41,7 +41,7 @@ bytes_symm c e =
     ] refl
 
 -- an id is taken where something has it
-is_taken-ids : {X : Type 0} (id : X → List ℕ) (xs : List X) (n : List ℕ) → is_taken (map id xs) n ≡ has_id id xs n
+pub is_taken-ids : {X : Type 0} (id : X → List ℕ) (xs : List X) (n : List ℕ) → is_taken (map id xs) n ≡ has_id id xs n
 is_taken-ids id [] n = refl
 is_taken-ids id (x ∷ xs) n = ap (λ b. b || is_taken (map id xs) n) (bytes_symm n (id x)) ∙ ap (λ b. bytes_eq (id x) n || b) (is_taken-ids id xs n)
 

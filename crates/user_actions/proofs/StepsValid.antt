@@ -1,13 +1,14 @@
 -- The steps of user actions are valid, each at its place.
-use Rattle.std.proofs.Common.{ℕ, Bool, true, false, cond, ◌&&◌, List, [], ◌∷◌, map, ◌≡◌, refl}
+use Rattle.std.proofs.Common.{ℕ, Bool, true, false, cond, ◌&&◌, List, [], ◌∷◌, map, ◌≡◌, refl, sym, ◌∙◌}
 use Rattle.std.specs.Str.{bytes_eq}
 use Rattle.cell_types.specs.NameRule.{is_name}
 use Rattle.doc_model.specs.declared.action.DocAction.{DocAction}
 use Rattle.doc_model.specs.declared.action.DocAction.TheVariants as action
+use Rattle.doc_model.specs.declared.action.Step.{Step}
 use Rattle.doc_model.specs.declared.user_action.UserAction.{UserAction}
 use Rattle.doc_model.specs.declared.user_action.UserAction.TheVariants.{Add, Update, Remove, AddTable, RemoveTable, RenameTable, AddColumn, RemoveColumn, RenameColumn, ModifyColumn}
-use Rattle.doc_model.specs.Apply.{all_valid}
-use Rattle.doc_model.specs.Document.{Document}
+use Rattle.doc_model.specs.Apply.{all_valid, apply}
+use Rattle.doc_model.specs.Document.{Document, table_id}
 use Rattle.doc_model.specs.DocumentLaws.{IsWhole}
 use Rattle.doc_model.specs.Valid.{valid}
 use Rattle.doc_model.specs.ViewEdits.{if_any}
@@ -17,11 +18,15 @@ use Rattle.name_rules.specs.FreeName.{free_name}
 use Rattle.user_actions.specs.Allowed.{is_allowed}
 use Rattle.user_actions.specs.Infos.{is_plain}
 use Rattle.user_actions.specs.StepLaws.{action_of, HasFresh}
-use Rattle.user_actions.specs.Steps.{all_fitted, column_ids, column_said, direct, last_row, numbers_after, row_ids, steps_of, table_ids, table_said}
+use Rattle.user_actions.specs.Marked.{direct}
+use Rattle.user_actions.specs.References.{clearings, led_to, referrers}
+use Rattle.user_actions.specs.Steps.{all_fitted, column_ids, column_said, last_row, numbers_after, renaming, row_ids, steps_of, table_ids, table_said}
+use Rattle.user_actions.proofs.ClearedLemmas.{valid_clearings}
+use Rattle.user_actions.proofs.LedLemmas.{valid-renaming}
 use Rattle.user_actions.proofs.FitLemmas.{all_base-fit, is_base-fit}
 use Rattle.user_actions.proofs.RecordStepLemmas.{valid-add, valid-update, valid-remove}
 use Rattle.user_actions.proofs.RetypedLemmas.{valid-modified}
-use Rattle.user_actions.proofs.SchemaStepLemmas.{valid-add_table, valid-remove_table, valid-rename_table, valid-add_column, valid-remove_column, valid-rename_column}
+use Rattle.user_actions.proofs.SchemaStepLemmas.{is_taken-ids, valid-add_table, valid-remove_table, valid-rename_table, valid-add_column, valid-remove_column, valid-rename_column}
 
 -- one action
 one_valid : (s : Document) (a : DocAction) → valid s a ≡ true → all_valid s (a ∷ []) ≡ true
@@ -37,16 +42,28 @@ other_valid : (s : Document) (b : Bool) (a : DocAction) → (b ≡ false → val
 other_valid s true a h = refl
 other_valid s false a h = one_valid s a (h refl)
 
+unless_valid : (s : Document) (b : Bool) (steps : List Step) → (b ≡ false → all_valid s (map action_of steps) ≡ true) → all_valid s (map action_of (cond b [] steps)) ≡ true
+unless_valid s true steps h = refl
+unless_valid s false steps h = h refl
+
 pub all_valid-steps_of : (s : Document) → IsWhole s → (a : UserAction) → is_allowed s a ≡ true → has_whole_columns a ≡ true → HasFresh s a → all_valid s (map action_of (steps_of s a)) ≡ true
 all_valid-steps_of s w (Add table single count has_row_ids ks) h whole fresh = one_valid s (action.BulkAdd table (numbers_after (last_row s table) count) (all_fitted s table ks)) (valid-add all_base-fit s table count ks h whole)
 all_valid-steps_of s w (Update table single rows ks) h whole fresh =
     any_valid s (row_ids rows) (action.BulkUpdate table (row_ids rows) (all_fitted s table ks)) (valid-update all_base-fit s w table rows ks h whole)
-all_valid-steps_of s w (Remove table single rows) h whole fresh = one_valid s (action.BulkRemove table (row_ids rows)) (valid-remove all_base-fit s table rows h)
+all_valid-steps_of s w (Remove table single rows) h whole fresh =
+    let a : DocAction = action.BulkRemove table (row_ids rows) in
+    let v : valid s a ≡ true = valid-remove all_base-fit s table rows h in
+    both_true (valid s a) (all_valid (apply s a) (map action_of (clearings s table (row_ids rows) (referrers s table table false)))) v (valid_clearings s w table (row_ids rows) v)
 all_valid-steps_of s w (AddTable table cs) h whole fresh = one_valid s (table_said s table cs) (valid-add_table s table cs fresh.0.0 fresh.0.1 fresh.1)
 all_valid-steps_of s w (RemoveTable table) h whole fresh = one_valid s (action.RemoveTable table) (valid-remove_table s table (λ t. true) h)
 all_valid-steps_of s w (RenameTable table new) h whole fresh =
-    other_valid s (bytes_eq table new) (action.RenameTable table (free_name (table_ids s) new))
-    (λ differs. valid-rename_table s table (free_name (table_ids s) new) (λ t. is_name new) h (fresh differs).0 (fresh differs).1)
+    unless_valid s (bytes_eq table new) (renaming s table (free_name (table_ids s) new))
+    (λ differs.
+    let n : List ℕ = free_name (table_ids s) new in
+    let a : DocAction = action.RenameTable table n in
+    let v : valid s a ≡ true = valid-rename_table s table n (λ t. is_name new) h (fresh differs).0 (fresh differs).1 in
+    both_true (valid s a) (all_valid (apply s a) (map action_of (map (led_to n) (referrers s table n true)))) v
+    (valid-renaming s w table n (λ t. is_name new) h (fresh differs).1 (sym (is_taken-ids table_id s n) ∙ (fresh differs).0) v))
 all_valid-steps_of s w (AddColumn table c) h whole fresh = one_valid s (action.AddColumn table (column_said s table c)) (valid-add_column s table c (λ t. is_name c.id && is_plain c) h fresh.0 fresh.1)
 all_valid-steps_of s w (RemoveColumn table column) h whole fresh = one_valid s (action.RemoveColumn table column) (valid-remove_column s table column h)
 all_valid-steps_of s w (RenameColumn table column new) h whole fresh =

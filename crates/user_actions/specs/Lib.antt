@@ -2,6 +2,9 @@ pub mod Infos
 pub mod Kinds
 pub mod Objections
 pub mod ObjectionLaws
+pub mod Marked
+pub mod CellUpdates
+pub mod References
 pub mod Steps
 pub mod StepLaws
 pub mod Allowed

@@ -19,20 +19,16 @@ use Rattle.doc_model.specs.ByIds.{find_id}
 use Rattle.doc_model.specs.Column.{column_id}
 use Rattle.doc_model.specs.Counts.{greatest}
 use Rattle.doc_model.specs.Document.{Document, table_id}
-use Rattle.doc_model.specs.Grid.{Grid, cell}
+use Rattle.doc_model.specs.Grid.{Grid}
 use Rattle.doc_model.specs.MetadataIds.{tables_id, columns_id}
-use Rattle.doc_model.specs.Same.{same_type, same_value}
+use Rattle.doc_model.specs.Same.{same_type}
 use Rattle.doc_model.specs.ViewEdits.{if_any}
 use Rattle.doc_readers.specs.Parts.{grid_at}
 use Rattle.name_rules.specs.FreeName.{free_name}
+use Rattle.user_actions.specs.CellUpdates.{update_changed}
 use Rattle.user_actions.specs.Infos.{type_or}
-
--- an action that the rules are asked about, and one that only follows from it
-abbrev pub direct : DocAction → Step
-direct a = record { action = a; direct = true }
-
-abbrev pub indirect : DocAction → Step
-indirect a = record { action = a; direct = false }
+use Rattle.user_actions.specs.Marked.{direct}
+use Rattle.user_actions.specs.References.{clearings, led_to, referrers}
 
 -- the greatest row of a table, 0 where it has none
 abbrev pub last_row : Document → List ℕ → ℕ
@@ -91,24 +87,12 @@ table_said s table cs =
     action.AddTable (free_name (table_ids s) table) (last_row s tables_id + 1)
     (new_columns [] (last_row s columns_id) cs)
 
--- the rows in which a cell of the column is another one in a column of the type
-abbrev pub rows_changed : Grid ColDef → List ℕ → ColType → List ℕ
-rows_changed g c ty =
-    filter (λ r. not (same_value (cell column_id g c r) (fit ty (cell column_id g c r)))) g.rows
-
--- the cells of these rows as a column of the type holds them
-abbrev pub column_refitted : Grid ColDef → List ℕ → ColType → List ℕ → CellColumn
-column_refitted g c ty rows =
-    record { id = c; values = map (λ r. fit ty (cell column_id g c r)) rows }
-
 -- a column of another type, and then the cells that this changes
 abbrev pub retyped : List ℕ → Grid ColDef → ColDef → ColInfo → List Step
 retyped table g d info =
     cond (same_type d.info.ty info.ty) []
     (direct (action.ModifyColumn table d.id info)
-    ∷ if_any (rows_changed g d.id info.ty)
-    (indirect (action.BulkUpdate table (rows_changed g d.id info.ty)
-    (column_refitted g d.id info.ty (rows_changed g d.id info.ty) ∷ []))))
+    ∷ update_changed table g d.id (fit info.ty) g.rows)
 
 -- a column as the user says
 abbrev pub modified : List ℕ → Grid ColDef → UserCol → List Step
@@ -118,6 +102,11 @@ modified table g c =
       | Some d ↦ retyped table g d (info_said d.info.ty c)
     ]
 
+-- a table under a new id, and then the columns that refer to it
+abbrev pub renaming : Document → List ℕ → List ℕ → List Step
+renaming s table new =
+    direct (action.RenameTable table new) ∷ map (led_to new) (referrers s table new true)
+
 -- the document actions of a user action; a rename to the own id is none
 abbrev pub steps_of : Document → UserAction → List Step
 steps_of s (user.Add table single count has_row_ids ks) =
@@ -125,12 +114,13 @@ steps_of s (user.Add table single count has_row_ids ks) =
     ∷ []
 steps_of s (user.Update table single rows ks) =
     if_any (row_ids rows) (direct (action.BulkUpdate table (row_ids rows) (all_fitted s table ks)))
-steps_of s (user.Remove table single rows) = direct (action.BulkRemove table (row_ids rows)) ∷ []
+steps_of s (user.Remove table single rows) =
+    direct (action.BulkRemove table (row_ids rows))
+    ∷ clearings s table (row_ids rows) (referrers s table table false)
 steps_of s (user.AddTable table cs) = direct (table_said s table cs) ∷ []
 steps_of s (user.RemoveTable table) = direct (action.RemoveTable table) ∷ []
 steps_of s (user.RenameTable table new) =
-    cond (bytes_eq table new) []
-    (direct (action.RenameTable table (free_name (table_ids s) new)) ∷ [])
+    cond (bytes_eq table new) [] (renaming s table (free_name (table_ids s) new))
 steps_of s (user.AddColumn table c) = direct (action.AddColumn table (column_said s table c)) ∷ []
 steps_of s (user.RemoveColumn table column) = direct (action.RemoveColumn table column) ∷ []
 steps_of s (user.RenameColumn table column new) =

@@ -9,7 +9,8 @@ ghost use Rattle.doc_model.specs.declared.action.DocAction.TheVariants.{RemoveCo
 ghost use Rattle.user_actions.specs.Allowed.{is_allowed};
 ghost use Rattle.user_actions.specs.Kinds.{makes_rows, table_of};
 ghost use Rattle.user_actions.specs.StepLaws.{HasFresh, action_of};
-ghost use Rattle.user_actions.specs.Steps.{direct, last_new_row, steps_of};
+ghost use Rattle.user_actions.specs.Marked.{direct};
+ghost use Rattle.user_actions.specs.Steps.{last_new_row, steps_of};
 
 use crate::record_steps::{add_steps, direct, remove_steps, update_steps};
 use crate::refusing::table_of;
@@ -90,7 +91,7 @@ fn other_steps<D: DocTables>(
             let steps = update_steps(alloc, tables, table, rows, columns.as_slice())?;
             Ok(steps)
         }
-        UserAction::Remove { rows, .. } => remove_steps(alloc, table, rows.as_slice()),
+        UserAction::Remove { rows, .. } => remove_steps(alloc, tables, table, rows.as_slice()),
         UserAction::RemoveTable { .. } => remove_table_steps(alloc, table),
         UserAction::RenameTable { new, .. } => {
             rename_table_steps(alloc, tables, table, new.as_str())

@@ -16,10 +16,15 @@
 //! Read first: specs/Objections.antt and refusing.rt, then specs/Steps.antt and expanding.rt.
 #![tactic(auto)]
 
+mod cell_updates;
+mod clearing;
 mod expanding;
+mod gone_rows;
 mod infos;
 mod laws;
+mod leading;
 mod record_steps;
+mod referrers;
 mod refusing;
 mod retyping;
 mod rows;

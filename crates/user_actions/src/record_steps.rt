@@ -1,6 +1,6 @@
 //! The steps of record actions.
 
-ghost use Rattle.std.specs.Prelude.{◌≡◌, ◌<◌, ◌≤◌, ◌+◌, [], ◌∷◌, true, map, IfOk, MatchOption, unwrap_or};
+ghost use Rattle.std.specs.Prelude.{◌≡◌, ◌<◌, ◌≤◌, ◌+◌, ◌++◌, [], ◌∷◌, true, false, map, IfOk, MatchOption, unwrap_or};
 ghost use Rattle.std.specs.List.{list_all};
 ghost use Rattle.cell_types.specs.Conversion.{fit};
 ghost use Rattle.cell_types.specs.Reference.{row_number};
@@ -8,9 +8,14 @@ ghost use Rattle.doc_model.specs.DocumentLaws.{IsWhole};
 ghost use Rattle.doc_model.specs.ViewEdits.{if_any};
 ghost use Rattle.doc_readers.specs.Parts.{grid_at};
 ghost use Rattle.doc_model.specs.declared.action.DocAction.TheVariants.{BulkAdd, BulkRemove, BulkUpdate};
-ghost use Rattle.user_actions.specs.Steps.{all_fitted, direct, fitted, last_row, numbers_after, row_ids, type_in};
+ghost use Rattle.user_actions.specs.References.{clearings, referrers};
+ghost use Rattle.user_actions.specs.Marked.{direct};
+ghost use Rattle.user_actions.specs.Steps.{all_fitted, fitted, last_row, numbers_after, row_ids, type_in};
 ghost use Rattle.user_actions.specs.Allowed.{has_name};
 
+use crate::clearing::add_clearings;
+use crate::gone_rows::GoneRows;
+use crate::referrers::referrers;
 use crate::rows::row_number;
 use crate::table_readers::last_row;
 use cell_types::{CellValue, ColType, Name, RowList, ValueList, convert};
@@ -217,12 +222,8 @@ pub(crate) fn update_steps<D: DocTables>(
     Ok(steps)
 }
 
-/// The steps that remove records.
-pub(crate) fn remove_steps(
-    alloc: Global,
-    table: &Name,
-    rows: &[i64],
-) -> Result<StepList, AllocError>
+// The step that removes records alone.
+fn removal(alloc: Global, table: &Name, rows: &[i64]) -> Result<StepList, AllocError>
     ensures { IfOk result (λ l. l ≡ direct (BulkRemove table.now (row_ids rows.now)) ∷ []) }
 {
     let action = DocAction::BulkRemove {
@@ -230,4 +231,44 @@ pub(crate) fn remove_steps(
         rows: row_ids(alloc, rows)?,
     };
     direct(alloc, action)
+}
+
+// Adds the steps that clear the references to records that go.
+fn add_cleared<D: DocTables>(
+    alloc: Global,
+    tables: &D,
+    table: &Name,
+    rows: &[i64],
+    steps: &mut StepList,
+) -> Result<(), AllocError>
+    requires { IsWhole (D.document tables.now) }
+    ensures { IfOk result
+        (λ _. steps.new
+        ≡ steps.old ++ clearings (D.document tables.now) table.now (row_ids rows.now)
+        (referrers (D.document tables.now) table.now table.now false)) }
+{
+    let known = referrers(alloc, tables, table, table, false)?;
+    if known.is_empty() {
+        return Ok(());
+    }
+    let gone = GoneRows::new(alloc, row_ids(alloc, rows)?)?;
+    add_clearings(alloc, tables, table, &gone, &known, steps)
+}
+
+/// The steps that remove records, and then clear the references to them.
+pub(crate) fn remove_steps<D: DocTables>(
+    alloc: Global,
+    tables: &D,
+    table: &Name,
+    rows: &[i64],
+) -> Result<StepList, AllocError>
+    requires { IsWhole (D.document tables.now) }
+    ensures { IfOk result
+        (λ l. l ≡ direct (BulkRemove table.now (row_ids rows.now))
+        ∷ clearings (D.document tables.now) table.now (row_ids rows.now)
+        (referrers (D.document tables.now) table.now table.now false)) }
+{
+    let mut steps = removal(alloc, table, rows)?;
+    add_cleared(alloc, tables, table, rows, &mut steps)?;
+    Ok(steps)
 }

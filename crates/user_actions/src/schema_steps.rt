@@ -10,10 +10,13 @@ ghost use Rattle.doc_model.specs.declared.action.DocAction.TheVariants.{AddColum
 ghost use Rattle.name_rules.specs.FreeName.{IsFresh, free_name};
 ghost use Rattle.user_actions.specs.Objections.{has_good_id};
 ghost use Rattle.user_actions.specs.StepLaws.{AreFresh};
-ghost use Rattle.user_actions.specs.Steps.{column_ids, column_said, direct, info_said, last_row, new_column, new_columns, table_ids, table_said};
+ghost use Rattle.user_actions.specs.Marked.{direct};
+ghost use Rattle.user_actions.specs.Steps.{column_ids, column_said, info_said, last_row, new_column, new_columns, renaming, table_ids, table_said};
 
 use crate::infos::type_of;
+use crate::leading::add_led;
 use crate::record_steps::direct;
+use crate::referrers::referrers;
 use crate::table_readers::{column_ids, last_row, table_ids};
 use cell_types::{CellText, ColType, Name};
 use doc_model::{
@@ -239,11 +242,30 @@ fn unless_past(greatest: u64, steps: StepList) -> Option<StepList>
     Some(steps)
 }
 
-fn renamed_table(alloc: Global, table: &Name, new: Name) -> Result<StepList, AllocError>
-    ensures { IfOk result (λ l. l ≡ direct (RenameTable table.now new) ∷ []) }
+fn renamed_table(alloc: Global, table: &Name, new: &Name) -> Result<StepList, AllocError>
+    ensures { IfOk result (λ l. l ≡ direct (RenameTable table.now new.now) ∷ []) }
 {
-    let table = table.clone()?;
-    direct(alloc, DocAction::RenameTable { table, new })
+    let action = DocAction::RenameTable {
+        table: table.clone()?,
+        new: new.clone()?,
+    };
+    direct(alloc, action)
+}
+
+// A table under a new id, and then the columns that refer to it.
+fn renaming<D: DocTables>(
+    alloc: Global,
+    tables: &D,
+    table: &Name,
+    new: &Name,
+) -> Result<StepList, AllocError>
+    requires { IsWhole (D.document tables.now) }
+    ensures { IfOk result (λ l. l ≡ renaming (D.document tables.now) table.now new.now) }
+{
+    let mut steps = renamed_table(alloc, table, new)?;
+    let known = referrers(alloc, tables, table, new, true)?;
+    add_led(new, &known, &mut steps)?;
+    Ok(steps)
 }
 
 /// The steps that rename a table.
@@ -260,14 +282,14 @@ pub(crate) fn rename_table_steps<D: DocTables>(
         → IsFresh (table_ids (D.document tables.now)) new.now) }
     ensures made { IfOk result
         (λ l. l ≡ cond (bytes_eq table.now new.now) []
-        (direct (RenameTable table.now (free_name (table_ids (D.document tables.now)) new.now))
-        ∷ [])) }
+        (renaming (D.document tables.now) table.now
+        (free_name (table_ids (D.document tables.now)) new.now))) }
 {
     if table.as_str() == new {
         return Ok(StepList::new(alloc));
     }
     let new = new_table_id(alloc, tables, new)?;
-    let steps = renamed_table(alloc, table, new)?;
+    let steps = renaming(alloc, tables, table, &new)?;
     Ok(steps)
 }
 

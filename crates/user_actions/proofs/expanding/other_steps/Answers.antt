@@ -9,7 +9,8 @@ use Rattle.doc_model.specs.Document.{Document}
 use Rattle.doc_model.specs.ViewEdits.{if_any}
 use Rattle.user_actions.specs.Infos.{is_plain}
 use Rattle.user_actions.specs.Kinds.{table_of}
-use Rattle.user_actions.specs.Steps.{all_fitted, direct, row_ids, steps_of}
+use Rattle.user_actions.specs.Marked.{direct}
+use Rattle.user_actions.specs.Steps.{all_fitted, row_ids, steps_of}
 use Rattle.user_actions.proofs.AllowedLemmas.{columns_named, column_named, only_column_named, data_column_named, new_name}
 use Rattle.user_actions.proofs.expanding.other_steps.Goals as goal
 

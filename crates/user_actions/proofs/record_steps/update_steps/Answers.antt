@@ -1,5 +1,5 @@
 use Rattle.std.proofs.Common.{◌∙◌, sym, ap, [], ◌∷◌}
-use Rattle.user_actions.specs.Steps.{direct}
+use Rattle.user_actions.specs.Marked.{direct}
 use Rattle.user_actions.proofs.WalkLemmas.{any_row}
 use Rattle.user_actions.proofs.record_steps.update_steps.Goals as goal
 

@@ -1,7 +1,8 @@
 use Rattle.std.proofs.Common.{[], ◌∷◌, ◌≡◌, ◌∙◌, ◌+◌, ◌<◌, ◌≤◌, ap, arith}
 use Rattle.doc_model.specs.declared.action.DocAction.TheVariants.{AddColumn}
 use Rattle.doc_model.specs.MetadataIds.{columns_id}
-use Rattle.user_actions.specs.Steps.{column_ids, column_said, direct, last_row, new_column}
+use Rattle.user_actions.specs.Marked.{direct}
+use Rattle.user_actions.specs.Steps.{column_ids, column_said, last_row, new_column}
 use Rattle.user_actions.proofs.LoopLemmas.{otherwise}
 use Rattle.user_actions.proofs.schema_steps.add_column_steps.Goals as goal
 

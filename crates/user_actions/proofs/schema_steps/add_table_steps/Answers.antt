@@ -2,7 +2,8 @@ use Rattle.std.proofs.Common.{[], ◌∷◌, ◌≡◌, ◌∙◌, ◌+◌, ◌<
 use Rattle.doc_model.specs.declared.action.DocAction.TheVariants.{AddTable}
 use Rattle.doc_model.specs.MetadataIds.{columns_id, tables_id}
 use Rattle.name_rules.specs.FreeName.{free_name}
-use Rattle.user_actions.specs.Steps.{direct, last_row, new_columns, table_ids, table_said}
+use Rattle.user_actions.specs.Marked.{direct}
+use Rattle.user_actions.specs.Steps.{last_row, new_columns, table_ids, table_said}
 use Rattle.user_actions.proofs.LoopLemmas.{otherwise}
 use Rattle.user_actions.proofs.schema_steps.add_table_steps.Goals as goal
 

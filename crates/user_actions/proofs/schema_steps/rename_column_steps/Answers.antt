@@ -3,7 +3,8 @@ use Rattle.std.specs.Str.{bytes_eq}
 use Rattle.doc_model.specs.declared.action.DocAction.TheVariants.{RenameColumn}
 use Rattle.doc_model.specs.declared.action.Step.{Step}
 use Rattle.name_rules.specs.FreeName.{free_name}
-use Rattle.user_actions.specs.Steps.{column_ids, direct}
+use Rattle.user_actions.specs.Marked.{direct}
+use Rattle.user_actions.specs.Steps.{column_ids}
 use Rattle.user_actions.proofs.schema_steps.rename_column_steps.Goals as goal
 
 pub returns-clause-fresh : goal.returns-clause-fresh

@@ -5,6 +5,8 @@ mod MaximaMoves
 mod Rising
 mod Leaving
 mod ExpansionLemmas
+mod ClearingMoves
+mod RenamingMoves
 mod StepMoves
 mod AddMoves
 mod SchemaGrowth

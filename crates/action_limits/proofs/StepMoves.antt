@@ -1,9 +1,12 @@
 -- Sums and maxima after the steps of an action that makes no rows.
-use Rattle.std.proofs.Common.{ℕ, Bool, true, false, cond, not, ◌&&◌, ◌||◌, ◌+◌, ◌-◌, ◌^◌, ◌<◌, ◌≤◌, List, [], ◌∷◌, map, length, get_or, ◌≡◌, refl, sym, ap, subst, ◌∙◌, Option, Some, None, arith, ltb}
-use Rattle.std.proofs.lemmas.Bool.{and_parts, false≢true, true≢false, le-ltb}
-use Rattle.std.specs.List.{list_all}
+use Rattle.std.proofs.Common.{ℕ, Bool, true, false, cond, not, ◌&&◌, ◌||◌, ◌+◌, ◌-◌, ◌^◌, ◌<◌, ◌≤◌, List, [], ◌∷◌, ◌++◌, map, length, get_or, ◌≡◌, refl, sym, ap, subst, ◌∙◌, Option, Some, None, arith, ltb}
+use Rattle.std.proofs.lemmas.Bool.{and_parts, eqb-true, false≢true, true≢false, le-ltb}
+use Rattle.std.specs.Bool.{◌==◌}
+use Rattle.std.specs.List.{list_all, AllByRecursion}
 use Rattle.std.specs.Option.{option_map}
 use Rattle.std.specs.Str.{bytes_eq}
+use Rattle.cell_types.specs.Conversion.{fit}
+use Rattle.cell_types.specs.NameRule.{is_name}
 use Rattle.doc_model.specs.declared.action.DocAction.{DocAction}
 use Rattle.doc_model.specs.declared.action.DocAction.TheVariants as action
 use Rattle.doc_model.specs.declared.action.Step.{Step}
@@ -16,17 +19,17 @@ use Rattle.doc_model.specs.Apply.{all_valid, apply, apply_all, with_column, with
 use Rattle.doc_model.specs.ByIds.{find_id, has_id}
 use Rattle.doc_model.specs.Column.{column_id, is_sound_info}
 use Rattle.doc_model.specs.CountLaws.{Sums, SumsMove, column_weight, sums_added, sums_removed, nothing}
-use Rattle.doc_model.specs.Counts.{counts, total, value_weight}
+use Rattle.doc_model.specs.Counts.{counts, formula_bytes, total, value_weight}
 use Rattle.doc_model.specs.Document.{Document, Table, on_grid, table_id, with_table}
 use Rattle.doc_model.specs.DocumentLaws.{IsWhole}
 use Rattle.doc_model.specs.Grid.{Grid, cell}
 use Rattle.doc_model.specs.Same.{same_type}
 use Rattle.doc_model.specs.Schema.{plain_tables, resources, rules, with_schema}
-use Rattle.doc_model.specs.Valid.{all_null, schema_table, valid}
+use Rattle.doc_model.specs.Valid.{all_null, is_new_table, schema_table, valid}
 use Rattle.doc_model.specs.ViewEdits.{if_any}
 use Rattle.doc_model.proofs.ByIdsLaws.{bytes_itself}
 use Rattle.doc_model.proofs.ByRowLaws.{find-with_id}
-use Rattle.doc_model.proofs.Choices.{both_true, cond_true}
+use Rattle.doc_model.proofs.Choices.{both_true, cond_true, not_true}
 use Rattle.doc_model.proofs.ColumnsKept.{cell-with_info}
 use Rattle.doc_model.proofs.DocumentParts.{applied, find_plain, passes_parts, schema_table_parts}
 use Rattle.doc_model.proofs.InverseLaws.{IsWhole-apply}
@@ -36,12 +39,19 @@ use Rattle.doc_model.proofs.WholeLaws.{IsPlain}
 use Rattle.doc_readers.specs.Parts.{grid_at}
 use Rattle.action_limits.specs.declared.limits.Counted.{Counted}
 use Rattle.action_limits.specs.Capped.{all_moved, all_moved_at, capped, has_named, is_there, moved_by}
-use Rattle.action_limits.specs.Left.{IsOneOrQuiet, TellsMaxima, is_quiet}
+use Rattle.action_limits.specs.Left.{AreQuietLater, TellsMaxima, is_quiet, renames_table}
 use Rattle.user_actions.specs.Kinds.{makes_rows}
 use Rattle.user_actions.specs.StepLaws.{action_of}
 use Rattle.user_actions.specs.Marked.{direct, indirect}
-use Rattle.user_actions.specs.Steps.{all_fitted, column_refitted, info_said, retyped, row_ids, rows_changed, steps_of}
+use Rattle.name_rules.specs.FreeName.{free_name}
+use Rattle.user_actions.specs.declared.referrers.Referrer.{Referrer}
+use Rattle.user_actions.specs.CellUpdates.{column_changed, rows_changed}
+use Rattle.user_actions.specs.References.{cleared, clearings, info_to, led_to, referrers, rows_staying}
+use Rattle.user_actions.specs.Steps.{all_fitted, info_said, renaming, retyped, row_ids, steps_of, table_ids}
+use Rattle.user_actions.proofs.LedLemmas.{IsLed, there-renaming}
 use Rattle.action_limits.specs.Tallies.{after}
+use Rattle.action_limits.proofs.ClearingMoves.{all_told, removal_alike, removal_there}
+use Rattle.action_limits.proofs.RenamingMoves.{KeepsFormula, SameSums, all_same}
 use Rattle.action_limits.proofs.ExpansionLemmas.{IsExact, TellsSums, any_there, any_told, has_named-valid, none_told, one_told}
 use Rattle.action_limits.proofs.MaximaMoves.{IsBelow, SameMaxima, maxima-quiet}
 
@@ -182,23 +192,33 @@ few_unless : (b : Bool) (x : Step) → length (cond b [] (x ∷ [])) ≤ 1
 few_unless true x = omega arith
 few_unless false x = omega arith
 
-pub other_told : (s : Document) (a : UserAction) (m : Counted) → IsWhole s → makes_rows a ≡ false → IsExact m s → all_valid s (map action_of (steps_of s a)) ≡ true → TellsSteps s m (steps_of s a)
-other_told s (Add table single count has_row_ids ks) m whole other exact v = absurd (true≢false other)
-other_told s (Update table single rows ks) m whole other exact v = any_steps s m (steps_of s (Update table single rows ks)) (few_if_any (row_ids rows) (direct (action.BulkUpdate table (row_ids rows) (all_fitted s table ks)))) whole exact v
-other_told s (Remove table single rows) m whole other exact v = any_steps s m (steps_of s (Remove table single rows)) (omega arith) whole exact v
-other_told s (AddTable table cs) m whole other exact v = absurd (true≢false other)
-other_told s (RemoveTable table) m whole other exact v = any_steps s m (steps_of s (RemoveTable table)) (omega arith) whole exact v
-other_told s (RenameTable table new) m whole other exact v = any_steps s m (steps_of s (RenameTable table new)) (few_unless (bytes_eq table new) _) whole exact v
-other_told s (AddColumn table c) m whole other exact v = absurd (true≢false other)
-other_told s (RemoveColumn table column) m whole other exact v = any_steps s m (steps_of s (RemoveColumn table column)) (omega arith) whole exact v
-other_told s (RenameColumn table column new) m whole other exact v = any_steps s m (steps_of s (RenameColumn table column new)) (few_unless (bytes_eq column new) _) whole exact v
-other_told s (ModifyColumn table c) m whole other exact v =
+removal_told : (s : Document) (m : Counted) → IsWhole s → IsExact m s → (table gone : List ℕ) → all_valid s (map action_of (direct (action.BulkRemove table gone) ∷ clearings s table gone (referrers s table table false))) ≡ true
+    → TellsSteps s m (direct (action.BulkRemove table gone) ∷ clearings s table gone (referrers s table table false))
+removal_told s m whole exact table gone v =
+    let steps : List Step = direct (action.BulkRemove table gone) ∷ clearings s table gone (referrers s table table false) in
+    let parts : (valid s (action.BulkRemove table gone) ≡ true) × (all_valid (apply s (action.BulkRemove table gone)) (map action_of (clearings s table gone (referrers s table table false))) ≡ true)
+    = and_parts (valid s (action.BulkRemove table gone)) (all_valid (apply s (action.BulkRemove table gone)) (map action_of (clearings s table gone (referrers s table table false)))) v in
+    let told : (all_moved_at s m steps ≡ all_moved s m steps) × TellsSums (all_moved s m steps) (apply_all s (map action_of steps)) = all_told s s m steps whole exact v (removal_alike s whole table gone parts.0 parts.1) in
+    record { there = removal_there s whole table gone parts.0; alike = told.0; sums = told.1 }
+
+pub other_told : (s : Document) (a : UserAction) (m : Counted) → IsWhole s → makes_rows a ≡ false → renames_table a ≡ false → IsExact m s → all_valid s (map action_of (steps_of s a)) ≡ true → TellsSteps s m (steps_of s a)
+other_told s (Add table single count has_row_ids ks) m whole other stays exact v = absurd (true≢false other)
+other_told s (Update table single rows ks) m whole other stays exact v = any_steps s m (steps_of s (Update table single rows ks)) (few_if_any (row_ids rows) (direct (action.BulkUpdate table (row_ids rows) (all_fitted s table ks)))) whole exact v
+other_told s (Remove table single rows) m whole other stays exact v = removal_told s m whole exact table (row_ids rows) v
+other_told s (AddTable table cs) m whole other stays exact v = absurd (true≢false other)
+other_told s (RemoveTable table) m whole other stays exact v = any_steps s m (steps_of s (RemoveTable table)) (omega arith) whole exact v
+other_told s (RenameTable table new) m whole other stays exact v = absurd (true≢false stays)
+other_told s (AddColumn table c) m whole other stays exact v = absurd (true≢false other)
+other_told s (RemoveColumn table column) m whole other stays exact v = any_steps s m (steps_of s (RemoveColumn table column)) (omega arith) whole exact v
+other_told s (RenameColumn table column new) m whole other stays exact v = any_steps s m (steps_of s (RenameColumn table column new)) (few_unless (bytes_eq column new) _) whole exact v
+other_told s (ModifyColumn table c) m whole other stays exact v =
     let g : Grid ColDef = grid_at s table in
     elim (find_id column_id c.id g.columns) as (λ (o : Option ColDef). let steps : List Step = elim o as (λ _. List Step) [ None ↦ [] | Some d ↦ retyped table g d (info_said d.info.ty c) ] in
     all_valid s (map action_of steps) ≡ true → TellsSteps s m steps) [
       | None ↦ λ _. record { there = refl; alike = refl; sums = none_told s m exact }
       | Some d ↦ unless_told s m exact (same_type d.info.ty (info_said d.info.ty c).ty) _
-          (pair_told s m whole exact table d.id (info_said d.info.ty c) refl (rows_changed g d.id (info_said d.info.ty c).ty) (column_refitted g d.id (info_said d.info.ty c).ty (rows_changed g d.id (info_said d.info.ty c).ty) ∷ []) (rows_changed g d.id (info_said d.info.ty c).ty))
+          (let rows : List ℕ = rows_changed g d.id (fit (info_said d.info.ty c).ty) g.rows in
+          pair_told s m whole exact table d.id (info_said d.info.ty c) refl rows (column_changed g d.id (fit (info_said d.info.ty c).ty) rows ∷ []) rows)
     ] v
 
 -- ---- and the maxima
@@ -212,60 +232,139 @@ same_all s (x ∷ steps) whole v fit =
     let others : SameMaxima (apply s x.action) (apply_all (apply s x.action) (map action_of steps)) = same_all (apply s x.action) steps (IsWhole-apply s x.action whole parts.0) parts.1 each.1 in
     record { columns = others.columns ∙ one.columns; rows = others.rows ∙ one.rows; row_id = others.row_id ∙ one.row_id }
 
-all_quiet : (steps : List Step) → IsOneOrQuiet steps → (length steps ≡ 1 → ⊥) → list_all (λ (x : Step). is_quiet x.action) steps ≡ true
-all_quiet [] quiet other = refl
-all_quiet (x ∷ []) quiet other = absurd (other refl)
-all_quiet (x ∷ y ∷ steps) quiet other = quiet
+maxima_from : (s d : Document) (e : Counted) → SameMaxima s d → TellsMaxima e s → TellsMaxima e d
+maxima_from s d e same told = record {
+  columns = told.columns ∙ ap (ltb 1024) (sym same.columns);
+  rows = told.rows ∙ ap (ltb 1000000) (sym same.rows);
+  row_id = told.row_id ∙ ap (ltb 4294967295) (sym same.row_id);
+}
 
--- steps that are not one keep the maxima
-pub kept_maxima : (s : Document) (steps : List Step) (e : Counted) → IsWhole s → all_valid s (map action_of steps) ≡ true → IsOneOrQuiet steps → (length steps ≡ 1 → ⊥) → TellsMaxima e s → TellsMaxima e (apply_all s (map action_of steps))
-kept_maxima s steps e whole v quiet other told =
-    let same : SameMaxima s (apply_all s (map action_of steps)) = same_all s steps whole v (all_quiet steps quiet other) in
+-- the first of steps
+pub first_valid : (s : Document) (steps : List Step) (x : Step) → (length steps == 0) ≡ false → all_valid s (map action_of steps) ≡ true → valid s (get_or steps 0 x).action ≡ true
+first_valid s [] x some v = absurd (true≢false some)
+first_valid s (y ∷ steps) x some v = (and_parts (valid s y.action) (all_valid (apply s y.action) (map action_of steps)) v).0
+
+-- the steps behind it keep the maxima
+pub kept_maxima : (s : Document) (steps : List Step) (x : Step) (e : Counted) → IsWhole s → all_valid s (map action_of steps) ≡ true → AreQuietLater steps → (length steps == 0) ≡ false → TellsMaxima e (apply s (get_or steps 0 x).action) → TellsMaxima e (apply_all s (map action_of steps))
+kept_maxima s [] x e whole v quiet some told = absurd (true≢false some)
+kept_maxima s (y ∷ steps) x e whole v quiet some told =
+    let parts : (valid s y.action ≡ true) × (all_valid (apply s y.action) (map action_of steps) ≡ true) = and_parts (valid s y.action) (all_valid (apply s y.action) (map action_of steps)) v in
+    maxima_from (apply s y.action) (apply_all (apply s y.action) (map action_of steps)) e
+    (same_all (apply s y.action) steps (IsWhole-apply s y.action whole parts.0) parts.1 quiet) told
+
+pub no_steps : (s : Document) (steps : List Step) (e : Counted) → (length steps == 0) ≡ true → TellsMaxima e s → TellsMaxima e (apply_all s (map action_of steps))
+no_steps s [] e none told = told
+no_steps s (x ∷ steps) e none told = let no : length (x ∷ steps) ≡ 0 = eqb-true (length (x ∷ steps)) 0 none in absurd (omega (arith, no))
+
+-- ---- no step of an action that makes no rows moves the maxima, but the first
+
+few_quiet : (steps : List Step) → length steps ≤ 1 → AreQuietLater steps
+few_quiet [] few = tt
+few_quiet (x ∷ []) few = refl
+few_quiet (x ∷ y ∷ steps) few = absurd (omega arith)
+
+any_quiet : (rows : List ℕ) (x : Step) (rest : List Step) → is_quiet x.action ≡ true → list_all (λ (x : Step). is_quiet x.action) rest ≡ true → list_all (λ (x : Step). is_quiet x.action) (if_any rows x ++ rest) ≡ true
+any_quiet [] x rest h k = k
+any_quiet (r ∷ rows) x rest h k = both_true (is_quiet x.action) (list_all (λ (x : Step). is_quiet x.action) rest) h k
+
+clear_quiet : (s : Document) (table gone : List ℕ) (ks : List Referrer) → list_all (λ (x : Step). is_quiet x.action) (clearings s table gone ks) ≡ true
+clear_quiet s table gone [] = refl
+clear_quiet s table gone (k ∷ ks) =
+    any_quiet (rows_changed (grid_at s k.table) k.column.id (cleared gone k.column.info.ty) (rows_staying s table gone k.table)) _ (clearings s table gone ks) refl (clear_quiet s table gone ks)
+
+two_quiet : (b : Bool) (rows : List ℕ) (x y : Step) → is_quiet y.action ≡ true → AreQuietLater (cond b [] (x ∷ if_any rows y))
+two_quiet true rows x y k = tt
+two_quiet false [] x y k = refl
+two_quiet false (r ∷ rows) x y k = both_true (is_quiet y.action) true k refl
+
+pub other_quiet : (s : Document) (a : UserAction) → makes_rows a ≡ false → renames_table a ≡ false → AreQuietLater (steps_of s a)
+other_quiet s (Add table single count has_row_ids ks) other stays = absurd (true≢false other)
+other_quiet s (Update table single rows ks) other stays = few_quiet (steps_of s (Update table single rows ks)) (few_if_any (row_ids rows) (direct (action.BulkUpdate table (row_ids rows) (all_fitted s table ks))))
+other_quiet s (Remove table single rows) other stays = clear_quiet s table (row_ids rows) (referrers s table table false)
+other_quiet s (AddTable table cs) other stays = absurd (true≢false other)
+other_quiet s (RemoveTable table) other stays = refl
+other_quiet s (RenameTable table new) other stays = absurd (true≢false stays)
+other_quiet s (AddColumn table c) other stays = absurd (true≢false other)
+other_quiet s (RemoveColumn table column) other stays = refl
+other_quiet s (RenameColumn table column new) other stays = few_quiet (steps_of s (RenameColumn table column new)) (few_unless (bytes_eq column new) _)
+other_quiet s (ModifyColumn table c) other stays =
+    let g : Grid ColDef = grid_at s table in
+    elim (find_id column_id c.id g.columns) as (λ (o : Option ColDef). AreQuietLater (elim o as (λ _. List Step) [ None ↦ [] | Some d ↦ retyped table g d (info_said d.info.ty c) ])) [
+      | None ↦ tt
+      | Some d ↦ two_quiet (same_type d.info.ty (info_said d.info.ty c).ty) (rows_changed g d.id (fit (info_said d.info.ty c).ty) g.rows) _ _ refl
+    ]
+
+-- ---- a table that is renamed
+
+led_quiet : (new : List ℕ) (ks : List Referrer) → list_all (λ (x : Step). is_quiet x.action) (map (led_to new) ks) ≡ true
+led_quiet new [] = refl
+led_quiet new (k ∷ ks) = led_quiet new ks
+
+led_keeps : (d : Document) (new : List ℕ) (ks : List Referrer) → AllByRecursion (IsLed d) ks → AllByRecursion (KeepsFormula d) (map (led_to new) ks)
+led_keeps d new [] h = tt
+led_keeps d new (k ∷ ks) h = (
+  record {
+    table = k.table;
+    column = k.column.id;
+    info = info_to new k.column.info;
+    is = refl;
+    plain = h.0.plain;
+    kept = ap (λ (o : Option ColDef). elim o as (λ _. ℕ) [ None ↦ 0 | Some d ↦ formula_bytes d ]) h.0.found;
+  },
+  led_keeps d new ks h.1,
+)
+
+-- the counts are as they were
+pub record SameCounts (s d : Document) : Type 0 where
+  pub sums : SameSums s d
+  pub maxima : SameMaxima s d
+
+same_counts : (s : Document) → SameCounts s s
+same_counts s = record { sums = record { tables = refl; cells = refl; weight = refl }; maxima = record { columns = refl; rows = refl; row_id = refl } }
+
+rename_same : (s : Document) → IsWhole s → (table new : List ℕ) → all_valid s (map action_of (renaming s table new)) ≡ true → SameCounts s (apply_all s (map action_of (renaming s table new)))
+rename_same s whole table new v =
+    let a : DocAction = action.RenameTable table new in
+    let led : List Step = map (led_to new) (referrers s table new true) in
+    let parts : (valid s a ≡ true) × (all_valid (apply s a) (map action_of led) ≡ true) = and_parts (valid s a) (all_valid (apply s a) (map action_of led)) v in
+    let p : (t : Table) × ((schema_table s table ≡ Some t) × (is_new_table s new ≡ true)) = passes_parts (schema_table s table) (λ _. is_new_table s new) parts.0 in
+    let new_parts : (not (has_id table_id s new) ≡ true) × (is_name new ≡ true) = and_parts (not (has_id table_id s new)) (is_name new) p.1.1 in
+    let there : AllByRecursion (IsLed (apply s a)) (referrers s table new true) = there-renaming s whole table new new_parts.1 (not_true (has_id table_id s new) new_parts.0) parts.0 in
+    let rest : SameSums (apply s a) (apply_all (apply s a) (map action_of led)) = all_same (apply s a) led (IsWhole-apply s a whole parts.0) parts.1 (led_keeps (apply s a) new (referrers s table new true) there) in
+    let moved : SumsMove s (apply s a) a = counts-apply s a whole parts.0 in
+    let mt : (counts (apply s a)).tables + 0 ≡ (counts s).tables + 0 = moved.tables in
+    let mc : (counts (apply s a)).cells + 0 ≡ (counts s).cells + 0 = moved.cells in
+    let mw : (counts (apply s a)).weight + 0 ≡ (counts s).weight + 0 = moved.weight in
     record {
-      columns = told.columns ∙ ap (ltb 1024) (sym same.columns);
-      rows = told.rows ∙ ap (ltb 1000000) (sym same.rows);
-      row_id = told.row_id ∙ ap (ltb 4294967295) (sym same.row_id);
+      sums = record { tables = rest.tables ∙ omega (arith, mt); cells = rest.cells ∙ omega (arith, mc); weight = rest.weight ∙ omega (arith, mw) };
+      maxima = same_all s (renaming s table new) whole v (both_true (is_quiet a) (list_all (λ (x : Step). is_quiet x.action) led) refl (led_quiet new (referrers s table new true)));
     }
 
-pub one_valid : (s : Document) (steps : List Step) (x : Step) → steps ≡ x ∷ [] → all_valid s (map action_of steps) ≡ true → valid s x.action ≡ true
-one_valid s steps x is v = (and_parts (valid s x.action) true (subst (λ l. all_valid s (map action_of l) ≡ true) is v)).0
+unless_same : (s : Document) (b : Bool) (steps : List Step) → (all_valid s (map action_of steps) ≡ true → SameCounts s (apply_all s (map action_of steps))) → all_valid s (map action_of (cond b [] steps)) ≡ true → SameCounts s (apply_all s (map action_of (cond b [] steps)))
+unless_same s true steps h v = same_counts s
+unless_same s false steps h v = h v
 
-pub only_one : (steps : List Step) (x : Step) → length steps ≡ 1 → x ≡ get_or steps 0 x → steps ≡ x ∷ []
-only_one [] x one is = absurd (omega (arith, one))
-only_one (y ∷ []) x one is = ap (λ z. z ∷ []) (sym is)
-only_one (y ∷ z ∷ steps) x one is = absurd (omega (arith, one))
+renaming_same : (s : Document) → IsWhole s → (a : UserAction) → renames_table a ≡ true → all_valid s (map action_of (steps_of s a)) ≡ true → SameCounts s (after s a)
+renaming_same s whole (RenameTable table new) renames v = unless_same s (bytes_eq table new) (renaming s table (free_name (table_ids s) new)) (rename_same s whole table (free_name (table_ids s) new)) v
+renaming_same s whole (Add table single count has_row_ids ks) renames v = absurd (false≢true renames)
+renaming_same s whole (Update table single rows ks) renames v = absurd (false≢true renames)
+renaming_same s whole (Remove table single rows) renames v = absurd (false≢true renames)
+renaming_same s whole (AddTable table cs) renames v = absurd (false≢true renames)
+renaming_same s whole (RemoveTable table) renames v = absurd (false≢true renames)
+renaming_same s whole (AddColumn table c) renames v = absurd (false≢true renames)
+renaming_same s whole (RemoveColumn table column) renames v = absurd (false≢true renames)
+renaming_same s whole (RenameColumn table column new) renames v = absurd (false≢true renames)
+renaming_same s whole (ModifyColumn table c) renames v = absurd (false≢true renames)
 
--- ---- the steps of an action that makes no rows are one, or none moves the maxima
-
-one_if_any : (rows : List ℕ) (x : Step) → IsOneOrQuiet (if_any rows x)
-one_if_any [] x = refl
-one_if_any (r ∷ rows) x = tt
-
-one_unless : (b : Bool) (x : Step) → IsOneOrQuiet (cond b [] (x ∷ []))
-one_unless true x = refl
-one_unless false x = tt
-
-two_quiet : (b : Bool) (rows : List ℕ) (x y : Step) → is_quiet x.action ≡ true → is_quiet y.action ≡ true → IsOneOrQuiet (cond b [] (x ∷ if_any rows y))
-two_quiet true rows x y h k = refl
-two_quiet false [] x y h k = tt
-two_quiet false (r ∷ rows) x y h k = both_true (is_quiet x.action) (is_quiet y.action && true) h (both_true (is_quiet y.action) true k refl)
-
-pub other_quiet : (s : Document) (a : UserAction) → makes_rows a ≡ false → IsOneOrQuiet (steps_of s a)
-other_quiet s (Add table single count has_row_ids ks) other = absurd (true≢false other)
-other_quiet s (Update table single rows ks) other = one_if_any (row_ids rows) (direct (action.BulkUpdate table (row_ids rows) (all_fitted s table ks)))
-other_quiet s (Remove table single rows) other = tt
-other_quiet s (AddTable table cs) other = absurd (true≢false other)
-other_quiet s (RemoveTable table) other = tt
-other_quiet s (RenameTable table new) other = one_unless (bytes_eq table new) _
-other_quiet s (AddColumn table c) other = absurd (true≢false other)
-other_quiet s (RemoveColumn table column) other = tt
-other_quiet s (RenameColumn table column new) other = one_unless (bytes_eq column new) _
-other_quiet s (ModifyColumn table c) other =
-    let g : Grid ColDef = grid_at s table in
-    elim (find_id column_id c.id g.columns) as (λ (o : Option ColDef). IsOneOrQuiet (elim o as (λ _. List Step) [ None ↦ [] | Some d ↦ retyped table g d (info_said d.info.ty c) ])) [
-      | None ↦ refl
-      | Some d ↦ two_quiet (same_type d.info.ty (info_said d.info.ty c).ty) (rows_changed g d.id (info_said d.info.ty c).ty) _ _ refl refl
-    ]
+pub renaming_told : (s : Document) → IsWhole s → (a : UserAction) → renames_table a ≡ true → all_valid s (map action_of (steps_of s a)) ≡ true → (m e : Counted) → IsExact m s → TellsMaxima e s → TellsSums m (after s a) × TellsMaxima e (after s a)
+renaming_told s whole a renames v m e exact most =
+    let same : SameCounts s (after s a) = renaming_same s whole a renames v in
+    let told : TellsSums m s = none_told s m exact in
+    (record {
+      tables = told.tables ∙ ap capped (sym same.sums.tables);
+      cells = told.cells ∙ ap capped (sym same.sums.cells);
+      weight = told.weight ∙ ap capped (sym same.sums.weight);
+    }, maxima_from s (after s a) e same.maxima most)
 
 pub below_within : (s : Document) → Rattle.action_limits.specs.Tallies.are_within (counts s) ≡ true → IsBelow s 1024 1000000 4294967295
 below_within s h =

@@ -7,6 +7,8 @@ use Rattle.doc_model.specs.declared.limit.LimitKind.TheVariants.{Columns, Rows, 
 use Rattle.doc_model.specs.declared.action.DocAction.{DocAction}
 use Rattle.doc_model.specs.declared.action.DocAction.TheVariants.{BulkAdd, BulkRemove, AddTable, RemoveTable, AddColumn, RemoveColumn}
 use Rattle.doc_model.specs.declared.action.Step.{Step}
+use Rattle.doc_model.specs.declared.user_action.UserAction.{UserAction}
+use Rattle.doc_model.specs.declared.user_action.UserAction.TheVariants as user
 use Rattle.doc_model.specs.Counts.{bound_of, counts}
 use Rattle.doc_model.specs.Document.{Document, Table}
 use Rattle.doc_model.specs.MetadataIds.{columns_id, tables_id}
@@ -66,7 +68,12 @@ is_growing _ = false
 abbrev pub is_quiet : DocAction → Bool
 is_quiet a = not (is_growing a) && not (takes_away a)
 
--- one step, or steps that move no maxima
-abbrev pub IsOneOrQuiet : List Step → Type 0
-IsOneOrQuiet (step ∷ []) = Unit {0}
-IsOneOrQuiet steps = list_all (λ (step : Step). is_quiet step.action) steps ≡ true
+-- each step but the first leaves each table as many rows and columns as it has
+abbrev pub AreQuietLater : List Step → Type 0
+AreQuietLater [] = Unit {0}
+AreQuietLater (step ∷ steps) = list_all (λ (step : Step). is_quiet step.action) steps ≡ true
+
+-- whether the action renames a table
+abbrev pub renames_table : UserAction → Bool
+renames_table (user.RenameTable table new) = true
+renames_table _ = false

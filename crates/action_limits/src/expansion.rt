@@ -10,7 +10,7 @@ ghost use Rattle.action_limits.specs.Capped.{AddsSo, AreMaximaAdded, capped, max
 ghost use Rattle.user_actions.specs.Kinds.{makes_rows};
 ghost use Rattle.action_limits.specs.Grown.{AreMaximaDescribed, AreMaximaGrown, grows_schema, new_tables};
 ghost use Rattle.user_actions.specs.Kinds.{table_of};
-ghost use Rattle.action_limits.specs.Left.{IsOneOrQuiet, TellsMaxima};
+ghost use Rattle.action_limits.specs.Left.{AreQuietLater, TellsMaxima, renames_table};
 ghost use Rattle.user_actions.specs.StepLaws.{action_of};
 ghost use Rattle.action_limits.specs.Tallies.{IsExpansion, IsTally, are_within};
 
@@ -45,21 +45,43 @@ fn settled(steps: StepList, sums: Counted, most: Counted) -> Expansion
     }
 }
 
-// The maxima after the steps of an action that makes no rows: of two steps neither moves them.
+// The maxima after steps: none but the first moves them.
 fn maxima_after_steps<D: DocTables>(tables: &D, within: bool, steps: &[Step]) -> Counted
     requires whole { IsWhole (D.document tables.now) }
     requires within { within ≡ are_within (counts (D.document tables.now)) }
     requires valid { all_valid (D.document tables.now) (map action_of steps.now) ≡ true }
-    requires quiet { IsOneOrQuiet steps.now }
+    requires quiet { AreQuietLater steps.now }
     ensures { TellsMaxima result (apply_all (D.document tables.now) (map action_of steps.now)) }
 {
-    if steps.len() == 1 {
-        return maxima_after(tables, within, &steps[0].action);
+    if steps.is_empty() {
+        return maxima_before(tables, within);
     }
-    maxima_before(tables, within)
+    maxima_after(tables, within, &steps[0].action)
 }
 
-// What an action comes to that makes no rows.
+// What the renaming of a table comes to. It moves no counts: a column that refers to the table has
+// another type, and the formula that it had.
+fn renaming_expansion<D: DocTables>(
+    alloc: Global,
+    tables: &D,
+    tally: Tally,
+    action: &UserAction,
+) -> Result<Expansion, AllocError>
+    requires whole { IsWhole (D.document tables.now) }
+    requires allowed { is_allowed (D.document tables.now) action.now ≡ true }
+    requires well_formed { has_whole_columns action.now ≡ true }
+    requires tally { IsTally (D.document tables.now) tally }
+    requires renames { renames_table action.now ≡ true }
+    ensures { IfOk result (λ e. IsExpansion (D.document tables.now) action.now e) }
+{
+    let Some(steps) = steps(alloc, tables, action)? else {
+        unreachable!()
+    };
+    let most = maxima_before(tables, tally.within);
+    Ok(settled(steps, sums_of(tally), most))
+}
+
+// What an action comes to that makes no rows and renames no table.
 fn other_expansion<D: DocTables>(
     alloc: Global,
     tables: &D,
@@ -71,6 +93,7 @@ fn other_expansion<D: DocTables>(
     requires well_formed { has_whole_columns action.now ≡ true }
     requires tally { IsTally (D.document tables.now) tally }
     requires other { makes_rows action.now ≡ false }
+    requires stays { renames_table action.now ≡ false }
     ensures { IfOk result (λ e. IsExpansion (D.document tables.now) action.now e) }
 {
     let Some(steps) = steps(alloc, tables, action)? else {
@@ -241,6 +264,7 @@ pub fn expand<D: DocTables>(
         UserAction::AddTable { .. } | UserAction::AddColumn { .. } => {
             schema_expansion(alloc, tables, tally, action)
         }
+        UserAction::RenameTable { .. } => renaming_expansion(alloc, tables, tally, action),
         _ => other_expansion(alloc, tables, tally, action),
     }
 }

@@ -187,7 +187,7 @@ cleared_base gone (type.RefList t) v h = list_base gone v h
 
 -- ---- the columns cleared of rows that go
 
-same_id : (old id : List ℕ) → renamed_id old old id ≡ id
+pub same_id : (old id : List ℕ) → renamed_id old old id ≡ id
 same_id old id =
     elim (bytes_eq id old) as (λ b. bytes_eq id old ≡ b → cond b old id ≡ id) [
       | true ↦ λ is. sym ((Rattle.std.proofs.lemmas.Slice.Eq.bytes_eq-Decides id old).0 is)
@@ -199,7 +199,7 @@ module _ (s : Document) (whole : IsWhole s) (table : List ℕ) (gone : List ℕ)
   after = apply s (BulkRemove table gone)
 
   -- a table that has lost the rows has those that stay
-  found_after : (id : List ℕ) (t : Table) → is_schema_id id ≡ false → find_id table_id id s ≡ Some t
+  pub found_after : (id : List ℕ) (t : Table) → is_schema_id id ≡ false → find_id table_id id s ≡ Some t
       → (u : Table) × (record_table after id ≡ Some u) × (u.grid.columns ≡ t.grid.columns) × (u.grid.rows ≡ cond (bytes_eq id table) (without gone t.grid.rows) t.grid.rows)
   found_after id t plain there =
       let becomes : record_table after id ≡ cond (bytes_eq id table) (Some (on_grid (remove_rows column_id gone) t)) (Some t)

@@ -22,7 +22,7 @@ use Rattle.doc_model.specs.MetadataIds.{is_metadata_id}
 use Rattle.doc_model.specs.Rows.{has}
 use Rattle.doc_model.specs.Schema.{with_schema, plain_tables, resources, rules}
 use Rattle.doc_model.specs.Sound.{IsSoundGrid}
-use Rattle.doc_model.specs.Valid.{all_null, passes, schema_table, valid}
+use Rattle.doc_model.specs.Valid.{all_null, is_new_table, passes, schema_table, valid}
 use Rattle.doc_model.proofs.ByIdsLaws.{bytes_apart, found_all, found_id, has_found}
 use Rattle.doc_model.proofs.ByRowLaws.{apart_ids, find-new_id, find-with_id, has_id-with_id}
 use Rattle.doc_model.proofs.Choices.{both_true, cond_false, each_mapped, each_weaker, map_each, parts_3, true_each}
@@ -31,9 +31,11 @@ use Rattle.doc_model.proofs.DocumentParts.{absent_parts, applied, passes_parts, 
 use Rattle.doc_model.proofs.RowsLaws.{each_has}
 use Rattle.doc_model.proofs.SoundLaws.{null_held}
 use Rattle.doc_model.proofs.WholeLaws.{IsGood, IsPlain, good_from}
+use Rattle.doc_readers.specs.Parts.{grid_at}
 use Rattle.user_actions.specs.declared.referrers.Referrer.{Referrer}
 use Rattle.user_actions.specs.References.{info_to, led_to, referrers, renamed_id, type_to}
 use Rattle.user_actions.specs.StepLaws.{action_of}
+use Rattle.user_actions.proofs.SchemaStepLemmas.{plain_grid}
 use Rattle.user_actions.proofs.ReferrerLemmas.{IsReferrer, each_referrer}
 
 -- ---- columns of other infos, one after another
@@ -113,6 +115,11 @@ info_sound new named info h =
     both_true (is_sound_type (type_to new info.ty) && is_short info.formula) (info.is_formula || is_empty info.formula)
     (both_true (is_sound_type (type_to new info.ty)) (is_short info.formula) (type_sound new named info.ty parts.0) parts.1) parts.2
 
+-- the column stands in its table
+pub record IsLed (d : Document) (k : Referrer) : Type 0 where
+  pub plain : IsPlain k.table
+  pub found : find_id column_id k.column.id (grid_at d k.table).columns ≡ Some k.column
+
 -- ---- the columns of a renamed table
 
 module _ (r u : Grid ColDef) (p : List Table) (good : IsGood r u p) (table : List ℕ) (t : Table) (at : IsPlain table × (find_id table_id table p ≡ Some t)) (new : List ℕ) (named : is_name new ≡ true)
@@ -134,7 +141,7 @@ module _ (r u : Grid ColDef) (p : List Table) (good : IsGood r u p) (table : Lis
       ] refl
 
   -- under its id then a table has its columns, rows and cells
-  found_after : (id : List ℕ) (v : Table) → is_metadata_id id ≡ false → find_id table_id id (with_schema r u p) ≡ Some v
+  pub found_after : (id : List ℕ) (v : Table) → is_metadata_id id ≡ false → find_id table_id id (with_schema r u p) ≡ Some v
       → (w : Table) × (schema_table (with_schema r u after) (renamed_id table new id) ≡ Some w) × (w.grid ≡ v.grid)
   found_after id v inside there =
       let plain : IsPlain id × (find_id table_id id p ≡ Some v) = schema_table_parts r u p id v (cond_false (is_metadata_id id) None (find_id table_id id (with_schema r u p)) inside ∙ there) in
@@ -180,6 +187,34 @@ module _ (r u : Grid ColDef) (p : List Table) (good : IsGood r u p) (table : Lis
 
   valid_led : IsWhole (with_schema r u p) → all_valid (with_schema r u after) (map action_of (map (led_to new) (referrers (with_schema r u p) table new true))) ≡ true
   valid_led whole = all_modifies r u after (map (led_to new) (referrers (with_schema r u p) table new true)) (each_led (referrers (with_schema r u p) table new true) (each_referrer (with_schema r u p) whole table new true))
+
+  one_there : (k : Referrer) → IsReferrer (with_schema r u p) table new true k → IsLed (with_schema r u after) k
+  one_there k is =
+      let to = found_after is.id is.table is.inside is.there in
+      record {
+        plain = subst IsPlain (sym is.named) (schema_table_parts r u after (renamed_id table new is.id) to.0 to.1).0;
+        found = ap (λ n. find_id column_id k.column.id (grid_at (with_schema r u after) n).columns) is.named
+            ∙ ap (λ (g : Grid ColDef). find_id column_id k.column.id g.columns) (plain_grid (with_schema r u after) (renamed_id table new is.id) to.0 to.1 ∙ to.2) ∙ is.found;
+      }
+
+  each_there : IsWhole (with_schema r u p) → AllByRecursion (IsLed (with_schema r u after)) (referrers (with_schema r u p) table new true)
+  each_there whole = each_weaker (IsReferrer (with_schema r u p) table new true) (IsLed (with_schema r u after)) one_there (referrers (with_schema r u p) table new true) (each_referrer (with_schema r u p) whole table new true)
+
+-- the columns that refer to a table stand behind its renaming
+pub there-renaming : (s : Document) → IsWhole s → (table new : List ℕ) → is_name new ≡ true → has_id table_id s new ≡ false
+    → valid s (RenameTable table new) ≡ true → AllByRecursion (IsLed (apply s (RenameTable table new))) (referrers s table new true)
+there-renaming s whole table new named fresh v =
+    subst (λ d. IsWhole d → has_id table_id d new ≡ false → valid d (RenameTable table new) ≡ true → AllByRecursion (IsLed (apply d (RenameTable table new))) (referrers d table new true))
+    (sym whole.agrees.schema)
+    (λ w fresh v.
+    let r : Grid ColDef = resources s in
+    let u : Grid ColDef = rules s in
+    let p : List Table = plain_tables s in
+    let d : Document = with_schema r u p in
+    let parts = passes_parts (schema_table d table) (λ _. is_new_table d new) v in
+    subst (λ x. AllByRecursion (IsLed x) (referrers d table new true)) (sym (applied d (RenameTable table new) v))
+    (each_there r u p (good_from s whole) table parts.0 (schema_table_parts r u p table parts.0 parts.1.0) new named fresh w))
+    whole fresh v
 
 -- the columns that refer to a table change behind its renaming
 pub valid-renaming : (s : Document) → IsWhole s → (table new : List ℕ) (test : Table → Bool) → passes (schema_table s table) test ≡ true → is_name new ≡ true → has_id table_id s new ≡ false

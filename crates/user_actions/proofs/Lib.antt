@@ -1,15 +1,16 @@
 pub mod AllowedLemmas
-mod ClearedLemmas
+pub mod ApartLemmas
+pub mod ClearedLemmas
 mod FitLemmas
 mod FreshIdsLemmas
-mod LedLemmas
+pub mod LedLemmas
 mod LoopLemmas
 mod NumberLemmas
 mod ObjectionLemmas
 pub mod RecordStepLemmas
-mod ReferrerLemmas
+pub mod ReferrerLemmas
 mod RetypedLemmas
-mod SchemaStepLemmas
+pub mod SchemaStepLemmas
 pub mod StepsValid
 mod UnopposedLemmas
 mod UpdateLemmas

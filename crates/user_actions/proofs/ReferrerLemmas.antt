@@ -117,7 +117,7 @@ pub each_append : {X : Type 0} (P : X → Type 0) (xs ys : List X) → AllByRecu
 each_append P [] ys h k = k
 each_append P (x ∷ xs) ys h k = (h.0, each_append P xs ys h.1 k)
 
-each_put : (P : Referrer → Type 0) (x : Referrer) (ys : List Referrer) → P x → AllByRecursion P ys → AllByRecursion P (put_referrer x ys)
+pub each_put : (P : Referrer → Type 0) (x : Referrer) (ys : List Referrer) → P x → AllByRecursion P ys → AllByRecursion P (put_referrer x ys)
 each_put P x [] p h = (p, tt)
 each_put P x (y ∷ ys) p h = elim (stands_before x y) as (λ b. AllByRecursion P (cond b (x ∷ y ∷ ys) (y ∷ put_referrer x ys))) [ true ↦ (p, h) | false ↦ (h.0, each_put P x ys p h.1) ]
 

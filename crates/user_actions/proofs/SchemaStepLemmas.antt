@@ -55,7 +55,7 @@ passes_weaker o test holds each h =
     let p = passes_parts o test h in
     ap (λ q. passes q holds) p.1.0 ∙ each p.0 p.1.0 p.1.1
 
-plain_grid : (s : Document) (id : List ℕ) (t : Table) → schema_table s id ≡ Some t → grid_at s id ≡ t.grid
+pub plain_grid : (s : Document) (id : List ℕ) (t : Table) → schema_table s id ≡ Some t → grid_at s id ≡ t.grid
 plain_grid s id t h =
     elim (is_metadata_id id) as (λ b. cond b None (find_id table_id id s) ≡ Some t → grid_at s id ≡ t.grid) [
       | true ↦ λ e. absurd (cc)

@@ -99,8 +99,6 @@ fn add_columns<D: DocTables>(
         if is_referrer(old, retypes, column) {
             put(found, referrer_to(id, column)?)?;
         }
-        // Read so that the proof knows it for a row id: no index is greater than the column's row.
-        let _row = column.row;
         index += 1;
     }
     Ok(())

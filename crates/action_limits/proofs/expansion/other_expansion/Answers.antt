@@ -2,7 +2,7 @@ use Rattle.std.proofs.Common.{◌≡◌, ◌∙◌, ap, map, sym, subst, true}
 use Rattle.std.specs.List.{list_all}
 use Rattle.doc_model.specs.Apply.{all_valid, apply_all}
 use Rattle.action_limits.specs.Capped.{all_moved, all_moved_at, is_there, settled}
-use Rattle.action_limits.specs.Left.{IsOneOrQuiet, TellsMaxima}
+use Rattle.action_limits.specs.Left.{AreQuietLater, TellsMaxima}
 use Rattle.user_actions.specs.StepLaws.{action_of}
 use Rattle.user_actions.specs.Steps.{steps_of}
 use Rattle.action_limits.specs.Tallies.{IsExpansion}
@@ -15,7 +15,7 @@ after_steps-sums-requires g c =
     let s = g.D.DocReader.document c.args.tables.now in
     let a = c.args.action.now in
     let made : c.as_slice.result.now ≡ steps_of s a = c.as_slice.ensures ∙ rw c.in-Some.is at c.in_ok-steps.ensures.made in
-    let told : TellsSteps s c.sums_of.result (steps_of s a) = other_told s a c.sums_of.result c.requires.whole c.requires.other (exact_from s c.args.tally c.sums_of.result c.requires.tally c.sums_of.ensures) c.in_ok-steps.ensures.valid in
+    let told : TellsSteps s c.sums_of.result (steps_of s a) = other_told s a c.sums_of.result c.requires.whole c.requires.other c.requires.stays (exact_from s c.args.tally c.sums_of.result c.requires.tally c.sums_of.ensures) c.in_ok-steps.ensures.valid in
     record {
       whole = c.requires.whole;
       there = ap (list_all (is_there s)) made ∙ told.there;
@@ -31,7 +31,7 @@ maxima_after_steps-most-requires g c =
       whole = c.requires.whole;
       within = c.requires.tally.within;
       valid = subst (λ l. all_valid s (map action_of l) ≡ true) (sym made) c.in_ok-steps.ensures.valid;
-      quiet = subst IsOneOrQuiet (sym made) (other_quiet s a c.requires.other);
+      quiet = subst AreQuietLater (sym made) (other_quiet s a c.requires.other c.requires.stays);
     }
 
 pub returns : goal.returns
@@ -39,7 +39,7 @@ returns g c =
     let s = g.D.DocReader.document c.args.tables.now in
     let a = c.args.action.now in
     let made : c.in-Some.steps ≡ steps_of s a = rw c.in-Some.is at c.in_ok-steps.ensures.made in
-    let told : TellsSteps s c.sums_of.result (steps_of s a) = other_told s a c.sums_of.result c.requires.whole c.requires.other (exact_from s c.args.tally c.sums_of.result c.requires.tally c.sums_of.ensures) c.in_ok-steps.ensures.valid in
+    let told : TellsSteps s c.sums_of.result (steps_of s a) = other_told s a c.sums_of.result c.requires.whole c.requires.other c.requires.stays (exact_from s c.args.tally c.sums_of.result c.requires.tally c.sums_of.ensures) c.in_ok-steps.ensures.valid in
     let most : TellsMaxima c.maxima_after_steps-most.result (apply_all s (map action_of (steps_of s a))) = subst (λ l. TellsMaxima c.maxima_after_steps-most.result (apply_all s (map action_of l))) (c.as_slice-2.ensures ∙ made) c.maxima_after_steps-most.ensures in
     subst (IsExpansion s a)
     (sym (c.settled.ensures

@@ -7,7 +7,7 @@ use Rattle.user_actions.proofs.cell_updates.changes.Goals.{in-Some+in_ok-push+in
 
 pub loop-row-preserved : goal.loop-row-preserved
 loop-row-preserved g c = λ f h.
-    let t = grid_at (g.D.DocTables.document c.args.tables.now) c.args.table.now in
+    let t = grid_at (g.D.DocReader.document c.args.tables.now) c.args.table.now in
     let told = c.in_ok-value.ensures f h in
     elim c.match-branch-2.branch [
       | in-Some+in_ok-push+in_ok-push-2 w ↦
@@ -24,6 +24,6 @@ loop-row-preserved g c = λ f h.
 
 pub returns : goal.returns
 returns g c = λ f h.
-    let t = grid_at (g.D.DocTables.document c.args.tables.now) c.args.table.now in
+    let t = grid_at (g.D.DocReader.document c.args.tables.now) c.args.table.now in
     changes_done t c.args.column.now f c.args.rows.now c.loop-row.row-index c.loop-row.changed.items c.loop-row.values.items c.from.result c.from-2.result
     c.loop-row-test.false (c.loop-row.invariant f h) c.from.ensures c.from-2.ensures

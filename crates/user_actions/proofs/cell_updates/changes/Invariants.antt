@@ -9,4 +9,4 @@ use Rattle.user_actions.proofs.cell_updates.changes.Given as goal
 abbrev pub invariant-loop-row : goal.invariant-loop-row
 invariant-loop-row g l =
     (f : CellValue → CellValue) → ((x : CellValue) (y : CellValue) → FnReturnsAt g.F.Fn l.fn.change x (Ok y) → y ≡ f x)
-    → AreChanged (grid_at (g.D.DocTables.document l.tables) l.table) l.column f l.rows l.row-index l.changed.items l.values.items
+    → AreChanged (grid_at (g.D.DocReader.document l.tables) l.table) l.column f l.rows l.row-index l.changed.items l.values.items

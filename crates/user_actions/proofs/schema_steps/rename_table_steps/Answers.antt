@@ -10,7 +10,7 @@ returns-clause-fresh g c = λ _. c.in_ok-new.ensures.fresh
 
 pub returns-clause-made : goal.returns-clause-made
 returns-clause-made g c =
-    let s = g.D.DocTables.document c.args.tables.now in
+    let s = g.D.DocReader.document c.args.tables.now in
     let named : List ℕ → List Step = renaming s c.args.table.now in
     let differs : bytes_eq c.args.table.now c.args.new.now ≡ false = sym (ap (λ t. bytes_eq t c.args.new.now) c.as_str.ensures.value) ∙ sym c.if-eq.ensures in
     c.in_ok-steps.ensures ∙ ap named c.in_ok-new.ensures.made

@@ -249,28 +249,28 @@ module _ (s : Document) (table gone : List ℕ) where
         let there : find_id column_id j.column.id p.now.grid.columns ≡ Some j.column = ap (find_id column_id j.column.id) p.columns ∙ p.column in
         elim (bytes_eq k.table j.table) as (λ b. (b && bytes_eq c j.column.id) ≡ false → find_id table_id j.table (apply d update) ≡ cond b (Some (h p.now)) (Some p.now) → IsPending (apply d update) j) [
           | true ↦ λ other e. record {
-              first = p.first;
-              found_first = p.found_first;
-              now = h p.now;
-              found_now = e;
-              columns = p.columns;
-              rows = p.rows;
-              column = p.column;
-              same = λ r here.
-                  cell-grid_of column_id p.now.grid.columns p.now.grid.rows (λ e r. unwrap_or (given rows (given_column ∷ []) (column_id e) r) (cell column_id p.now.grid (column_id e) r)) j.column r there here
-                  ∙ ap (λ o. unwrap_or o (cell column_id p.now.grid j.column.id r)) (given_other j.column.id r other)
-                  ∙ p.same r here;
-            }
+            first = p.first;
+            found_first = p.found_first;
+            now = h p.now;
+            found_now = e;
+            columns = p.columns;
+            rows = p.rows;
+            column = p.column;
+            same = λ r here.
+                cell-grid_of column_id p.now.grid.columns p.now.grid.rows (λ e r. unwrap_or (given rows (given_column ∷ []) (column_id e) r) (cell column_id p.now.grid (column_id e) r)) j.column r there here
+                ∙ ap (λ o. unwrap_or o (cell column_id p.now.grid j.column.id r)) (given_other j.column.id r other)
+                ∙ p.same r here;
+          }
           | false ↦ λ other e. record {
-              first = p.first;
-              found_first = p.found_first;
-              now = p.now;
-              found_now = e;
-              columns = p.columns;
-              rows = p.rows;
-              column = p.column;
-              same = p.same;
-            }
+            first = p.first;
+            found_first = p.found_first;
+            now = p.now;
+            found_now = e;
+            columns = p.columns;
+            rows = p.rows;
+            column = p.column;
+            same = p.same;
+          }
         ] apart found
 
   if_case : (d : Document) (some : List ℕ) (x : Step) (rest : List Step) → (all_valid d (map action_of (x ∷ rest)) ≡ true → AreAlike s d (x ∷ rest)) → (all_valid d (map action_of rest) ≡ true → AreAlike s d rest)
@@ -321,25 +321,25 @@ module _ (s : Document) (whole : IsWhole s) (table gone : List ℕ) (v : valid s
       ∙ ap (λ b. cond b (Some (h t)) (Some t)) (bytes_symm table k.table) in
       elim (bytes_eq k.table table) as (λ b. bytes_eq k.table table ≡ b → find_id table_id k.table after ≡ cond b (Some (h t)) (Some t) → IsPending s table gone after k) [
         | true ↦ λ e at. record {
-            first = t;
-            found_first = there;
-            now = h t;
-            found_now = at;
-            columns = refl;
-            rows = sym (ap (λ b. cond b (without gone t.grid.rows) t.grid.rows) e);
-            column = is.found;
-            same = λ r here. cell-grid_of column_id t.grid.columns (without gone t.grid.rows) (λ d r. cell column_id t.grid (column_id d) r) k.column r is.found here;
-          }
+          first = t;
+          found_first = there;
+          now = h t;
+          found_now = at;
+          columns = refl;
+          rows = sym (ap (λ b. cond b (without gone t.grid.rows) t.grid.rows) e);
+          column = is.found;
+          same = λ r here. cell-grid_of column_id t.grid.columns (without gone t.grid.rows) (λ d r. cell column_id t.grid (column_id d) r) k.column r is.found here;
+        }
         | false ↦ λ e at. record {
-            first = t;
-            found_first = there;
-            now = t;
-            found_now = at;
-            columns = refl;
-            rows = sym (ap (λ b. cond b (without gone t.grid.rows) t.grid.rows) e);
-            column = is.found;
-            same = λ r here. refl;
-          }
+          first = t;
+          found_first = there;
+          now = t;
+          found_now = at;
+          columns = refl;
+          rows = sym (ap (λ b. cond b (without gone t.grid.rows) t.grid.rows) e);
+          column = is.found;
+          same = λ r here. refl;
+        }
       ] refl found
 
   pending : AllByRecursion (IsPending s table gone after) (referrers s table table false)
@@ -352,6 +352,8 @@ module _ (s : Document) (whole : IsWhole s) (table gone : List ℕ) (v : valid s
 
   pub removal_alike : all_valid after (map action_of (clearings s table gone (referrers s table table false))) ≡ true → AreAlike s s (direct (BulkRemove table gone) ∷ clearings s table gone (referrers s table table false))
   removal_alike w = (
-    refl, refl, record { tables = omega arith; cells = omega arith; weight = omega arith },
+    refl,
+    refl,
+    record { tables = omega arith; cells = omega arith; weight = omega arith },
     clear_alike s table gone after (referrers s table table false) (apart_referrers s whole table false) pending w,
   )

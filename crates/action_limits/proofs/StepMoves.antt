@@ -359,12 +359,14 @@ renaming_same s whole (ModifyColumn table c) renames v = absurd (false≢true re
 pub renaming_told : (s : Document) → IsWhole s → (a : UserAction) → renames_table a ≡ true → all_valid s (map action_of (steps_of s a)) ≡ true → (m e : Counted) → IsExact m s → TellsMaxima e s → TellsSums m (after s a) × TellsMaxima e (after s a)
 renaming_told s whole a renames v m e exact most =
     let same : SameCounts s (after s a) = renaming_same s whole a renames v in
-    let told : TellsSums m s = none_told s m exact in
-    (record {
-      tables = told.tables ∙ ap capped (sym same.sums.tables);
-      cells = told.cells ∙ ap capped (sym same.sums.cells);
-      weight = told.weight ∙ ap capped (sym same.sums.weight);
-    }, maxima_from s (after s a) e same.maxima most)
+    let told : TellsSums m s = none_told s m exact in (
+      record {
+        tables = told.tables ∙ ap capped (sym same.sums.tables);
+        cells = told.cells ∙ ap capped (sym same.sums.cells);
+        weight = told.weight ∙ ap capped (sym same.sums.weight);
+      },
+      maxima_from s (after s a) e same.maxima most,
+    )
 
 pub below_within : (s : Document) → Rattle.action_limits.specs.Tallies.are_within (counts s) ≡ true → IsBelow s 1024 1000000 4294967295
 below_within s h =

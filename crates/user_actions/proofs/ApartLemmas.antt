@@ -59,7 +59,7 @@ map_apart : (n : List ℕ) (cs : List ColDef) → AreDistinct column_id cs → A
 map_apart n [] h = tt
 map_apart n (c ∷ cs) h = (
   each_mapped (λ y. same_key (referrer n c) y ≡ false) (referrer n) cs
-  (each_weaker (λ d. bytes_eq c.id d.id ≡ false) (λ d. same_key (referrer n c) (referrer n d) ≡ false) (λ d e. ap (λ b. bytes_eq n n && b) e ∙ and_false (bytes_eq n n)) cs h.0),
+      (each_weaker (λ d. bytes_eq c.id d.id ≡ false) (λ d. same_key (referrer n c) (referrer n d) ≡ false) (λ d e. ap (λ b. bytes_eq n n && b) e ∙ and_false (bytes_eq n n)) cs h.0),
   map_apart n cs h.1,
 )
 

@@ -62,13 +62,13 @@ cmp_eq x y =
     elim (eqb x y) as (λ b. eqb x y ≡ b → is_eq (nat_cmp x y) ≡ b) [
       | true ↦ λ is. ap is_eq (sym (nat_cmp_is x y Equal (eqb-true x y is)))
       | false ↦ λ isnt. elim (ltb x y) as (λ b. ltb x y ≡ b → is_eq (nat_cmp x y) ≡ false) [
-          | true ↦ λ below. ap is_eq (sym (nat_cmp_is x y Less (ltb-true x y below)))
-          | false ↦ λ past.
-              let le : y ≤ x = ltb-false x y past in
-              let apart : x ≡ y → ⊥ = eqb-false x y isnt in
-              let above : y < x = grind (arith, le, apart) in
-              ap is_eq (sym (nat_cmp_is x y Greater above))
-        ] refl
+        | true ↦ λ below. ap is_eq (sym (nat_cmp_is x y Less (ltb-true x y below)))
+        | false ↦ λ past.
+            let le : y ≤ x = ltb-false x y past in
+            let apart : x ≡ y → ⊥ = eqb-false x y isnt in
+            let above : y < x = grind (arith, le, apart) in
+            ap is_eq (sym (nat_cmp_is x y Greater above))
+      ] refl
     ] refl
 
 seen_or : (e old rest : Bool) → (cond e true old || rest) ≡ (old || (e || rest))

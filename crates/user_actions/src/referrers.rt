@@ -141,14 +141,7 @@ fn add_table<D: DocTables>(
     if is_left_out(retypes, id) {
         return Ok(());
     }
-    add_columns(
-        tables,
-        id,
-        renamed_id(old, new, id),
-        old,
-        retypes,
-        found,
-    )
+    add_columns(tables, id, renamed_id(old, new, id), old, retypes, found)
 }
 
 /// The columns that refer to a table, by ids as they are once it has the new id: those whose types

@@ -53,6 +53,16 @@ TwiceIsOnce =
     (type : ColType) (v : CellValue) → has_sizes v ≡ true → is_exception type v ≡ false
     → fit type (fit type v) ≡ fit type v
 
+-- whether the value is an error
+abbrev pub is_error : CellValue → Bool
+is_error (value.Err e) = true
+is_error _ = false
+
+-- converting makes no error
+abbrev pub NoErrorIsMade : Type 0
+NoErrorIsMade =
+    (type : ColType) (v : CellValue) → is_error v ≡ false → is_error (fit type v) ≡ false
+
 -- the default of a type is a value of the type
 abbrev pub DefaultFits : Type 0
 DefaultFits = (type : ColType) → fit type (default_value type) ≡ default_value type

@@ -1,0 +1,47 @@
+use Rattle.std.proofs.Common.{sym, ◌∙◌, subst}
+use Rattle.recalc.specs.Evaluated.{sheet_of}
+use Rattle.recalc.specs.Kept.{held_at}
+use Rattle.recalc.specs.Stack.{IsOpen}
+use Rattle.recalc.specs.Turn.{IsFound}
+use Rattle.recalc.proofs.Turns.{turn_open, turn_value, turn_circular, turn_push}
+use Rattle.recalc.proofs.SheetLemmas.{is_sheet}
+use Rattle.recalc.proofs.settling.turn.Goals as goal
+
+pub try_cell-requires-clause-opened : goal.try_cell-requires-clause-opened
+try_cell-requires-clause-opened g c =
+    let s = g.D.DocReader.document c.args.tables.now in
+    subst (λ l. IsOpen (sheet_of s) (held_at s l) c.in-Some.top) (sym c.deref.ensures.value)
+    (turn_open (sheet_of s) (is_sheet s) (held_at s c.args.kept.now.items) c.args.stack.now.items c.pop.new.self.items c.in-Some.top c.in-Some.ensures.items c.requires.working)
+
+pub put_value-requires-clause-opened : goal.put_value-requires-clause-opened
+put_value-requires-clause-opened g c =
+    let s = g.D.DocReader.document c.args.tables.now in
+    turn_open (sheet_of s) (is_sheet s) (held_at s c.args.kept.now.items) c.args.stack.now.items c.pop.new.self.items c.in-Some.top c.in-Some.ensures.items c.requires.working
+
+pub put_value-requires-then-is_on-clause-opened : goal.put_value-requires-then-is_on-clause-opened
+put_value-requires-then-is_on-clause-opened g c =
+    let s = g.D.DocReader.document c.args.tables.now in
+    turn_open (sheet_of s) (is_sheet s) (held_at s c.args.kept.now.items) c.args.stack.now.items c.pop.new.self.items c.in-Some.top c.in-Some.ensures.items c.requires.working
+
+pub returns-then-is_on-clause-turn : goal.returns-then-is_on-clause-turn
+returns-then-is_on-clause-turn g c =
+    let s = g.D.DocReader.document c.args.tables.now in
+    let found = subst (λ l. IsFound (sheet_of s) (held_at s l) c.in-Some.top c.in_ok-value.field-0) c.deref.ensures.value c.in_ok-value.ensures in
+    turn_circular (sheet_of s) (is_sheet s) (held_at s c.args.kept.now.items) c.args.stack.now.items c.pop.new.self.items c.in-Some.top c.in-Some.ensures.items c.requires.working
+    c.in-Need.cell (held_at s c.put_value-then-is_on.new.kept.items) (rw c.in-Need.is at found).0 (sym (rw c.deref-in-Need.ensures.value at c.is_on.ensures) ∙ c.if-is_on.true)
+    c.put_value-then-is_on.ensures.put
+
+pub returns-in-Value-clause-turn : goal.returns-in-Value-clause-turn
+returns-in-Value-clause-turn g c =
+    let s = g.D.DocReader.document c.args.tables.now in
+    let found = subst (λ l. IsFound (sheet_of s) (held_at s l) c.in-Some.top c.in_ok-value.field-0) c.deref.ensures.value c.in_ok-value.ensures in
+    turn_value (sheet_of s) (is_sheet s) (held_at s c.args.kept.now.items) c.args.stack.now.items c.pop.new.self.items c.in-Some.top c.in-Some.ensures.items c.requires.working
+    c.in-Value.value (held_at s c.put_value.new.kept.items) (rw c.in-Value.is at found) c.put_value.ensures.put
+
+pub returns-in_ok-push-in-Need-2-clause-turn : goal.returns-in_ok-push-in-Need-2-clause-turn
+returns-in_ok-push-in-Need-2-clause-turn g c =
+    let s = g.D.DocReader.document c.args.tables.now in
+    let found = subst (λ l. IsFound (sheet_of s) (held_at s l) c.in-Some.top c.in_ok-value.field-0) c.deref.ensures.value c.in_ok-value.ensures in
+    turn_push (sheet_of s) (is_sheet s) (held_at s c.args.kept.now.items) c.args.stack.now.items c.pop.new.self.items c.in-Some.top c.in-Some.ensures.items c.requires.working
+    c.in-Need.cell c.push.new.self.items c.push-in-Need.new.self.items (rw c.in-Need.is at found).0 (rw c.in-Need.is at found).1
+    (sym (rw c.deref-in-Need.ensures.value at c.is_on.ensures) ∙ c.if-is_on.false) c.in_ok-push-in-Need.ensures.items c.in_ok-push-in-Need-2.ensures.items

@@ -1,0 +1,13 @@
+pub mod Cells
+pub mod Sheet
+pub mod SheetLaws
+pub mod Evaluated
+pub mod InOrder
+pub mod Lost
+pub mod Stack
+pub mod Turn
+pub mod Kept
+pub mod Put
+pub mod Seen
+pub mod WayBack
+pub mod FilledLaws

@@ -1,0 +1,26 @@
+-- A document and what is kept of it, as a formula reads them.
+use Rattle.std.specs.Prelude.{List, Option, Some, None, slice_get}
+use Rattle.cell_types.specs.declared.value.CellValue.{CellValue}
+use Rattle.formula_eval.specs.Reader.{Told, known, no_row, needed}
+use Rattle.recalc.specs.declared.kept.KeptTable.{KeptTable}
+
+pub record Seen (D : Type 0) : Type 0 where
+  pub tables : D
+  pub kept : List KeptTable
+
+abbrev pub told_or_needed : Option CellValue → Told
+told_or_needed (Some v) = known v
+told_or_needed None = needed
+
+abbrev pub told_or_no_row : Option CellValue → Told
+told_or_no_row (Some v) = known v
+told_or_no_row None = no_row
+
+abbrev pub joined : {X : Type 0} → Option (Option X) → Option X
+joined None = None
+joined (Some o) = o
+
+-- the value of a cell of which this is told, where it is there
+abbrev pub value_told : Told → Option CellValue
+value_told (known v) = Some v
+value_told _ = None

@@ -1,0 +1,190 @@
+//! A document with its formula cells evaluated.
+
+ghost use Rattle.std.specs.Prelude.{◌≡◌, ◌↔◌, false, [], Err, None, Some, IfOk, OnOk, OnErr, MatchOption};
+ghost use Rattle.std.specs.Option.{option_copied};
+ghost use Rattle.doc_model.specs.Apply.{apply};
+ghost use Rattle.doc_model.specs.DocumentLaws.{IsWhole};
+ghost use Rattle.doc_model.specs.Readers.{cell_at};
+ghost use Rattle.doc_model.specs.Valid.{valid};
+ghost use Rattle.formula_eval.specs.Asked.{told_of};
+ghost use Rattle.recalc.specs.Evaluated.{filled};
+ghost use Rattle.recalc.specs.Kept.{IsEvaluated};
+ghost use Rattle.recalc.specs.Lost.{lost};
+ghost use Rattle.recalc.specs.Seen.{value_told};
+ghost use Rattle.recalc.specs.WayBack.{IsWayBack};
+ghost use Rattle.recalc.specs.declared.doc.ChangeFault.TheVariants.{Invalid};
+
+use crate::cells::{all_cells, keep_lost};
+use crate::evaluating::evaluate;
+use crate::kept::KeptTable;
+use crate::reading::cell_told;
+use crate::trace::Trace;
+use cell_types::{CellValue, Name};
+use doc_actions::{apply, is_valid};
+use doc_model::{ColDef, DocAction, DocReader, DocTables};
+use formula_eval::Reading;
+use std::alloc::{AllocError, Global};
+use std::marker::Model;
+use std::mem;
+
+/// A document with its evaluated cells. It is seen as its tables.
+#[derive(Drop)]
+pub struct Doc<D: DocTables> {
+    tables: D,
+    kept: Vec<KeptTable>,
+}
+
+impl<D: DocTables> Model for Doc<D> {
+    ghost use Rattle.doc_model.specs.DocumentLaws.{IsWhole};
+    ghost use Rattle.recalc.specs.Kept.{IsEvaluated};
+
+    ghost Value = { D };
+
+    ghost view = { λ d. d.tables };
+
+    ghost invariant = { λ d.
+        IsWhole (D.document d.tables) × IsEvaluated (D.document d.tables) d.kept.items };
+}
+
+/// Why a change was not made.
+#[derive(Clone, Copy)]
+pub enum ChangeFault {
+    /// The action is not valid there.
+    Invalid,
+    /// Memory is wanting; the action is valid.
+    NoMemory,
+}
+
+impl<D: DocTables> Doc<D> {
+    /// Evaluates the cells of a document.
+    ///
+    /// Errors: out of memory.
+    /// Memory: a value for each formula cell, and a stack as deep as the chains of cells.
+    pub fn start(alloc: Global, tables: D) -> Result<Doc<D>, AllocError>
+        requires { IsWhole (D.document tables) }
+        ensures { IfOk result (λ doc. doc ≡ tables) }
+    {
+        let kept = evaluate(alloc, &tables)?;
+        Ok(Doc { tables, kept })
+    }
+
+    /// The tables with their base cells.
+    ///
+    /// Memory: none.
+    pub fn tables(&self) -> &D
+        ensures value { result.now ≡ self.now }
+        ensures whole { IsWhole (D.document self.now) }
+    {
+        &self.tables
+    }
+
+    /// Does a valid action, and evaluates the document after it.
+    ///
+    /// Errors: `Invalid`, exactly where the action is not valid, whatever memory there is; and out
+    /// of memory. The document is then as it was.
+    /// Memory: as to start, and a copy of all cells.
+    pub fn change(&mut self, alloc: Global, action: &DocAction) -> Result<Trace<D>, ChangeFault>
+        ensures ok { OnOk result
+            (D.document self.new ≡ apply (D.document self.old) action.now) }
+        ensures cells { IfOk result (λ trace. trace.cells
+            ≡ lost (D.document self.old) (D.document self.new) action.now) }
+        ensures way { IfOk result
+            (λ trace. IsWayBack D.fits D.undone trace (D.document self.new)) }
+        ensures back { IfOk result
+            (λ trace. D.undone trace.back (D.document self.new) ≡ D.document self.old) }
+        ensures invalid { (result ≡ Err Invalid)
+            ↔ (valid (D.document self.old) action.now ≡ false) }
+        ensures err { OnErr result (D.document self.new ≡ D.document self.old) }
+        ensures whole { IsWhole (D.document self.new) }
+    {
+        if !is_valid(alloc, &self.tables, action) {
+            return Err(ChangeFault::Invalid);
+        }
+        let Ok(mut cells) = all_cells(alloc, self) else {
+            return Err(ChangeFault::NoMemory);
+        };
+        let Ok(back) = apply(alloc, &mut self.tables, action) else {
+            return Err(ChangeFault::NoMemory);
+        };
+        let Ok(fresh) = evaluate(alloc, &self.tables) else {
+            self.tables.take_back(back);
+            return Err(ChangeFault::NoMemory);
+        };
+        let kept = mem::replace(&mut self.kept, fresh);
+        keep_lost(self, action, &mut cells);
+        Ok(Trace { cells, back, kept })
+    }
+
+    /// Evaluates all cells again. They are as they were.
+    ///
+    /// Errors: out of memory.
+    /// Memory: as to start.
+    pub fn refresh_all(&mut self, alloc: Global) -> Result<(), AllocError>
+        ensures { D.document self.new ≡ D.document self.old }
+    {
+        self.kept = evaluate(alloc, &self.tables)?;
+        Ok(())
+    }
+
+    /// Goes back to the document before the change that left the present one.
+    ///
+    /// Memory: none.
+    pub fn go_back(&mut self, trace: Trace<D>)
+        requires { IsWayBack D.fits D.undone trace (D.document self.old) }
+        ensures { D.document self.new ≡ D.undone trace.back (D.document self.old) }
+    {
+        self.tables.take_back(trace.back);
+        self.kept = trace.kept;
+    }
+}
+
+// The value of a cell of which this is told, where it is there.
+fn value_told(told: Reading<'_>) -> Option<&CellValue>
+    ensures { option_copied result ≡ value_told (told_of told.entry) }
+{
+    match told {
+        Reading::Known(value) => Some(value),
+        _ => None,
+    }
+}
+
+// The value of a cell, over the tables and what is kept of them.
+fn value_in<'a, D: DocTables>(
+    tables: &'a D,
+    kept: &'a [KeptTable],
+    table: &Name,
+    column: &Name,
+    row: u32,
+) -> Option<&'a CellValue>
+    requires whole { IsWhole (D.document tables.now) }
+    requires evaluated { IsEvaluated (D.document tables.now) kept.now }
+    ensures { MatchOption result
+        (cell_at (filled (D.document tables.now)) table.now column.now row ≡ None)
+        (λ value. cell_at (filled (D.document tables.now)) table.now column.now row
+        ≡ Some value.now) }
+{
+    value_told(cell_told(tables, kept, table, column, row))
+}
+
+/// The document, with the value of each formula cell in its place.
+impl<D: DocTables> DocReader for Doc<D> {
+    ghost use Rattle.recalc.specs.Evaluated.{filled};
+
+    ghost document = { λ d. filled (D.document d) };
+
+    fn table(&self, index: usize) -> Option<&Name> {
+        self.tables.table(index)
+    }
+
+    fn column(&self, table: &Name, index: usize) -> Option<&ColDef> {
+        self.tables.column(table, index)
+    }
+
+    fn rows(&self, table: &Name) -> Option<&[u32]> {
+        self.tables.rows(table)
+    }
+
+    fn cell(&self, table: &Name, column: &Name, row: u32) -> Option<&CellValue> {
+        value_in(&self.tables, &self.kept, table, column, row)
+    }
+}

@@ -1,0 +1,34 @@
+//! Laws of evaluated cells, each proved as the contract of a function that does nothing.
+
+ghost use Rattle.recalc.specs.FilledLaws.{LaidOutLaw, SamePartsLaw};
+ghost use Rattle.recalc.specs.SheetLaws.{CircularLaw, FuelLaw, SettledLaw, ValueLaw};
+
+/// More fuel changes no value.
+pub fn fuel_law()
+    ensures { FuelLaw }
+{}
+
+/// As much fuel as there are formula cells gives each value that some fuel gives.
+pub fn settled_law()
+    ensures { SettledLaw }
+{}
+
+/// What some fuel gives is the cell's value.
+pub fn value_law()
+    ensures { ValueLaw }
+{}
+
+/// A cell is circular exactly where no fuel gives it a value.
+pub fn circular_law()
+    ensures { CircularLaw }
+{}
+
+/// A whole document with its values in place is laid out as views need it.
+pub fn laid_out_law()
+    ensures { LaidOutLaw }
+{}
+
+/// A document with its values in place has its tables, columns and rows; cells alone differ.
+pub fn same_parts_law()
+    ensures { SamePartsLaw }
+{}

@@ -1,0 +1,30 @@
+//! Evaluated cells: a document over any store, with the values of its formula cells.
+//!
+//! Stands on `cell_types` (values, names and conversion), `doc_model` (documents and actions),
+//! `formula_parse` and `formula_eval` (one attempt at a formula), `doc_readers` (what a store
+//! tells) and `doc_actions` (a valid action done). Not in the program yet.
+//!
+//! Promises: `Doc` holds the evaluated cells of its document, after its start, any change and any
+//! way back, and is read as the document with them in place; a trace has exactly the cells that a
+//! change lost, under the names before it; a change that fails leaves the document as it was, and
+//! the way back takes no memory. laws.rt: more fuel changes no value, as much fuel as there are
+//! formula cells is enough, a cell is circular exactly where no fuel gives it a value, and a whole
+//! document with its values in place is laid out as views need it.
+//! Not promised: speed. A change evaluates the whole document again, and lists all its cells for
+//! the trace. Attempts are not counted.
+//! Read first: specs/Sheet.antt, specs/Evaluated.antt and specs/Lost.antt, then doc.rt.
+#![tactic(auto)]
+
+mod cells;
+mod doc;
+mod evaluating;
+mod kept;
+pub mod laws;
+mod names;
+mod places;
+mod reading;
+mod settling;
+mod trace;
+
+pub use doc::{ChangeFault, Doc};
+pub use trace::Trace;

@@ -1,0 +1,76 @@
+//! Names in the order of their bytes.
+
+ghost use Rattle.std.specs.Prelude.{◌≡◌, IfOk, MatchResult, OnOk, map};
+ghost use Rattle.doc_model.specs.ByIds.{put_by_id};
+ghost use Rattle.doc_model.specs.Column.{column_id};
+ghost use Rattle.doc_model.specs.Document.{table_id};
+ghost use Rattle.doc_readers.specs.Parts.{grid_at};
+ghost use Rattle.recalc.specs.InOrder.{GoesBefore, GoesOver, in_order, itself};
+
+use cell_types::Name;
+use doc_model::DocReader;
+use std::alloc::{AllocError, Global};
+use std::cmp::Ordering;
+
+// The index at which the name stands, or before which it goes.
+fn index_of(names: &[Name], id: &Name) -> Result<usize, usize>
+    ensures { MatchResult result
+        (GoesOver itself id.now names.now) (GoesBefore itself id.now names.now) }
+{
+    for index in 0..names.len() {
+        match id.cmp(&names[index]) {
+            Ordering::Less => return Err(index),
+            Ordering::Equal => return Ok(index),
+            Ordering::Greater => {}
+        }
+    }
+    Err(names.len())
+}
+
+fn put(names: &mut Vec<Name>, name: Name) -> Result<(), AllocError>
+    ensures { OnOk result (names.new.items ≡ put_by_id itself name names.old.items) }
+{
+    match index_of(names, &name) {
+        Ok(index) => names[index] = name,
+        Err(index) => names.insert(index, name)?,
+    }
+    Ok(())
+}
+
+/// The names in order.
+pub(crate) fn sorted(alloc: Global, names: &[Name]) -> Result<Vec<Name>, AllocError>
+    ensures { IfOk result (λ v. v.items ≡ in_order names.now) }
+{
+    let mut sorted = Vec::with_capacity(alloc, names.len())?;
+    for taken in 0..names.len() {
+        put(&mut sorted, names[names.len() - 1 - taken].clone()?)?;
+    }
+    Ok(sorted)
+}
+
+/// The ids of all tables.
+pub(crate) fn table_ids<R: DocReader>(alloc: Global, doc: &R) -> Result<Vec<Name>, AllocError>
+    ensures { IfOk result (λ v. v.items ≡ map table_id (R.document doc.now)) }
+{
+    let mut ids = Vec::new(alloc);
+    while let Some(id) = doc.table(ids.len()) {
+        ids.push(id.clone()?)?;
+    }
+    Ok(ids)
+}
+
+/// The ids of a table's columns.
+pub(crate) fn column_ids<R: DocReader>(
+    alloc: Global,
+    doc: &R,
+    table: &Name,
+) -> Result<Vec<Name>, AllocError>
+    ensures { IfOk result
+        (λ v. v.items ≡ map column_id (grid_at (R.document doc.now) table.now).columns) }
+{
+    let mut ids = Vec::new(alloc);
+    while let Some(column) = doc.column(table, ids.len()) {
+        ids.push(column.id.clone()?)?;
+    }
+    Ok(ids)
+}

@@ -1,0 +1,132 @@
+//! Values found and put by place.
+
+ghost use Rattle.std.specs.Prelude.{◌≡◌, ◌<◌, false, None, Some, length, slice_get, cond, MatchOption};
+ghost use Rattle.std.specs.List.{position};
+ghost use Rattle.std.specs.Option.{option_copied};
+ghost use Rattle.std.specs.Str.{bytes_eq};
+ghost use Rattle.cell_types.specs.declared.cell.CellId.{CellId};
+ghost use Rattle.doc_model.specs.ByIds.{find_id};
+ghost use Rattle.doc_model.specs.DocumentLaws.{IsWhole};
+ghost use Rattle.doc_model.specs.Rows.{IsAscending, has};
+ghost use Rattle.recalc.specs.Evaluated.{sheet_of};
+ghost use Rattle.recalc.specs.Kept.{IsKeptOf, held_at, kept_column_id, kept_table_id};
+ghost use Rattle.recalc.specs.Put.{HasPlace, HasSpot, IsPutInColumn, IsPutInTable, IsPutInTables};
+ghost use Rattle.recalc.specs.Cells.{same_cell};
+ghost use Rattle.recalc.specs.Seen.{joined};
+ghost use Rattle.recalc.specs.Stack.{IsOpen};
+
+use crate::kept::{KeptColumn, KeptTable};
+use cell_types::{CellId, CellValue, Name};
+use doc_model::DocTables;
+use doc_readers::rows_in;
+
+/// The index of a row among rows that ascend.
+pub(crate) fn row_index(rows: &[u32], row: u32) -> Option<usize>
+    requires { IsAscending rows.now }
+    ensures { MatchOption result (has rows.now row ≡ false)
+        (λ index. slice_get rows.now index ≡ Some row) }
+{
+    match rows.binary_search(&row) {
+        Ok(index) => Some(index),
+        Err(_) => None,
+    }
+}
+
+/// What is kept of the table of this id.
+pub(crate) fn find_table<'a>(tables: &'a [KeptTable], id: &Name) -> Option<&'a KeptTable>
+    ensures { option_copied result ≡ find_id kept_table_id id.now tables.now }
+{
+    tables.iter().find(|table| table.id.as_str() == id.as_str())
+}
+
+/// What is kept of the column of this id.
+pub(crate) fn find_column<'a>(columns: &'a [KeptColumn], id: &Name) -> Option<&'a KeptColumn>
+    ensures { option_copied result ≡ find_id kept_column_id id.now columns.now }
+{
+    columns
+        .iter()
+        .find(|column| column.id.as_str() == id.as_str())
+}
+
+/// The value at an index, where it is known.
+pub(crate) fn value_at(values: &[Option<CellValue>], index: usize) -> Option<&CellValue>
+    ensures { option_copied result ≡ joined (slice_get values.now index) }
+{
+    match values.get(index) {
+        Some(Some(value)) => Some(value),
+        _ => None,
+    }
+}
+
+fn table_index(tables: &[KeptTable], id: &Name) -> Option<usize>
+    ensures { result ≡ position (λ k. bytes_eq (kept_table_id k) id.now) tables.now }
+{
+    tables
+        .iter()
+        .position(|table| table.id.as_str() == id.as_str())
+}
+
+fn column_index(columns: &[KeptColumn], id: &Name) -> Option<usize>
+    ensures { result ≡ position (λ k. bytes_eq (kept_column_id k) id.now) columns.now }
+{
+    columns
+        .iter()
+        .position(|column| column.id.as_str() == id.as_str())
+}
+
+fn put_in_column(column: &mut KeptColumn, row: usize, value: CellValue)
+    requires { row < length column.old.values.items }
+    ensures { IsPutInColumn column.old column.new row value }
+{
+    column.values[row] = Some(value);
+}
+
+fn put_in_table(table: &mut KeptTable, column: usize, row: usize, value: CellValue)
+    requires { HasPlace table.old.columns.items column row }
+    ensures { IsPutInTable table.old table.new column row value }
+{
+    put_in_column(&mut table.columns[column], row, value);
+}
+
+fn put_in_tables(
+    tables: &mut Vec<KeptTable>,
+    table: usize,
+    column: usize,
+    row: usize,
+    value: CellValue,
+)
+    requires { HasSpot tables.old.items table column row }
+    ensures { IsPutInTables tables.old.items tables.new.items table column row value }
+{
+    put_in_table(&mut tables[table], column, row, value);
+}
+
+/// Puts the value of a formula cell in its place.
+///
+/// Memory: none.
+pub(crate) fn put_value<D: DocTables>(
+    tables: &D,
+    kept: &mut Vec<KeptTable>,
+    cell: &CellId,
+    value: CellValue,
+)
+    requires whole { IsWhole (D.document tables.now) }
+    requires of_document { IsKeptOf (D.document tables.now) kept.old.items }
+    requires opened { IsOpen (sheet_of (D.document tables.now))
+        (held_at (D.document tables.now) kept.old.items) cell.now }
+    ensures of_document { IsKeptOf (D.document tables.now) kept.new.items }
+    ensures put { (c : CellId) → held_at (D.document tables.now) kept.new.items c
+        ≡ cond (same_cell cell.now c) (Some value)
+        (held_at (D.document tables.now) kept.old.items c) }
+{
+    let Some(table) = table_index(kept, &cell.table) else {
+        unreachable!();
+    };
+    let Some(column) = column_index(&kept[table].columns, &cell.column) else {
+        unreachable!();
+    };
+    let Some(row) = row_index(rows_in(tables, &cell.table), cell.row) else {
+        unreachable!();
+    };
+    put_in_tables(kept, table, column, row, value);
+}

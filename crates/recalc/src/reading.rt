@@ -1,0 +1,137 @@
+//! What a document and the values known of it tell a formula.
+
+ghost use Rattle.std.specs.Prelude.{◌≡◌, true, Some};
+ghost use Rattle.std.specs.Option.{option_copied};
+ghost use Rattle.doc_model.specs.DocumentLaws.{IsWhole};
+ghost use Rattle.doc_model.specs.Readers.{cell_at};
+ghost use Rattle.formula_eval.specs.Asked.{told_of};
+ghost use Rattle.recalc.specs.Cells.{cell_of};
+ghost use Rattle.recalc.specs.Evaluated.{sheet_of};
+ghost use Rattle.recalc.specs.Kept.{IsKeptOf, held_at};
+ghost use Rattle.recalc.specs.Seen.{told_or_needed, told_or_no_row};
+ghost use Rattle.recalc.specs.Sheet.{over};
+
+use crate::kept::KeptTable;
+use crate::places::{find_column, find_table, row_index, value_at};
+use cell_types::{CellValue, ColType, KeyList, Name};
+use doc_model::DocTables;
+use doc_readers::rows_in;
+use formula_eval::{CellReader, CellSource, Matching, Reading, scan};
+use std::alloc::{AllocError, Global};
+use std::marker::Model;
+
+/// A whole document, and what is known of its formula cells.
+#[derive(Drop)]
+pub struct KnownReader<'a, D: DocTables> {
+    pub tables: &'a D,
+    pub kept: &'a [KeptTable],
+}
+
+impl<'a, D: DocTables> Model for KnownReader<'a, D> {
+    ghost use Rattle.doc_model.specs.DocumentLaws.{IsWhole};
+    ghost use Rattle.formula_parse.specs.contracts.tree.Formula as formula;
+    ghost use Rattle.recalc.specs.Kept.{IsKeptOf};
+    ghost use Rattle.recalc.specs.Seen.{Seen};
+    ghost use Rattle.std.specs.Coded.{codes};
+
+    ghost Value = { Seen D };
+
+    ghost coded = { Prim.hlevel (codes, formula.the_row.coded) };
+
+    ghost view = { λ r. record { tables = r.tables.now; kept = r.kept.now } };
+
+    ghost invariant = { λ r.
+        IsWhole (D.document r.tables.now) × IsKeptOf (D.document r.tables.now) r.kept.now };
+}
+
+fn needed_or(value: Option<&CellValue>) -> Reading<'_>
+    ensures { told_of result ≡ told_or_needed (option_copied value.entry) }
+{
+    match value {
+        Some(value) => Reading::Known(value),
+        None => Reading::Need,
+    }
+}
+
+// What is told of a cell of a data column.
+fn base_told<'a, D: DocTables>(tables: &'a D, table: &Name, column: &Name, row: u32) -> Reading<'a>
+    ensures { told_of result
+        ≡ told_or_no_row (cell_at (D.document tables.now) table.now column.now row) }
+{
+    match tables.cell(table, column, row) {
+        Some(value) => Reading::Known(value),
+        None => Reading::NoRow,
+    }
+}
+
+/// What is told of a cell.
+///
+/// Memory: none.
+pub(crate) fn cell_told<'a, D: DocTables>(
+    tables: &'a D,
+    kept: &'a [KeptTable],
+    table: &Name,
+    column: &Name,
+    row: u32,
+) -> Reading<'a>
+    requires whole { IsWhole (D.document tables.now) }
+    requires of_document { IsKeptOf (D.document tables.now) kept.now }
+    ensures { told_of result
+        ≡ (over (sheet_of (D.document tables.now)) (held_at (D.document tables.now) kept.now)).cell
+        (cell_of table.now column.now row) }
+{
+    let Some(found) = find_table(kept, table) else {
+        return Reading::NoTable;
+    };
+    let Some(held) = find_column(&found.columns, column) else {
+        return Reading::NoColumn;
+    };
+    if !held.is_formula {
+        return base_told(tables, table, column, row);
+    }
+    match row_index(rows_in(tables, table), row) {
+        Some(index) => needed_or(value_at(&held.values, index)),
+        None => Reading::NoRow,
+    }
+}
+
+fn column_type<'a, D: DocTables>(tables: &'a D, table: &Name, column: &Name) -> Option<&'a ColType>
+    ensures { option_copied result
+        ≡ (sheet_of (D.document tables.now)).kind table.now column.now }
+{
+    let found = doc_readers::find_column(tables, table, column)?;
+    Some(&found.info.ty)
+}
+
+impl<'a, D: DocTables> CellSource for KnownReader<'a, D> {
+    ghost use Rattle.recalc.specs.Evaluated.{sheet_of};
+    ghost use Rattle.recalc.specs.Kept.{held_at};
+    ghost use Rattle.recalc.specs.Sheet.{over};
+
+    ghost told = { λ r.
+        over (sheet_of (D.document r.tables)) (held_at (D.document r.tables) r.kept) };
+
+    fn ty(&self, table: &Name, column: &Name) -> Option<&ColType> {
+        column_type(self.tables, table, column)
+    }
+
+    fn rows(&self, table: &Name) -> Option<&[u32]> {
+        self.tables.rows(table)
+    }
+
+    fn cell(&self, table: &Name, column: &Name, row: u32) -> Reading<'_> {
+        cell_told(self.tables, self.kept, table, column, row)
+    }
+}
+
+/// Lookups look at every row of their table.
+impl<'a, D: DocTables> CellReader for KnownReader<'a, D> {
+    fn matching(
+        &self,
+        alloc: Global,
+        table: &Name,
+        keys: &KeyList,
+    ) -> Result<Matching, AllocError> {
+        scan(alloc, self, table, keys)
+    }
+}

@@ -1,0 +1,207 @@
+//! One cell evaluated, with a stack in memory.
+
+ghost use Rattle.std.specs.Prelude.{◌≡◌, ◌<◌, ◌++◌, ◌∷◌, [], true, IfOk, OnOk, vec_len};
+ghost use Rattle.std.specs.Option.{is_some, option_copied};
+ghost use Rattle.doc_model.specs.DocumentLaws.{IsWhole};
+ghost use Rattle.recalc.specs.Evaluated.{sheet_of};
+ghost use Rattle.formula_eval.specs.Attempted.{IsAttempt};
+ghost use Rattle.formula_eval.specs.Eval.{evaluated};
+ghost use Rattle.formula_eval.specs.OfText.{evaluated_some};
+ghost use Rattle.recalc.specs.Kept.{IsFurther, IsKeptOf, IsSettled, held_at, tree_at};
+ghost use Rattle.recalc.specs.Sheet.{row_of};
+ghost use Rattle.recalc.specs.Cells.{same_cell};
+ghost use Rattle.recalc.specs.Stack.{IsOpen, IsWorking, on};
+ghost use Rattle.recalc.specs.Turn.{Follows, IsFound, IsTurn};
+
+use crate::kept::KeptTable;
+use crate::places::{self, find_table, put_value};
+use crate::reading::KnownReader;
+use cell_types::{CellId, CellValue, ColType, ErrKind, RowRef, convert};
+use doc_model::DocTables;
+use doc_readers::find_column;
+use formula_eval::{Attempt, CellReader, NoteList, Steps, attempt};
+use formula_parse::Formula;
+use std::alloc::{AllocError, Global};
+use std::marker::Brand;
+use std::sync::ledger::{Blank, Ledger};
+
+/// What is found of a cell: its value, or a cell that is needed first.
+#[derive(Drop)]
+pub enum Next {
+    Value(CellValue),
+    Need(CellId),
+}
+
+fn is_same(left: &CellId, right: &CellId) -> bool
+    ensures { result ≡ same_cell left.now right.now }
+{
+    left.table.as_str() == right.table.as_str()
+        && left.column.as_str() == right.column.as_str()
+        && left.row == right.row
+}
+
+fn holds(stack: &[CellId], cell: &CellId) -> bool
+    ensures { result ≡ on stack.now cell.now }
+{
+    stack.iter().any(|held| is_same(held, cell))
+}
+
+fn is_on(stack: &[CellId], top: &CellId, cell: &CellId) -> bool
+    ensures { result ≡ on (stack.now ++ top.now ∷ []) cell.now }
+{
+    holds(stack, cell) || is_same(top, cell)
+}
+
+fn next_of(alloc: Global, ty: &ColType, attempted: Attempt) -> Result<Next, AllocError>
+    ensures { IfOk result (λ n. Follows n ty.now attempted) }
+{
+    match attempted {
+        Attempt::Value { value, .. } => Ok(Next::Value(convert(alloc, ty, &value)?)),
+        Attempt::Need(cell) => Ok(Next::Need(cell)),
+    }
+}
+
+// The formula that is kept for a cell's column.
+fn tree_at<'a>(kept: &'a [KeptTable], cell: &CellId) -> Option<&'a Formula>
+    ensures { option_copied result ≡ tree_at kept.now cell.now }
+{
+    let found = find_table(kept, &cell.table)?;
+    let held = places::find_column(&found.columns, &cell.column)?;
+    held.tree.as_ref()
+}
+
+// One attempt at a formula, in a count of its own.
+fn attempt_once<R: CellReader, L: Ledger>(
+    alloc: Global,
+    formula: &Formula,
+    at: &RowRef,
+    reader: &R,
+    blank: Blank,
+) -> Result<Attempt, AllocError>
+    requires name { blank.name ≡ L.name }
+    requires parts { blank.parts ≡ L.parts }
+    requires some { 0 < L.parts }
+    ensures { IfOk result
+        (λ a. IsAttempt a (evaluated (R.told reader.now) at.now formula.now)) }
+{
+    let mut steps = Steps::<L>::new(blank);
+    attempt(alloc, formula, at, reader, &mut steps)
+}
+
+// One attempt at a formula; without one the value is a syntax error.
+fn attempt_tree<R: CellReader>(
+    alloc: Global,
+    tree: Option<&Formula>,
+    at: &RowRef,
+    reader: &R,
+) -> Result<Attempt, AllocError>
+    ensures { IfOk result
+        (λ a. IsAttempt a (evaluated_some (R.told reader.now) at.now (option_copied tree.entry))) }
+{
+    let Some(formula) = tree else {
+        return Ok(Attempt::Value {
+            value: CellValue::Err(ErrKind::Syntax),
+            notes: NoteList::new(alloc),
+        });
+    };
+    attempt_once::<R, Brand>(alloc, formula, at, reader, Blank::new(1))
+}
+
+// One attempt at the formula of a cell.
+fn attempt_cell<R: CellReader>(
+    alloc: Global,
+    tree: Option<&Formula>,
+    cell: &CellId,
+    reader: &R,
+) -> Result<Attempt, AllocError>
+    ensures { IfOk result
+        (λ a. IsAttempt a (evaluated_some (R.told reader.now) (row_of cell.now)
+        (option_copied tree.entry))) }
+{
+    let table = cell.table.clone()?;
+    let at = RowRef {
+        table,
+        row: cell.row,
+    };
+    attempt_tree(alloc, tree, &at, reader)
+}
+
+fn try_cell<D: DocTables>(
+    alloc: Global,
+    tables: &D,
+    kept: &[KeptTable],
+    cell: &CellId,
+) -> Result<Next, AllocError>
+    requires whole { IsWhole (D.document tables.now) }
+    requires settled { IsSettled (D.document tables.now) kept.now }
+    requires opened { IsOpen (sheet_of (D.document tables.now))
+        (held_at (D.document tables.now) kept.now) cell.now }
+    ensures { IfOk result (IsFound (sheet_of (D.document tables.now))
+        (held_at (D.document tables.now) kept.now) cell.now) }
+{
+    let Some(column) = find_column(tables, &cell.table, &cell.column) else {
+        unreachable!();
+    };
+    let reader = KnownReader { tables, kept };
+    let attempted = attempt_cell(alloc, tree_at(kept, cell), cell, &reader)?;
+    Ok(next_of(alloc, &column.info.ty, attempted)?)
+}
+
+fn turn<D: DocTables>(
+    alloc: Global,
+    tables: &D,
+    kept: &mut Vec<KeptTable>,
+    stack: &mut Vec<CellId>,
+) -> Result<(), AllocError>
+    requires whole { IsWhole (D.document tables.now) }
+    requires of_document { IsKeptOf (D.document tables.now) kept.old.items }
+    requires working { IsWorking (sheet_of (D.document tables.now))
+        (held_at (D.document tables.now) kept.old.items) stack.old.items }
+    requires some { 0 < vec_len stack.old }
+    ensures of_document { OnOk result (IsKeptOf (D.document tables.now) kept.new.items) }
+    ensures turn { OnOk result (IsTurn (sheet_of (D.document tables.now))
+        (held_at (D.document tables.now) kept.old.items) stack.old.items
+        (held_at (D.document tables.now) kept.new.items) stack.new.items) }
+{
+    let Some(top) = stack.pop() else {
+        unreachable!();
+    };
+    match try_cell(alloc, tables, kept, &top)? {
+        Next::Value(value) => put_value(tables, kept, &top, value),
+        Next::Need(cell) => {
+            if is_on(&*stack, &top, &cell) {
+                put_value(tables, kept, &top, CellValue::Err(ErrKind::Circular));
+                return Ok(());
+            }
+            stack.push(top)?;
+            stack.push(cell)?;
+        }
+    }
+    Ok(())
+}
+
+/// Evaluates one cell whose value is not known.
+///
+/// Memory: a stack as deep as the chain of cells that it needs.
+pub(crate) fn settle<D: DocTables>(
+    alloc: Global,
+    tables: &D,
+    kept: &mut Vec<KeptTable>,
+    cell: CellId,
+) -> Result<(), AllocError>
+    requires whole { IsWhole (D.document tables.now) }
+    requires settled { IsSettled (D.document tables.now) kept.old.items }
+    requires opened { IsOpen (sheet_of (D.document tables.now))
+        (held_at (D.document tables.now) kept.old.items) cell }
+    ensures further { OnOk result
+        (IsFurther (D.document tables.now) kept.old.items kept.new.items) }
+    ensures known { OnOk result
+        (is_some (held_at (D.document tables.now) kept.new.items cell) ≡ true) }
+{
+    let mut stack = Vec::new(alloc);
+    stack.push(cell)?;
+    'settling: while !stack.is_empty() {
+        turn(alloc, tables, kept, &mut stack)?;
+    }
+    Ok(())
+}

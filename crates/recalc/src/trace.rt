@@ -1,0 +1,40 @@
+//! What a change did.
+
+ghost use Rattle.std.specs.Prelude.{◌≡◌};
+
+use crate::kept::KeptTable;
+use cell_types::CellOld;
+use doc_model::DocTables;
+use std::marker::Model;
+
+/// The cells that a change lost, and the way back.
+#[derive(Drop)]
+pub struct Trace<D: DocTables> {
+    pub(crate) cells: Vec<CellOld>,
+    pub(crate) back: D::Back,
+    pub(crate) kept: Vec<KeptTable>,
+}
+
+impl<D: DocTables> Model for Trace<D> {
+    ghost use Rattle.formula_parse.specs.contracts.tree.Formula as formula;
+    ghost use Rattle.recalc.specs.WayBack.{Changed};
+    ghost use Rattle.std.specs.Coded.{codes};
+
+    ghost Value = { Changed D.Back };
+
+    ghost coded = { Prim.hlevel (codes, formula.the_row.coded) };
+
+    ghost view = { λ t. record { cells = t.cells.items; back = t.back; kept = t.kept.items } };
+}
+
+impl<D: DocTables> Trace<D> {
+    /// The cells that hold something else after the change or are gone, with what they held, by
+    /// table, column and row, under the names before the change.
+    ///
+    /// Memory: none.
+    pub fn cells(&self) -> &[CellOld]
+        ensures { result.now ≡ self.now.cells }
+    {
+        self.cells.as_slice()
+    }
+}

@@ -1,14 +1,12 @@
 -- What of a document its inverses are made of.
-use Rattle.std.specs.Prelude.{ℕ, List, [], ◌∷◌, Option, Some, None}
+use Rattle.std.specs.Prelude.{ℕ, List, [], ◌∷◌, Option}
 use Rattle.std.specs.Option.{option_map}
-use Rattle.cell_types.specs.declared.value.CellValue.{CellValue}
 use Rattle.doc_model.specs.declared.action.DocAction.{DocAction}
 use Rattle.doc_model.specs.declared.action.DocAction.TheVariants.{BulkUpdate, ModifyColumn}
 use Rattle.doc_model.specs.declared.column.CellColumn.{CellColumn}
 use Rattle.doc_model.specs.declared.column.ColDef.{ColDef}
 use Rattle.doc_model.specs.ByIds.{find_id}
 use Rattle.doc_model.specs.Column.{column_id}
-use Rattle.doc_model.specs.Grid.{Grid, cell}
 use Rattle.doc_model.specs.Document.{Document, table_id, table_row}
 use Rattle.doc_model.specs.Inverse.{made_of, old_columns, data_columns}
 use Rattle.doc_model.specs.Records.{column_of}

@@ -1,12 +1,10 @@
 -- Rows in which two tables agree, and lists of which only some things pass.
 use Rattle.std.proofs.Common.{ℕ, Bool, true, false, cond, ◌&&◌, List, [], ◌∷◌, ◌++◌, map, filter, ◌≡◌, refl, sym, ap, ◌∙◌, Option, Some, None, option_map}
-use Rattle.std.specs.Prelude.{⊤}
 use Rattle.std.specs.List.{AllByRecursion}
 use Rattle.std.specs.Str.{bytes_eq}
 use Rattle.doc_model.specs.ByIds.{find_id}
 use Rattle.doc_model.specs.Changes.{for_each}
-use Rattle.doc_model.specs.Grid.{Grid, cell}
-use Rattle.doc_model.specs.Rows.{has}
+use Rattle.doc_model.specs.Grid.{Grid}
 use Rattle.doc_model.proofs.Choices.{keep}
 use Rattle.doc_model.specs.SameRows.{Both, SameRow}
 

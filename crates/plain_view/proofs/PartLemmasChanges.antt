@@ -5,7 +5,7 @@ use Rattle.doc_model.specs.declared.view.ViewAction.{ViewAction}
 use Rattle.doc_model.specs.declared.view.ViewAction.TheVariants.{RemoveTable}
 use Rattle.doc_model.specs.ByIds.{has_id}
 use Rattle.doc_model.specs.Changes.{shown_table_id, grid, IsView, on_table, introduced, revised, for_each, changes}
-use Rattle.doc_model.specs.ViewEdits.{shown_id, IsShown}
+use Rattle.doc_model.specs.ViewEdits.{IsShown}
 use Rattle.doc_model.proofs.Choices.{not_true, map-map, each_weaker, each_passed}
 use Rattle.doc_model.proofs.ByIdsLaws.{found_id, found_all, has_id-find, has_found, find_absent, find-filter, AreDistinct-IsByIds, each_found}
 use Rattle.doc_model.proofs.ChangesLaws.{named, edits_of, revised-renewed}

@@ -3,6 +3,7 @@ pub mod ApartLemmas
 pub mod ClearedLemmas
 mod FitLemmas
 mod FreshIdsLemmas
+mod InfoLemmas
 pub mod LedLemmas
 mod LoopLemmas
 mod NumberLemmas

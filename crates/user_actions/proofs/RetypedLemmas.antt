@@ -39,37 +39,21 @@ use Rattle.doc_model.proofs.TimesLaws.{once_ascending}
 use Rattle.doc_model.proofs.WholeLaws.{IsGood, IsPlain, good_from}
 use Rattle.doc_readers.specs.Parts.{grid_at}
 use Rattle.user_actions.specs.Allowed.{is_allowed}
-use Rattle.user_actions.specs.Infos.{is_plain, named, type_or}
+use Rattle.user_actions.specs.Infos.{is_plain, type_or}
 use Rattle.user_actions.specs.StepLaws.{action_of}
 use Rattle.user_actions.specs.Marked.{direct, indirect}
 use Rattle.user_actions.specs.CellUpdates.{column_changed, rows_changed}
 use Rattle.user_actions.specs.Steps.{info_said, retyped, modified}
+use Rattle.user_actions.proofs.InfoLemmas.{said_sound}
 use Rattle.user_actions.proofs.ClearedLemmas.{valid_update}
 
 -- ---- what a column is said to be is sound
-
-named_sound : (text name : List ℕ) (ty : ColType) (next : Option ColType) (other : ColType) → is_sound_type ty ≡ true → is_sound_type (unwrap_or next other) ≡ true → is_sound_type (unwrap_or (named text name ty next) other) ≡ true
-named_sound text name ty next other this rest =
-    elim (bytes_eq text name) as (λ b. is_sound_type (unwrap_or (cond b (Some ty) next) other) ≡ true) [ true ↦ this | false ↦ rest ]
-
-type_sound : (other : ColType) → is_sound_type other ≡ true → (given : Option (List ℕ)) → is_sound_type (unwrap_or (type_or other given) other) ≡ true
-type_sound other sound None = sound
-type_sound other sound (Some text) =
-    let date : Option ColType = named text (codes "Date") type.Date None in
-    let bool : Option ColType = named text (codes "Bool") type.Bool date in
-    let int : Option ColType = named text (codes "Int") type.Int bool in
-    let words : Option ColType = named text (codes "Text") type.Text int in
-    named_sound text (codes "Any") type.Any words other refl
-    (named_sound text (codes "Text") type.Text int other refl
-    (named_sound text (codes "Int") type.Int bool other refl
-    (named_sound text (codes "Bool") type.Bool date other refl
-    (named_sound text (codes "Date") type.Date None other refl sound))))
 
 info_sound : (other : ColType) → is_sound_type other ≡ true → (c : UserCol) → is_sound_info (info_said other c) ≡ true
 info_sound other sound c =
     let ty : ColType = unwrap_or (type_or other c.ty) other in
     both_true (is_sound_type ty && is_short []) (false || is_empty [])
-    (both_true (is_sound_type ty) (is_short []) (type_sound other sound c.ty) refl) refl
+    (both_true (is_sound_type ty) (is_short []) (said_sound other sound c.ty) refl) refl
 
 -- ---- a step and, where rows are given, another
 

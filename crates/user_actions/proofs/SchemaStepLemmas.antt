@@ -26,9 +26,10 @@ use Rattle.doc_model.proofs.TableSteps.{free_from, one_free}
 use Rattle.doc_model.proofs.TimesLaws.{once_ascending}
 use Rattle.doc_readers.specs.Parts.{grid_at}
 use Rattle.name_rules.specs.FreeName.{free_name, is_taken}
-use Rattle.user_actions.specs.Infos.{named, type_or}
+use Rattle.user_actions.specs.Infos.{type_or}
 use Rattle.user_actions.specs.StepLaws.{AreFresh}
 use Rattle.user_actions.specs.Steps.{column_ids, column_said, info_said, last_row, new_columns, numbers_after, table_ids, table_said}
+use Rattle.user_actions.proofs.InfoLemmas.{said_sound}
 use Rattle.user_actions.proofs.RecordStepLemmas.{above_from_one, above_none_in, has_greater, numbers_above, numbers_ascend}
 
 -- ---- ids
@@ -90,15 +91,6 @@ valid-rename_column s table column new n h free named =
     (λ t found test. both_true (has_id column_id t.grid.columns column) (is_new_column t.grid n) (and_parts (has_id column_id t.grid.columns column) (is_name new) test).0 (new_in s table n t found free named)) h
 
 -- ---- what is said of columns
-
-named_sound : (text name : List ℕ) (ty other : ColType) (next : Option ColType) → is_sound_type ty ≡ true → is_sound_type (unwrap_or next other) ≡ true → is_sound_type (unwrap_or (named text name ty next) other) ≡ true
-named_sound text name ty other next this rest =
-    elim (bytes_eq text name) as (λ b. is_sound_type (unwrap_or (cond b (Some ty) next) other) ≡ true) [ true ↦ this | false ↦ rest ]
-
-said_sound : (other : ColType) → is_sound_type other ≡ true → (o : Option (List ℕ)) → is_sound_type (unwrap_or (type_or other o) other) ≡ true
-said_sound other h None = h
-said_sound other h (Some text) =
-    named_sound text (codes "Any") type.Any other _ refl (named_sound text (codes "Text") type.Text other _ refl (named_sound text (codes "Int") type.Int other _ refl (named_sound text (codes "Bool") type.Bool other _ refl (named_sound text (codes "Date") type.Date other None refl h))))
 
 pub info_sound : (other : ColType) (c : UserCol) → is_sound_type other ≡ true → is_sound_info (info_said other c) ≡ true
 info_sound other c h = both_true (is_sound_type (unwrap_or (type_or other c.ty) other) && true) true (both_true (is_sound_type (unwrap_or (type_or other c.ty) other)) true (said_sound other h c.ty) refl) refl

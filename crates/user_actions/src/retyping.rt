@@ -102,7 +102,7 @@ fn modify_known<D: DocTables>(
         (λ l. l ≡ retyped table.now (grid_at (D.document tables.now) table.now) known.now
         (info_said known.now.info.ty column.now)) }
 {
-    let ty = type_said(&known.info.ty, column)?;
+    let ty = type_said(alloc, &known.info.ty, column)?;
     retyped(alloc, tables, table, known, &ty, column)
 }
 

@@ -69,11 +69,15 @@ fn new_column_id<D: DocTables>(
 }
 
 /// The type that a data column gets as the user says.
-pub(crate) fn type_said(other: &ColType, column: &UserCol) -> Result<ColType, AllocError>
+pub(crate) fn type_said(
+    alloc: Global,
+    other: &ColType,
+    column: &UserCol,
+) -> Result<ColType, AllocError>
     ensures { IfOk result (λ t. t ≡ (info_said other.now column.now).ty) }
 {
     match &column.ty {
-        Some(text) => match type_of(text.as_str()) {
+        Some(text) => match type_of(alloc, text.as_str())? {
             Some(ty) => Ok(ty),
             None => other.clone(),
         },
@@ -90,7 +94,7 @@ pub(crate) fn info_said(
     ensures { IfOk result (λ i. i ≡ info_said other.now column.now) }
 {
     Ok(ColInfo {
-        ty: type_said(other, column)?,
+        ty: type_said(alloc, other, column)?,
         is_formula: false,
         formula: CellText::empty(alloc),
     })

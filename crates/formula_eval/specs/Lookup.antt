@@ -1,7 +1,6 @@
 -- Lookups: which rows of a table meet the keys.
 use Rattle.std.specs.Prelude.{ℕ, pos, Bool, true, false, ◌&&◌, ◌||◌, cond, is_some, List, [], ◌∷◌, map, Option, Some, None}
 use Rattle.std.specs.List.{list_any, list_all}
-use Rattle.std.specs.Ordering.{int_eq}
 use Rattle.cell_types.specs.declared.cell.KeyItem.{KeyItem}
 use Rattle.cell_types.specs.declared.cell.Read.TheVariants.{Key, Rows}
 use Rattle.cell_types.specs.declared.column_type.ColType.{ColType}
@@ -12,19 +11,15 @@ use Rattle.cell_types.specs.Item.{value_of_item}
 use Rattle.formula_parse.specs.declared.operator.LookupKind.{LookupKind}
 use Rattle.formula_parse.specs.declared.operator.LookupKind.TheVariants as look
 use Rattle.formula_parse.specs.Lexemes.{is_id}
-use Rattle.value_ops.specs.Equality.{is_equal}
+use Rattle.value_ops.specs.Equality.{is_equal, is_row_of}
 use Rattle.formula_eval.specs.declared.note.Note.{Note}
 use Rattle.formula_eval.specs.declared.note.Note.TheVariants as note
 use Rattle.formula_eval.specs.Reader.{Told, known, Reader, cell_at}
 use Rattle.formula_eval.specs.Run.{Out, gives, raises, stops, Run, done, after, seq, collect, both}
 use Rattle.formula_eval.specs.Reading.{told_out, as_read}
 
--- a record is found by the number of its row too
-abbrev pub is_row_of : CellValue → CellValue → Bool
-is_row_of (value.Rec r) (value.Int n) = int_eq n (pos r.row)
-is_row_of w v = false
-
--- whether what a cell holds agrees with the value that is looked up
+-- whether what a cell holds agrees with the value that is looked up: a record is found by the
+-- number of its row too
 abbrev pub agrees : CellValue → CellValue → Bool
 agrees w v = is_equal v w || is_row_of w v
 

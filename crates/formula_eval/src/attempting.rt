@@ -22,7 +22,8 @@ pub const MAX_RESULT_ITEMS: usize = 10_000;
 ///
 /// Errors: want of memory. What a formula raises is its value, an error.
 /// Memory: the value, a note for each read and each lookup, and what is made on the way.
-/// Cost: linear in the formula and in the rows and items that it works on, beside the reader's calls.
+/// Cost: linear in the formula and in the rows and items that it works on, beside the reader's
+/// calls.
 /// Source: docs/FORMULAS.md, "Values".
 pub fn attempt<R: CellReader, L: Ledger>(
     alloc: Global,

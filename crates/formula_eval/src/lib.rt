@@ -1,8 +1,7 @@
 //! The value of a formula, over a reader of the cells around it.
 //!
 //! Stands on `cell_types` (values, cells, reads), `doc_model` (rows that ascend), `formula_parse`
-//! (trees) and `value_ops` (operators). Used by no crate yet; it is for whatever keeps evaluated
-//! cells.
+//! (trees) and `value_ops` (operators). Used by `recalc`, which keeps evaluated cells.
 //!
 //! Promises: `attempt` gives the value that specs/Eval.antt says for a formula in a row, with all
 //! that was read on the way, or a cell that is needed first, in one counted step. Beside the reads

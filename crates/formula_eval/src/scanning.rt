@@ -4,7 +4,8 @@ ghost use Rattle.std.specs.Prelude.{◌≡◌, ◌&&◌, ◌∷◌, ℕ, Bool, L
 ghost use Rattle.std.specs.List.{list_all, list_any};
 ghost use Rattle.cell_types.specs.Item.{value_of_item};
 ghost use Rattle.formula_eval.specs.Asked.{IsMatching};
-ghost use Rattle.formula_eval.specs.Lookup.{agrees, holds, is_key_column, is_row_of, kept_row, key_met, matched, meets, row_met, scan, told_meets, value_meets};
+ghost use Rattle.value_ops.specs.Equality.{is_row_of};
+ghost use Rattle.formula_eval.specs.Lookup.{agrees, holds, is_key_column, kept_row, key_met, matched, meets, row_met, scan, told_meets, value_meets};
 ghost use Rattle.formula_eval.specs.Reader.{known};
 ghost use Rattle.formula_eval.specs.Run.{Out, both, gives};
 ghost use Rattle.formula_eval.specs.Scanned.{IsMet, IsScanned};

@@ -1,9 +1,8 @@
 -- Buckets: numbers that equal values share.
 use Rattle.std.specs.Prelude.{ℕ, ◌+◌, ◌*◌, ◌%◌, ℤ, pos, negsuc, Bool, true, false, ◌||◌, List, [], ◌∷◌, length, ◌≡◌}
-use Rattle.std.specs.Ordering.{int_eq}
 use Rattle.cell_types.specs.declared.value.CellValue.{CellValue}
 use Rattle.cell_types.specs.declared.value.CellValue.TheVariants as value
-use Rattle.value_ops.specs.Equality.{is_equal}
+use Rattle.value_ops.specs.Equality.{is_equal, is_row_of}
 
 -- the bucket of a number
 abbrev pub number_bucket : ℤ → ℕ
@@ -30,11 +29,6 @@ bucket_of (value.RecSet s) = length s.rows
 bucket_of (value.List items) = length items
 bucket_of (value.Err e) = 0
 bucket_of value.Censored = 0
-
--- a record is found by the number of its row too
-abbrev pub is_row_of : CellValue → CellValue → Bool
-is_row_of (value.Rec r) (value.Int n) = int_eq n (pos r.row)
-is_row_of left right = false
 
 -- values that are equal, and a record and the number of its row, have one bucket
 abbrev pub BucketLaw : Type 0

@@ -19,3 +19,5 @@ pub mod WholeLemmas
 pub mod Progress
 pub mod FilledCells
 pub mod FilledLaws
+pub mod WatchedCells
+pub mod OutsideRows

@@ -11,3 +11,5 @@ pub mod Put
 pub mod Seen
 pub mod WayBack
 pub mod FilledLaws
+pub mod Watched
+pub mod Outside

@@ -1,6 +1,6 @@
 //! A document with its formula cells evaluated.
 
-ghost use Rattle.std.specs.Prelude.{◌≡◌, ◌↔◌, false, [], Err, None, Some, IfOk, OnOk, OnErr, MatchOption};
+ghost use Rattle.std.specs.Prelude.{true, ◌≡◌, ◌↔◌, false, [], Err, None, Some, IfOk, OnOk, OnErr, MatchOption};
 ghost use Rattle.std.specs.Option.{option_copied};
 ghost use Rattle.doc_model.specs.Apply.{apply};
 ghost use Rattle.doc_model.specs.DocumentLaws.{IsWhole};
@@ -20,7 +20,8 @@ use crate::kept::KeptTable;
 use crate::reading::cell_told;
 use crate::trace::Trace;
 use cell_types::{CellValue, Name};
-use doc_actions::{apply, is_valid};
+use doc_actions::is_valid;
+use doc_model::laws::kept_law;
 use doc_model::{ColDef, DocAction, DocReader, DocTables};
 use formula_eval::Reading;
 use std::alloc::{AllocError, Global};
@@ -78,6 +79,35 @@ impl<D: DocTables> Doc<D> {
         &self.tables
     }
 
+    /// Does an action that is valid, and evaluates the document after it.
+    ///
+    /// Errors: out of memory; the document is then as it was.
+    /// Memory: as to start, and a copy of all cells.
+    pub fn put(&mut self, alloc: Global, action: &DocAction) -> Result<Trace<D>, AllocError>
+        requires { valid (D.document self.old) action.now ≡ true }
+        ensures ok { OnOk result
+            (D.document self.new ≡ apply (D.document self.old) action.now) }
+        ensures cells { IfOk result (λ trace. trace.cells
+            ≡ lost (D.document self.old) (D.document self.new) action.now) }
+        ensures way { IfOk result
+            (λ trace. IsWayBack D.fits D.undone trace (D.document self.new)) }
+        ensures back { IfOk result
+            (λ trace. D.undone trace.back (D.document self.new) ≡ D.document self.old) }
+        ensures err { OnErr result (D.document self.new ≡ D.document self.old) }
+        ensures whole { IsWhole (D.document self.new) }
+    {
+        kept_law();
+        let mut cells = all_cells(alloc, self)?;
+        let back = self.tables.put(action)?;
+        let Ok(fresh) = evaluate(alloc, &self.tables) else {
+            self.tables.take_back(back);
+            return Err(AllocError);
+        };
+        let kept = mem::replace(&mut self.kept, fresh);
+        keep_lost(self, action, &mut cells);
+        Ok(Trace { cells, back, kept })
+    }
+
     /// Does a valid action, and evaluates the document after it.
     ///
     /// Errors: `Invalid`, exactly where the action is not valid, whatever memory there is; and out
@@ -100,19 +130,10 @@ impl<D: DocTables> Doc<D> {
         if !is_valid(alloc, &self.tables, action) {
             return Err(ChangeFault::Invalid);
         }
-        let Ok(mut cells) = all_cells(alloc, self) else {
-            return Err(ChangeFault::NoMemory);
-        };
-        let Ok(back) = apply(alloc, &mut self.tables, action) else {
-            return Err(ChangeFault::NoMemory);
-        };
-        let Ok(fresh) = evaluate(alloc, &self.tables) else {
-            self.tables.take_back(back);
-            return Err(ChangeFault::NoMemory);
-        };
-        let kept = mem::replace(&mut self.kept, fresh);
-        keep_lost(self, action, &mut cells);
-        Ok(Trace { cells, back, kept })
+        match self.put(alloc, action) {
+            Ok(trace) => Ok(trace),
+            Err(_) => Err(ChangeFault::NoMemory),
+        }
     }
 
     /// Evaluates all cells again. They are as they were.

@@ -1,7 +1,9 @@
 //! Laws of evaluated cells, each proved as the contract of a function that does nothing.
 
 ghost use Rattle.recalc.specs.FilledLaws.{LaidOutLaw, SamePartsLaw};
+ghost use Rattle.recalc.specs.Outside.{OutsideLaw};
 ghost use Rattle.recalc.specs.SheetLaws.{CircularLaw, FuelLaw, SettledLaw, ValueLaw};
+ghost use Rattle.recalc.specs.Watched.{WatchedLaw};
 
 /// More fuel changes no value.
 pub fn fuel_law()
@@ -31,4 +33,15 @@ pub fn laid_out_law()
 /// A document with its values in place has its tables, columns and rows; cells alone differ.
 pub fn same_parts_law()
     ensures { SamePartsLaw }
+{}
+
+/// What an action loses stands in formula columns or in rows that it touches.
+pub fn watched_law()
+    ensures { WatchedLaw }
+{}
+
+/// An action leaves each row of the evaluated document that it does not name, and in which it loses
+/// no cell.
+pub fn outside_law()
+    ensures { OutsideLaw }
 {}

@@ -1,5 +1,5 @@
 -- Equality of values, as `==` sees it.
-use Rattle.std.specs.Prelude.{◌≡◌, ℤ, Bool, true, false, ◌&&◌, ◌==◌, Option, Some, None, bytes_eq}
+use Rattle.std.specs.Prelude.{◌≡◌, ℤ, pos, Bool, true, false, ◌&&◌, ◌==◌, Option, Some, None, bytes_eq}
 use Rattle.std.specs.Ordering.{int_eq}
 use Rattle.std.specs.Cmp.Lexicographic.{pointwise}
 use Rattle.cell_types.specs.declared.value.CellItem.{CellItem}
@@ -41,6 +41,11 @@ is_equal_item i j = is_equal_but_lists (value_of_item i) (value_of_item j)
 abbrev pub is_equal : CellValue → CellValue → Bool
 is_equal (value.List is) (value.List js) = pointwise is_equal_item is js
 is_equal left right = is_equal_but_lists left right
+
+-- a record and the number of its row
+abbrev pub is_row_of : CellValue → CellValue → Bool
+is_row_of (value.Rec r) (value.Int n) = int_eq n (pos r.row)
+is_row_of left right = false
 
 -- which of two values stands left makes no difference
 abbrev pub EqualityLaw : Type 0

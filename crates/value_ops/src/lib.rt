@@ -1,7 +1,6 @@
 //! The operators of formulas on values: arithmetic, joining, comparison, membership and truth.
 //!
-//! Stands on `cell_types` (values). For whatever evaluates formulas, or compares values as they do;
-//! no crate uses it yet.
+//! Stands on `cell_types` (values). Used by what evaluates formulas, or compares values as they do.
 //!
 //! Promises: each operator gives exactly what its table in specs/ says for every two values, and
 //! every error of that table where it stands there. Only `add` takes memory, for what it joins;

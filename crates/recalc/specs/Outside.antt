@@ -30,4 +30,5 @@ OutsideLaw =
     (s : Document) (a : DocAction) → IsWhole s → valid s a ≡ true
     → (t : List ℕ) (r : ℕ) → is_schema_id t ≡ false → (names_table a t && is_about a r) ≡ false
     → is_row_among (lost s (apply s a) a) t r ≡ false
-    → Both (AreSameTables r) (find_id table_id t (filled s)) (find_id table_id t (filled (apply s a)))
+    → Both (AreSameTables r) (find_id table_id t (filled s))
+    (find_id table_id t (filled (apply s a)))

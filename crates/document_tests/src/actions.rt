@@ -1,17 +1,18 @@
 //! Document actions that tests do, and the plain words for them.
 
 use Change::{
-    Add, AddColumn, AddTable, AddWideTable, ModifyColumn, Remove, RemoveColumn, RemoveTable,
-    RenameColumn, RenameTable, Update,
+    Add, AddColumn, AddTable, AddWideTable, Define, ModifyColumn, Remove, RemoveColumn,
+    RemoveTable, RenameColumn, RenameTable, Update, UpdateList,
 };
-use cell_types::{CellText, CellValue, ColType, Name, RowList, ValueList};
+use cell_types::{CellItem, CellList, CellText, CellValue, ColType, Name, RowList, ValueList};
 use doc_model::{CellColumn, ColDef, ColDefList, ColInfo, ColumnList, DocAction};
 use std::alloc::{AllocError, Global};
 
 /// An action: the table first, then rows, the id of a column, and what it gives. Records have whole
 /// numbers in one column; a new table has columns `X` and `Y` of the last two rows, `Y` given
-/// first; a modified column has the formula, or none where that is empty. The wide table has one
-/// column more than a table may have.
+/// first; a modified or defined column has the formula, or none where that is empty. An updated
+/// list of two numbers is the cell of one row. The wide table has one column more than a table may
+/// have.
 pub(crate) enum Change {
     Add(&'static str, [u32; 2], &'static str, [i64; 2]),
     Update(&'static str, [u32; 2], &'static str, [i64; 2]),
@@ -24,6 +25,17 @@ pub(crate) enum Change {
     RemoveColumn(&'static str, &'static str),
     RenameColumn(&'static str, &'static str, &'static str),
     ModifyColumn(&'static str, &'static str, &'static str),
+    Define(&'static str, &'static str, u32, Kind, &'static str),
+    UpdateList(&'static str, u32, &'static str, [i64; 2]),
+}
+
+/// The type of a column.
+#[derive(Clone, Copy)]
+pub(crate) enum Kind {
+    Any,
+    Int,
+    Ref(&'static str),
+    RefList(&'static str),
 }
 
 // The records that an action is about.
@@ -191,6 +203,87 @@ fn rename_table(alloc: Global, table: &str, new: &str) -> Result<DocAction, Allo
     Ok(DocAction::RenameTable { table, new })
 }
 
+fn type_of(alloc: Global, kind: Kind) -> Result<ColType, AllocError> {
+    match kind {
+        Kind::Any => Ok(ColType::Any),
+        Kind::Int => Ok(ColType::Int),
+        Kind::Ref(table) => Ok(ColType::Ref(name(alloc, table)?)),
+        Kind::RefList(table) => Ok(ColType::RefList(name(alloc, table)?)),
+    }
+}
+
+fn info_of(alloc: Global, kind: Kind, formula: &str) -> Result<ColInfo, AllocError> {
+    let text = CellText::copy_of(alloc, formula)?;
+    Ok(ColInfo {
+        ty: type_of(alloc, kind)?,
+        is_formula: !formula.is_empty(),
+        formula: text,
+    })
+}
+
+fn defined(
+    alloc: Global,
+    id: &str,
+    row: u32,
+    kind: Kind,
+    formula: &str,
+) -> Result<ColDef, AllocError> {
+    let info = info_of(alloc, kind, formula)?;
+    let id = name(alloc, id)?;
+    Ok(ColDef { id, info, row })
+}
+
+fn define(
+    alloc: Global,
+    table: &str,
+    id: &str,
+    row: u32,
+    kind: Kind,
+    formula: &str,
+) -> Result<DocAction, AllocError> {
+    let column = defined(alloc, id, row, kind, formula)?;
+    let table = name(alloc, table)?;
+    Ok(DocAction::AddColumn { table, column })
+}
+
+fn list_of(alloc: Global, numbers: [i64; 2]) -> Result<CellList, AllocError> {
+    let mut items = CellList::new(alloc);
+    for number in numbers {
+        items.push(CellItem::Int(number))?;
+    }
+    Ok(items)
+}
+
+fn column_of_list(alloc: Global, id: &str, numbers: [i64; 2]) -> Result<CellColumn, AllocError> {
+    let list = list_of(alloc, numbers)?;
+    let values = ValueList::from(Vec::from_array(alloc, [CellValue::List(list)])?);
+    let id = name(alloc, id)?;
+    Ok(CellColumn { id, values })
+}
+
+fn columns_of_list(alloc: Global, id: &str, numbers: [i64; 2]) -> Result<ColumnList, AllocError> {
+    let mut columns = ColumnList::new(alloc);
+    columns.push(column_of_list(alloc, id, numbers)?)?;
+    Ok(columns)
+}
+
+fn update_list(
+    alloc: Global,
+    table: &str,
+    row: u32,
+    id: &str,
+    numbers: [i64; 2],
+) -> Result<DocAction, AllocError> {
+    let columns = columns_of_list(alloc, id, numbers)?;
+    let rows = RowList::from(Vec::from_array(alloc, [row])?);
+    let table = name(alloc, table)?;
+    Ok(DocAction::BulkUpdate {
+        table,
+        rows,
+        columns,
+    })
+}
+
 fn add_column(alloc: Global, table: &str, id: &str, row: u32) -> Result<DocAction, AllocError> {
     let column = column(alloc, id, row)?;
     let table = name(alloc, table)?;
@@ -221,13 +314,8 @@ fn modify_column(
     id: &str,
     formula: &str,
 ) -> Result<DocAction, AllocError> {
+    let info = info_of(alloc, Kind::Any, formula)?;
     let index = index_of(alloc, table, id)?;
-    let text = CellText::copy_of(alloc, formula)?;
-    let info = ColInfo {
-        ty: ColType::Any,
-        is_formula: !formula.is_empty(),
-        formula: text,
-    };
     Ok(DocAction::ModifyColumn {
         table: index.table,
         column: index.column,
@@ -249,5 +337,7 @@ pub(crate) fn action_of(alloc: Global, change: &Change) -> Result<DocAction, All
         RemoveColumn(table, id) => remove_column(alloc, table, id),
         RenameColumn(table, id, new) => rename_column(alloc, table, id, new),
         ModifyColumn(table, id, formula) => modify_column(alloc, table, id, formula),
+        Define(table, id, row, kind, formula) => define(alloc, table, id, *row, *kind, formula),
+        UpdateList(table, row, id, numbers) => update_list(alloc, table, *row, id, *numbers),
     }
 }

@@ -13,6 +13,8 @@
 #[cfg(test)]
 mod actions;
 #[cfg(test)]
+mod asked;
+#[cfg(test)]
 mod bounds;
 #[cfg(test)]
 mod limit_tests;
@@ -20,6 +22,8 @@ mod limit_tests;
 mod new_documents;
 #[cfg(test)]
 mod reading;
+#[cfg(test)]
+mod reference_tests;
 #[cfg(test)]
 mod tests;
 #[cfg(test)]

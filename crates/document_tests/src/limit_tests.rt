@@ -7,152 +7,21 @@
 //! before it (`one_action_passes_its_limit`). An end is the bound of the limit that would be
 //! passed, 0 for steps; what is refused has none. Out of memory counts as false.
 
-ghost use Rattle.std.specs.Prelude.{◌≡◌, true};
 ghost use Rattle.doc_model.specs.DocumentLaws.{IsWhole};
-ghost use Rattle.doc_model.specs.WellFormed.{has_whole_columns};
-ghost use Rattle.user_actions.specs.Allowed.{is_allowed};
 
 use crate::actions::Change;
+use crate::asked::{Asked, may_be_done, user_action};
 use crate::tests::{Deed, does, single};
 use Asked::{
     AddColumn, AddFullTable, AddRecord, AddTable, RemoveColumn, RemoveRecord, RemoveTable,
     RenameTable,
 };
 use action_limits::{Expansion, Tally, expand};
-use cell_types::CellText;
 use doc_actions::is_valid;
 use doc_model::laws::new_document_law;
-use doc_model::{
-    DocAction, DocActionList, IdList, LimitKind, UserAction, UserCol, UserColList, UserColumnList,
-};
+use doc_model::{DocAction, DocActionList, LimitKind, UserAction};
 use row_tables::RowTables;
 use std::alloc::{AllocError, Global};
-use user_actions::refuse;
-use view_parts::{Viewer, allowed_law, whole_view};
-
-// User actions: of records and columns of `Table1`, where no table is named, a new column `D`, and
-// a new table `New` of no columns or of that one.
-enum Asked {
-    AddRecord,
-    RemoveRecord(i64),
-    AddTable,
-    AddFullTable,
-    AddColumn,
-    RenameTable,
-    RemoveTable(&'static str),
-    RemoveColumn(&'static str, &'static str),
-}
-
-fn text(alloc: Global, said: &str) -> Result<CellText, AllocError> {
-    CellText::copy_of(alloc, said)
-}
-
-fn new_column(alloc: Global) -> Result<UserCol, AllocError> {
-    let id = text(alloc, "D")?;
-    Ok(UserCol {
-        id,
-        ty: None,
-        is_formula: None,
-        formula: None,
-    })
-}
-
-fn add_record(alloc: Global) -> Result<UserAction, AllocError> {
-    let table = text(alloc, "Table1")?;
-    Ok(UserAction::Add {
-        table,
-        single: true,
-        count: 1,
-        has_row_ids: false,
-        columns: UserColumnList::new(alloc),
-    })
-}
-
-fn remove_record(alloc: Global, row: i64) -> Result<UserAction, AllocError> {
-    let rows = IdList::from(Vec::from_array(alloc, [row])?);
-    let table = text(alloc, "Table1")?;
-    Ok(UserAction::Remove {
-        table,
-        single: true,
-        rows,
-    })
-}
-
-fn new_columns(alloc: Global) -> Result<UserColList, AllocError> {
-    let mut columns = UserColList::new(alloc);
-    columns.push(new_column(alloc)?)?;
-    Ok(columns)
-}
-
-fn table_of(alloc: Global, columns: UserColList) -> Result<UserAction, AllocError> {
-    let table = text(alloc, "New")?;
-    Ok(UserAction::AddTable { table, columns })
-}
-
-fn full_table(alloc: Global) -> Result<UserAction, AllocError> {
-    let columns = new_columns(alloc)?;
-    table_of(alloc, columns)
-}
-
-fn add_column(alloc: Global) -> Result<UserAction, AllocError> {
-    let column = new_column(alloc)?;
-    let table = text(alloc, "Table1")?;
-    Ok(UserAction::AddColumn { table, column })
-}
-
-fn rename_table(alloc: Global) -> Result<UserAction, AllocError> {
-    let table = text(alloc, "Table1")?;
-    let new = text(alloc, "Other")?;
-    Ok(UserAction::RenameTable { table, new })
-}
-
-fn remove_table(alloc: Global, table: &str) -> Result<UserAction, AllocError> {
-    let table = text(alloc, table)?;
-    Ok(UserAction::RemoveTable { table })
-}
-
-fn remove_column(alloc: Global, table: &str, id: &str) -> Result<UserAction, AllocError> {
-    let table = text(alloc, table)?;
-    let column = text(alloc, id)?;
-    Ok(UserAction::RemoveColumn { table, column })
-}
-
-fn user_action(alloc: Global, asked: &Asked) -> Result<UserAction, AllocError> {
-    match asked {
-        AddRecord => add_record(alloc),
-        RemoveRecord(row) => remove_record(alloc, *row),
-        AddTable => table_of(alloc, UserColList::new(alloc)),
-        AddFullTable => full_table(alloc),
-        AddColumn => add_column(alloc),
-        RenameTable => rename_table(alloc),
-        RemoveTable(table) => remove_table(alloc, table),
-        RemoveColumn(table, id) => remove_column(alloc, table, id),
-    }
-}
-
-// Whether the action gives no values, so that it gives each column once.
-fn is_bare(action: &UserAction) -> bool
-    ensures { result ≡ true → has_whole_columns action.now ≡ true }
-{
-    match action {
-        UserAction::Add { columns, .. } => columns.is_empty(),
-        UserAction::Update { .. } => false,
-        _ => true,
-    }
-}
-
-// Whether nothing stands against the action.
-#[tactic(auto, using(doc_model::proofs::LaidOutLaws::laid_out))]
-fn is_unrefused(alloc: Global, document: &RowTables, action: &UserAction) -> bool
-    requires { IsWhole document.now }
-    ensures { result ≡ true → is_allowed document.now action.now ≡ true }
-{
-    let Ok(view) = whole_view(alloc, document, Viewer { is_owner: true }) else {
-        return false;
-    };
-    allowed_law();
-    matches!(refuse(alloc, &view, action), Ok(None))
-}
 
 fn is_end(expansion: &Result<Expansion, AllocError>, end: u64) -> bool {
     match expansion {
@@ -165,7 +34,7 @@ fn is_end(expansion: &Result<Expansion, AllocError>, end: u64) -> bool {
 fn ends_at(alloc: Global, document: &RowTables, action: &UserAction, end: u64) -> bool
     requires { IsWhole document.now }
 {
-    if !is_unrefused(alloc, document, action) || !is_bare(action) {
+    if !may_be_done(alloc, document, action) {
         return false;
     }
     let Some(tally) = Tally::of(document) else {
@@ -220,7 +89,7 @@ fn come_to(alloc: Global, before: &Change, rows: &[Row]) -> bool {
 
 // Actions that keep the maxima of a document, or bring more.
 static BRINGING: [Row; 4] = [
-    (RenameTable, 1024),
+    (RenameTable("Table1", "Other"), 1024),
     (AddRecord, 1024),
     (AddTable, 1024),
     (AddColumn, 1024),
@@ -246,7 +115,10 @@ fn takes_away_what_is_above_the_limits(rt: HostRuntime) {
 
 static LAST_RECORD: Change = Change::Add("Table1", [1, 4_294_967_295], "A", [1, 2]);
 
-static RECORDS: [Row; 2] = [(AddRecord, 4_294_967_295), (RemoveRecord(4_294_967_295), 0)];
+static RECORDS: [Row; 2] = [
+    (AddRecord, 4_294_967_295),
+    (RemoveRecord("Table1", 4_294_967_295), 0),
+];
 
 #[test]
 fn no_record_comes_behind_the_last_row(rt: HostRuntime) {

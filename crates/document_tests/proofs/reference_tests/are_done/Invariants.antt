@@ -1,0 +1,6 @@
+use Rattle.doc_model.specs.DocumentLaws.{IsWhole}
+use Rattle.document_tests.proofs.reference_tests.are_done.Given as goal
+
+-- the document stays whole
+abbrev pub invariant-loop-change : goal.invariant-loop-change
+invariant-loop-change l = IsWhole l.document

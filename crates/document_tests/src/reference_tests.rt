@@ -9,7 +9,7 @@ ghost use Rattle.doc_model.specs.DocumentLaws.{IsWhole};
 use crate::actions::{Change, Kind};
 use crate::asked::{Asked, may_be_done, user_action};
 use crate::reading::{is_text, write_value};
-use crate::tests::{Deed, does};
+use crate::tests::are_all_done;
 use Asked::{RemoveRecord, RenameTable};
 use Change::{Add, AddTable, Define, UpdateList};
 use Kind::{Any, Ref, RefList};
@@ -37,18 +37,6 @@ static CELLS: [Change; 2] = [
     UpdateList("Pairs", 1, "Links", [1, 2]),
     UpdateList("Pairs", 2, "Links", [1, 1]),
 ];
-
-fn are_done(alloc: Global, document: &mut RowTables, changes: &[Change]) -> bool
-    requires { IsWhole document.old }
-    ensures { IsWhole document.new }
-{
-    for change in changes {
-        if !does(alloc, document, change, Deed::Done) {
-            return false;
-        }
-    }
-    true
-}
 
 fn write_column(alloc: Global, text: &mut String, column: &CellColumn) -> Result<(), AllocError> {
     write!(text, " {}:", column.id.as_str())?;
@@ -167,8 +155,8 @@ fn leads_to(alloc: Global, asked: &Asked, want: &str) -> bool {
     let Ok(mut document) = RowTables::new_document(alloc) else {
         return false;
     };
-    are_done(alloc, &mut document, &TABLES)
-        && are_done(alloc, &mut document, &CELLS)
+    are_all_done(alloc, &mut document, &TABLES)
+        && are_all_done(alloc, &mut document, &CELLS)
         && made_has_steps(alloc, &document, &user_action(alloc, asked), want)
 }
 

@@ -207,6 +207,19 @@ pub(crate) fn does(alloc: Global, document: &mut RowTables, change: &Change, dee
     is_made(alloc, document, &single(alloc, change), deed)
 }
 
+/// Whether each of these changes was done.
+pub(crate) fn are_all_done(alloc: Global, document: &mut RowTables, changes: &[Change]) -> bool
+    requires { IsWhole document.old }
+    ensures { IsWhole document.new }
+{
+    for change in changes {
+        if !does(alloc, document, change, Done) {
+            return false;
+        }
+    }
+    true
+}
+
 static RECORDS: Change = Add("Table1", [1, 2], "A", [5, 6]);
 
 // How the new document reads with those records.

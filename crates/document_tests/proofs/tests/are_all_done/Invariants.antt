@@ -1,5 +1,5 @@
 use Rattle.doc_model.specs.DocumentLaws.{IsWhole}
-use Rattle.document_tests.proofs.reference_tests.are_done.Given as goal
+use Rattle.document_tests.proofs.tests.are_all_done.Given as goal
 
 -- the document stays whole
 abbrev pub invariant-loop-change : goal.invariant-loop-change

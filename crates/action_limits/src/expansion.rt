@@ -244,8 +244,9 @@ fn schema_expansion<D: DocTables>(
 ///
 /// Errors: out of memory.
 /// Cost: the rows and values that are given; a new type of a column costs all its cells, and a new
-/// id the ids beside it. Where a table was above its bounds before, a walk over all tables and
-/// columns.
+/// id the ids beside it. Where records go or a table is renamed, a walk over all columns, and where
+/// records go over all cells of those that refer to the table. Where a table was above its bounds
+/// before, a walk over all tables and columns.
 /// Source: docs/DEFINITIONS.md, "action_limits".
 pub fn expand<D: DocTables>(
     alloc: Global,

@@ -1,4 +1,4 @@
--- What a user says of a column. Formulas are not built yet.
+-- What a user says of a column. Formulas are not built yet, and references wait for them.
 use Rattle.std.specs.Prelude.{ℕ, Bool, true, false, cond, not, ◌&&◌, nat_eq, List, [], ◌∷◌, Option, Some, None, codes, unwrap_or, is_some}
 use Rattle.std.specs.Option.{option_map}
 use Rattle.std.specs.Str.{bytes_eq}
@@ -46,9 +46,9 @@ abbrev pub type_or : ColType → Option (List ℕ) → Option ColType
 type_or other None = Some other
 type_or other (Some text) = type_of text
 
--- whether a type that is given is one
+-- whether a type that is given is one, but for references
 abbrev pub has_type : UserCol → Bool
-has_type c = is_some (type_or type.Any c.ty)
+has_type c = elim c.ty [ None ↦ true | Some text ↦ is_some (plain_type_of text) ]
 
 -- whether no formula is given, and the column is not said to have one
 abbrev pub has_no_formula : UserCol → Bool

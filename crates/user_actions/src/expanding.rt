@@ -120,7 +120,8 @@ fn makes_rows(action: &UserAction) -> bool
 /// would pass the last row id, though they are valid there too. Limits are not asked here.
 ///
 /// Errors: out of memory. Cost: the rows and values that are given; a new type of a column costs
-/// all its cells, and a new id the ids beside it.
+/// all its cells, and a new id the ids beside it. Where records go or a table is renamed, a walk
+/// over all columns, and where records go over all cells of those that refer to the table.
 /// Source: docs/DEFINITIONS.md, "user_actions".
 pub fn steps<D: DocTables>(
     alloc: Global,

@@ -86,25 +86,11 @@ pub(crate) fn type_of(alloc: Global, text: &str) -> Result<Option<ColType>, Allo
     }
 }
 
-// Whether a text names a type of references.
-fn is_reference_type(text: &str) -> bool
-    ensures { result ≡ is_some (reference_type_of text.now) }
-{
-    name_behind("Ref:", text).is_some() || name_behind("RefList:", text).is_some()
-}
-
-// Whether a text names a type.
-fn is_type(text: &str) -> bool
-    ensures { result ≡ is_some (type_of text.now) }
-{
-    plain_type_of(text).is_some() || is_reference_type(text)
-}
-
 fn has_type(column: &UserCol) -> bool
     ensures { result ≡ has_type column.now }
 {
     match &column.ty {
-        Some(text) => is_type(text.as_str()),
+        Some(text) => plain_type_of(text.as_str()).is_some(),
         None => true,
     }
 }

@@ -12,7 +12,8 @@
 //! is not refused in some view of the document. `steps_law` and `fresh_ids_law` say of the
 //! definitions that steps are valid and new ids free, beside at most 2^60 ids.
 //! Not promised: that memory is found. Formulas and the tables of access rules are refused, since
-//! they are not built; what they would bring has no steps.
+//! they are not built; what they would bring has no steps. Columns of references are refused until
+//! there are formulas; their steps are made.
 //! Read first: specs/Objections.antt and refusing.rt, then specs/Steps.antt and expanding.rt.
 #![tactic(auto)]
 

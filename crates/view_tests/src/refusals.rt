@@ -10,7 +10,7 @@ use std::alloc::{AllocError, Global};
 use user_actions::refuse;
 
 // Actions, and the names of their refusals; empty where there is none.
-static ASKED: [(Asked, &str); 15] = [
+static ASKED: [(Asked, &str); 11] = [
     (Update("_grist_Tables"), "MetaTable"),
     (Update("_grist_ACLRules"), "NoSuchTable"),
     (Update("Nope"), "NoSuchTable"),
@@ -20,11 +20,7 @@ static ASKED: [(Asked, &str); 15] = [
     (AddTable("Work", "A", "Int", ""), ""),
     (AddTable("1x", "A", "Nope", ""), "BadName"),
     (AddTable("Work", "in", "Nope", ""), "BadName"),
-    (AddTable("Work", "A", "Ref:Work", ""), ""),
-    (AddTable("Work", "A", "RefList:Nope", ""), ""),
-    (AddTable("Work", "A", "Ref:", ""), "BadValue"),
-    (AddTable("Work", "A", "RefList:1x", ""), "BadValue"),
-    (AddTable("Work", "A", "Ref:_grist_Tables", ""), "BadValue"),
+    (AddTable("Work", "A", "Ref:Work", ""), "BadValue"),
     (AddTable("Work", "A", "Int", "$A"), "BadValue"),
 ];
 

@@ -17,7 +17,7 @@ use Rattle.formula_eval.specs.Reader.{Told, known, no_table, no_column, no_row, 
 use Rattle.formula_eval.specs.Run.{gives, raises, stops, circular, need}
 use Rattle.formula_eval.specs.Eval.{evaluated}
 
--- Tags of rows 1 to 3, as row R16.2 has them
+-- the tags of rows 1 to 3
 abbrev pub tags : ℕ → Told
 tags r =
     cond (nat_eq r 1) (known (value.List (item.Text (codes "a") ∷ item.Text (codes "b") ∷ [])))

@@ -28,6 +28,8 @@ use Rattle.bundle_core.specs.Created.{created_of}
 use Rattle.bundle_core.specs.declared.judging.BundlePlan.{BundlePlan}
 use Rattle.bundle_core.specs.JudgedBundles.{IsBundlePlan}
 use Rattle.bundle_core.specs.JudgedActions.{IsAt, IsActionPlan, with_all}
+use Rattle.recalc.specs.Evaluated.{filled}
+use Rattle.view_parts.specs.PartLaws.{AreSameOutside}
 use Rattle.bundle_core.specs.View.{view}
 use Rattle.bundle_core.proofs.RollbackLemmas.{nothing_left}
 
@@ -136,13 +138,14 @@ module _ (user : User) (start : Document) (requested : List UserAction) where
     tally_then = let P : Document → Type 0 = λ t. IsTally t tally in subst P next_done h.may.counts
 
     -- the plan of the bundle
-    pub planned : (p : BundlePlan) → length requested ≤ 2000 → length requested ≤ i → p.actions.items ≡ done ++ next → p.created.items ≡ created → p.tally ≡ tally → IsBundlePlan user start requested p
-    planned p few le same ms t =
+    pub planned : (p : BundlePlan) → length requested ≤ 2000 → length requested ≤ i → p.actions.items ≡ done ++ next → p.created.items ≡ created → p.tally ≡ tally → AreSameOutside p.actions.items p.changed.items (filled start) (filled (apply_all start p.actions.items)) → IsBundlePlan user start requested p
+    planned p few le same ms t outside =
         let P : List DocAction → Type 0 = λ l. IsTally (apply_all start l) tally in
         let Q : Tally → Type 0 = λ u. IsTally (apply_all start p.actions.items) u in
         record {
           judged = judge-from user start requested few ∙ judged_all le ∙ ap (λ l. accepted (apply_all start l) created) (sym same) ∙ ap (accepted (apply_all start p.actions.items)) (sym ms);
           may = record { valid = ap (all_valid start) same ∙ next_valid; counts = subst Q (sym t) (subst P (sym same) tally_then) };
+          outside = outside;
         }
 
   module _ (i : ℕ) (s : Document) (done : List DocAction) (created : List Created) (tally : Tally) (a : UserAction) (rest : List UserAction) (h : IsAt user start requested i s done [] created tally) (e : drop i requested ≡ a ∷ rest) where

@@ -4,6 +4,7 @@ pub mod CoreLaws
 pub mod OpenLemmas
 pub mod Keeping
 pub mod CreatedLemmas
+pub mod ChangedLemmas
 pub mod ClosedLemmas
 pub mod Indexes
 pub mod Prepared

@@ -14,17 +14,22 @@ use Rattle.bundle_core.specs.declared.judging.JudgedBundle.TheVariants as judged
 use Rattle.bundle_core.specs.declared.judging.BundlePlan.{BundlePlan}
 use Rattle.bundle_core.specs.Judgement.{judge, accepted, refused}
 use Rattle.bundle_core.specs.View.{view}
+use Rattle.recalc.specs.Evaluated.{filled}
+use Rattle.view_parts.specs.PartLaws.{AreSameOutside}
 
 -- actions that may be done, and the tally of the document after them
 pub record MayBeDone (s : Document) (actions : List DocAction) (tally : Tally) : Type 0 where
   pub valid : all_valid s actions ≡ true
   pub counts : IsTally (apply_all s actions) tally
 
--- the bundle is accepted with what these actions make of the document
+-- the bundle is accepted with what these actions make of the document, which stays the same outside
+-- of what they and the changed cells are about
 pub record IsBundlePlan (user : User) (s : Document) (requested : List UserAction)
     (p : BundlePlan) : Type 0 where
   pub judged : judge user s requested ≡ accepted (apply_all s p.actions.items) p.created.items
   pub may : MayBeDone s p.actions.items p.tally
+  pub outside : AreSameOutside p.actions.items p.changed.items (filled s)
+      (filled (apply_all s p.actions.items))
 
 -- the judgement of a bundle
 abbrev pub IsJudgedBundle : User → Document → List UserAction → JudgedBundle → Type 0

@@ -15,3 +15,4 @@ pub mod ViewChanges
 pub mod Told
 pub mod View
 pub mod Rollback
+pub mod ChangedCells

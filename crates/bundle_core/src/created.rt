@@ -7,7 +7,7 @@ ghost use Rattle.doc_model.specs.Rows.{IsAscending};
 ghost use Rattle.user_actions.specs.Allowed.{is_allowed};
 ghost use Rattle.user_actions.specs.StepLaws.{action_of};
 ghost use Rattle.view_parts.specs.Shown.{view as shown_to};
-ghost use Rattle.bundle_core.specs.View.{view};
+ghost use Rattle.view_parts.specs.Viewers.{viewer_of};
 ghost use Rattle.bundle_core.specs.Created.{is_single, known_rows, created_alone, created_by, created_of, records_created, row_told, told_of};
 
 use cell_types::{Name, RowList};
@@ -192,7 +192,7 @@ pub(crate) fn all_told<D: DocReader>(
 ) -> Result<RetValueList, AllocError>
     requires { IsLaidOut (D.document tables.now) }
     ensures { IfOk result (λ l. l
-        ≡ map (told_of (view user.now (D.document tables.now))) created.now) }
+        ≡ map (told_of (shown_to (viewer_of user.now) (D.document tables.now))) created.now) }
 {
     let viewer = Viewer::of(user);
     let mut told = Vec::with_capacity(alloc, created.len())?;

@@ -18,7 +18,8 @@ ghost use Rattle.bundle_core.specs.Dispatch.{AreSame, Answers, Misses, Finds, ke
 ghost use Rattle.bundle_core.specs.Requests.{refusal_closed, refusal_open};
 ghost use Rattle.bundle_core.specs.SessionState.{SessionState};
 ghost use Rattle.bundle_core.specs.State.{user_of};
-ghost use Rattle.bundle_core.specs.View.{view};
+ghost use Rattle.view_parts.specs.Shown.{view as shown_to};
+ghost use Rattle.view_parts.specs.Viewers.{viewer_of};
 
 use crate::bare_verdict::BareVerdict;
 use crate::bundle::{accept, put_back};
@@ -33,6 +34,7 @@ use doc_model::{
 };
 use grist_json::{Line, write_reply};
 use plain_view::changes;
+use recalc::Doc;
 use std::alloc::{AllocError, Global};
 use view_parts::{Viewer, whole_view};
 
@@ -81,29 +83,29 @@ fn user_of<'a>(users: &'a [User], token: &str) -> Option<&'a User>
 pub(crate) fn answer<D: DocTables>(
     alloc: Global,
     users: &[User],
-    tables: &mut D,
+    doc: &mut Doc<D>,
     tally: &mut Tally,
     sessions: &mut Vec<OpenSession>,
     entry: &Entry,
 ) -> Result<Vec<Line>, AllocError>
-    requires whole { IsWhole (D.document tables.old) }
-    requires tally { IsTally (D.document tables.old) tally.old }
+    requires whole { IsWhole (D.document doc.old) }
+    requires tally { IsTally (D.document doc.old) tally.old }
     requires by_name { IsByIds kept_name sessions.old.items }
     requires stays { is_gone entry.now.request ≡ false }
     requires few { AllByRecursion (λ x. x.made < 2 ^ 62) sessions.old.items }
     requires few_bundles { AllByRecursion (λ x. x.holder.bundles < 2 ^ 62) sessions.old.items }
     requires kept { entry.now.kept ≡ true }
     requires well_formed { asks_well_formed entry.now.request ≡ true }
-    ensures ok { IfOk result (λ v. Answers users.now (D.document tables.old)
-        (D.document tables.new) sessions.old.items sessions.new.items entry.now v.items) }
-    ensures whole { IsWhole (D.document tables.new) }
-    ensures tally { IsTally (D.document tables.new) tally.new }
-    ensures err_document { OnErr result (D.document tables.new ≡ D.document tables.old) }
+    ensures ok { IfOk result (λ v. Answers users.now (D.document doc.old)
+        (D.document doc.new) sessions.old.items sessions.new.items entry.now v.items) }
+    ensures whole { IsWhole (D.document doc.new) }
+    ensures tally { IsTally (D.document doc.new) tally.new }
+    ensures err_document { OnErr result (D.document doc.new ≡ D.document doc.old) }
     ensures err { OnErr result (AreSame sessions.old.items sessions.new.items) }
 {
     match index_of(sessions, &entry.session) {
-        Err(index) => answer_closed(alloc, users, tables, sessions, index, entry),
-        Ok(index) => answer_open(alloc, users, tables, tally, sessions, index, entry),
+        Err(index) => answer_closed(alloc, users, doc, sessions, index, entry),
+        Ok(index) => answer_open(alloc, users, doc, tally, sessions, index, entry),
     }
 }
 
@@ -111,21 +113,21 @@ pub(crate) fn answer<D: DocTables>(
 fn answer_closed<D: DocTables>(
     alloc: Global,
     users: &[User],
-    tables: &D,
+    doc: &Doc<D>,
     sessions: &mut Vec<OpenSession>,
     index: usize,
     entry: &Entry,
 ) -> Result<Vec<Line>, AllocError>
     requires misses { Misses entry.now.session sessions.old.items index }
     requires stays { is_gone entry.now.request ≡ false }
-    requires whole { IsWhole (D.document tables.now) }
-    ensures ok { IfOk result (λ v. Answers users.now (D.document tables.now)
-        (D.document tables.now) sessions.old.items sessions.new.items entry.now v.items) }
+    requires whole { IsWhole (D.document doc.now) }
+    ensures ok { IfOk result (λ v. Answers users.now (D.document doc.now)
+        (D.document doc.now) sessions.old.items sessions.new.items entry.now v.items) }
     ensures err { OnErr result (AreSame sessions.old.items sessions.new.items) }
 {
     match &entry.request {
         Request::Open { token } => {
-            open(alloc, users, tables, sessions, index, entry, token.as_str())
+            open(alloc, users, doc, sessions, index, entry, token.as_str())
         }
         request => reply_alone(alloc, refused(refusal_closed(request))),
     }
@@ -135,7 +137,7 @@ fn answer_closed<D: DocTables>(
 fn open<D: DocTables>(
     alloc: Global,
     users: &[User],
-    tables: &D,
+    doc: &Doc<D>,
     sessions: &mut Vec<OpenSession>,
     index: usize,
     entry: &Entry,
@@ -143,23 +145,23 @@ fn open<D: DocTables>(
 ) -> Result<Vec<Line>, AllocError>
     requires misses { Misses entry.now.session sessions.old.items index }
     requires asks { entry.now.request ≡ Open token.now }
-    requires whole { IsWhole (D.document tables.now) }
-    ensures ok { IfOk result (λ v. Answers users.now (D.document tables.now)
-        (D.document tables.now) sessions.old.items sessions.new.items entry.now v.items) }
+    requires whole { IsWhole (D.document doc.now) }
+    ensures ok { IfOk result (λ v. Answers users.now (D.document doc.now)
+        (D.document doc.now) sessions.old.items sessions.new.items entry.now v.items) }
     ensures err { OnErr result (AreSame sessions.old.items sessions.new.items) }
 {
     match user_of(users, token) {
         None => reply_alone(alloc, refused(Refusal::UnknownToken)),
-        Some(user) => open_for(alloc, users, tables, sessions, index, entry, token, user),
+        Some(user) => open_for(alloc, users, doc, sessions, index, entry, token, user),
     }
 }
 
 // Opens the session for that user, where there is room for one more.
-#[tactic(auto, using(doc_model::proofs::LaidOutLaws::laid_out))]
+#[tactic(auto, using(recalc::proofs::FilledLaws::laid_out_law))]
 fn open_for<D: DocTables>(
     alloc: Global,
     users: &[User],
-    tables: &D,
+    doc: &Doc<D>,
     sessions: &mut Vec<OpenSession>,
     index: usize,
     entry: &Entry,
@@ -169,16 +171,16 @@ fn open_for<D: DocTables>(
     requires misses { Misses entry.now.session sessions.old.items index }
     requires asks { entry.now.request ≡ Open token.now }
     requires known { user_of users.now token.now ≡ Some user.now }
-    requires whole { IsWhole (D.document tables.now) }
-    ensures ok { IfOk result (λ v. Answers users.now (D.document tables.now)
-        (D.document tables.now) sessions.old.items sessions.new.items entry.now v.items) }
+    requires whole { IsWhole (D.document doc.now) }
+    ensures ok { IfOk result (λ v. Answers users.now (D.document doc.now)
+        (D.document doc.now) sessions.old.items sessions.new.items entry.now v.items) }
     ensures err { OnErr result (AreSame sessions.old.items sessions.new.items) }
 {
     if sessions.len() >= MAX_SESSIONS as usize {
         return reply_alone(alloc, too_many());
     }
     sessions.reserve(1)?;
-    let lines = show_all(alloc, tables, user)?;
+    let lines = show_all(alloc, doc, user)?;
     let session = OpenSession::of(alloc, &entry.session, user)?;
     put_back(sessions, index, session);
     Ok(lines)
@@ -188,7 +190,7 @@ fn open_for<D: DocTables>(
 fn show_all<D: DocReader>(alloc: Global, tables: &D, user: &User) -> Result<Vec<Line>, AllocError>
     requires { IsLaidOut (D.document tables.now) }
     ensures { IfOk result (λ v. v.items
-        ≡ reply_text (Verdict.Changes (changes [] (view user.now (D.document tables.now)))) ∷ []) }
+        ≡ reply_text (Verdict.Changes (changes [] (shown_to (viewer_of user.now) (D.document tables.now)))) ∷ []) }
 {
     let nothing = View {
         tables: ViewTableList::new(alloc),
@@ -212,7 +214,7 @@ fn too_many() -> BareVerdict
 fn answer_open<D: DocTables>(
     alloc: Global,
     users: &[User],
-    tables: &mut D,
+    doc: &mut Doc<D>,
     tally: &mut Tally,
     sessions: &mut Vec<OpenSession>,
     index: usize,
@@ -220,17 +222,17 @@ fn answer_open<D: DocTables>(
 ) -> Result<Vec<Line>, AllocError>
     requires finds { Finds entry.now.session sessions.old.items index }
     requires stays { is_gone entry.now.request ≡ false }
-    requires whole { IsWhole (D.document tables.old) }
-    requires tally { IsTally (D.document tables.old) tally.old }
+    requires whole { IsWhole (D.document doc.old) }
+    requires tally { IsTally (D.document doc.old) tally.old }
     requires few { AllByRecursion (λ x. x.made < 2 ^ 62) sessions.old.items }
     requires few_bundles { AllByRecursion (λ x. x.holder.bundles < 2 ^ 62) sessions.old.items }
     requires kept { entry.now.kept ≡ true }
     requires well_formed { asks_well_formed entry.now.request ≡ true }
-    ensures ok { IfOk result (λ v. Answers users.now (D.document tables.old)
-        (D.document tables.new) sessions.old.items sessions.new.items entry.now v.items) }
-    ensures whole { IsWhole (D.document tables.new) }
-    ensures tally { IsTally (D.document tables.new) tally.new }
-    ensures err_document { OnErr result (D.document tables.new ≡ D.document tables.old) }
+    ensures ok { IfOk result (λ v. Answers users.now (D.document doc.old)
+        (D.document doc.new) sessions.old.items sessions.new.items entry.now v.items) }
+    ensures whole { IsWhole (D.document doc.new) }
+    ensures tally { IsTally (D.document doc.new) tally.new }
+    ensures err_document { OnErr result (D.document doc.new ≡ D.document doc.old) }
     ensures err { OnErr result (AreSame sessions.old.items sessions.new.items) }
 {
     if sessions[index].is_lagging() {
@@ -241,7 +243,7 @@ fn answer_open<D: DocTables>(
     }
     match &entry.request {
         Request::Apply { actions } => {
-            answer_bundle(alloc, users, tables, tally, sessions, index, entry, actions)
+            answer_bundle(alloc, users, doc, tally, sessions, index, entry, actions)
         }
         Request::Close => leave(alloc, sessions, index, BareVerdict::Done),
         _ => stay(alloc, sessions, index, BareVerdict::Done),
@@ -253,7 +255,7 @@ fn answer_open<D: DocTables>(
 fn answer_bundle<D: DocTables>(
     alloc: Global,
     users: &[User],
-    tables: &mut D,
+    doc: &mut Doc<D>,
     tally: &mut Tally,
     sessions: &mut Vec<OpenSession>,
     index: usize,
@@ -263,29 +265,29 @@ fn answer_bundle<D: DocTables>(
     requires finds { Finds entry.now.session sessions.old.items index }
     requires quick { (d : SessionState) → (get_or sessions.old.items index d).lagging ≡ false }
     requires asks { entry.now.request ≡ Apply actions.now }
-    requires whole { IsWhole (D.document tables.old) }
-    requires tally { IsTally (D.document tables.old) tally.old }
+    requires whole { IsWhole (D.document doc.old) }
+    requires tally { IsTally (D.document doc.old) tally.old }
     requires few { AllByRecursion (λ x. x.made < 2 ^ 62) sessions.old.items }
     requires few_bundles { AllByRecursion (λ x. x.holder.bundles < 2 ^ 62) sessions.old.items }
     requires kept { entry.now.kept ≡ true }
     requires well_formed { list_all is_well_formed actions.now ≡ true }
-    ensures ok { IfOk result (λ v. Answers users.now (D.document tables.old)
-        (D.document tables.new) sessions.old.items sessions.new.items entry.now v.items) }
-    ensures whole { IsWhole (D.document tables.new) }
-    ensures tally { IsTally (D.document tables.new) tally.new }
-    ensures err_document { OnErr result (D.document tables.new ≡ D.document tables.old) }
+    ensures ok { IfOk result (λ v. Answers users.now (D.document doc.old)
+        (D.document doc.new) sessions.old.items sessions.new.items entry.now v.items) }
+    ensures whole { IsWhole (D.document doc.new) }
+    ensures tally { IsTally (D.document doc.new) tally.new }
+    ensures err_document { OnErr result (D.document doc.new ≡ D.document doc.old) }
     ensures err { OnErr result (AreSame sessions.old.items sessions.new.items) }
 {
     match judge(
         alloc,
-        tables,
+        doc,
         *tally,
         sessions[index].user(),
         actions.as_slice(),
     )? {
         JudgedBundle::Refused(verdict) => stay(alloc, sessions, index, verdict),
         JudgedBundle::Accepted(plan) => {
-            let lines = accept(alloc, tables, sessions, index, &plan)?;
+            let lines = accept(alloc, doc, sessions, index, &plan)?;
             *tally = plan.tally;
             Ok(lines)
         }

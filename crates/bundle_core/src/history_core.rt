@@ -12,8 +12,10 @@ use crate::session::OpenSession;
 use crate::session_index::index_of;
 use action_limits::Tally;
 use cell_types::{Name, Sequence};
+use doc_model::laws::new_document_law;
 use doc_model::{Entry, EntryList, Request, UserList};
 use grist_json::Line;
+use recalc::Doc;
 use row_tables::RowTables;
 use std::alloc::{AllocError, Global};
 use std::marker::Model;
@@ -49,7 +51,7 @@ pub struct Core {
     alloc: Global,
     users: UserList,
     opening: Opening,
-    tables: RowTables,
+    doc: Doc<RowTables>,
     tally: Tally,
     sessions: Vec<OpenSession>,
     entries: Vec<Entry>,
@@ -68,7 +70,7 @@ impl Model for Core {
       history = c.entries.items;
     } };
 
-    ghost invariant = { λ c. IsCore c.users (document_of c.opening) c.entries.items c.tables
+    ghost invariant = { λ c. IsCore c.users (document_of c.opening) c.entries.items c.doc
         c.tally c.sessions.items c.bytes_left
         × (vec_len c.entries + length c.sessions.items ≤ vec_capacity c.entries) };
 }
@@ -84,7 +86,7 @@ impl Core {
             alloc,
             users: UserList::new(alloc),
             opening: Opening::NewDocument,
-            tables: RowTables::new_document(alloc)?,
+            doc: new_doc(alloc)?,
             tally: Tally::of_new_document(),
             sessions: Vec::new(alloc),
             entries: Vec::new(alloc),
@@ -160,7 +162,7 @@ impl Core {
         let lines = answer(
             self.alloc,
             users,
-            &mut self.tables,
+            &mut self.doc,
             &mut self.tally,
             &mut self.sessions,
             &entry,
@@ -190,6 +192,14 @@ impl Core {
     {
         !is_gone(request) && (self.entries.len() >= MAX_ENTRIES || is_past(self.bytes_left, size))
     }
+}
+
+// The new document, in which there is nothing to evaluate.
+fn new_doc(alloc: Global) -> Result<Doc<RowTables>, AllocError>
+    ensures { IfOk result (λ doc. doc ≡ new_document) }
+{
+    new_document_law();
+    Doc::start(alloc, RowTables::new_document(alloc)?)
 }
 
 fn kept_entry(session: &Name, request: Request, size: u32) -> Result<Entry, AllocError>

@@ -13,25 +13,28 @@ ghost use Rattle.bundle_core.specs.Judgement.{judge_from, limited};
 ghost use Rattle.bundle_core.specs.Created.{created_of};
 ghost use Rattle.bundle_core.specs.JudgedBundles.{IsJudgedBundle};
 ghost use Rattle.bundle_core.specs.JudgedActions.{IsJudgedAction};
-ghost use Rattle.bundle_core.specs.Rollback.{AllFit, rolled_back};
+ghost use Rattle.bundle_core.specs.Rollback.{AllLeadBack, gone_back};
 ghost use Rattle.bundle_core.specs.View.{view};
 
 use crate::bare_verdict::BareVerdict;
 use crate::created::{Created, created_of};
-use crate::rollback::{put_all, take_back_all};
+use crate::rollback::{do_all, go_back_all};
 use action_limits::{Expansion, Tally, expand};
 use doc_model::{
     DocAction, DocTables, LimitKind, MAX_ACTIONS, Refusal, StepList, User, UserAction,
 };
+use recalc::laws::{laid_out_law, same_parts_law};
+use recalc::{Doc, Trace};
 use std::alloc::{AllocError, Global};
 use user_actions::refuse;
-use view_parts::{Viewer, allowed_law, requested_law, requested_view};
+use view_parts::{ChangedRows, Viewer, allowed_law, requested_law, requested_view};
 
-/// A bundle that is accepted: its document actions, what its user actions created, and the tally of
-/// the document after it.
+/// A bundle that is accepted: its document actions, the rows in which they changed cells, what its
+/// user actions created, and the tally of the document after it.
 #[derive(Drop)]
 pub(crate) struct BundlePlan {
     pub actions: Vec<DocAction>,
+    pub changed: Vec<ChangedRows>,
     pub created: Vec<Created>,
     pub tally: Tally,
 }
@@ -135,6 +138,8 @@ fn judge_steps<D: DocTables>(
         (D.document tables.now) index action.now r) }
 {
     allowed_law();
+    laid_out_law();
+    same_parts_law();
     match expand(alloc, tables, tally, action)? {
         Expansion::Limit(kind) => Ok(JudgedAction::Refused(limited(kind, index))),
         Expansion::Steps { steps, tally } => {
@@ -145,97 +150,98 @@ fn judge_steps<D: DocTables>(
 }
 
 // What the action at that index of its bundle comes to.
-#[tactic(auto, using(doc_model::proofs::LaidOutLaws::laid_out))]
+#[tactic(auto, using(recalc::proofs::FilledLaws::laid_out_law))]
 fn judge_action<D: DocTables>(
     alloc: Global,
-    tables: &D,
+    doc: &Doc<D>,
     tally: Tally,
     user: &User,
     action: &UserAction,
     index: u32,
 ) -> Result<JudgedAction, AllocError>
-    requires whole { IsWhole (D.document tables.now) }
+    requires whole { IsWhole (D.document doc.now) }
     requires well_formed { is_well_formed action.now ≡ true }
-    requires tally { IsTally (D.document tables.now) tally }
+    requires tally { IsTally (D.document doc.now) tally }
     ensures { IfOk result (λ r. IsJudgedAction user.now
-        (D.document tables.now) index action.now r) }
+        (D.document doc.now) index action.now r) }
 {
-    let view = requested_view(alloc, tables, Viewer::of(user), action)?;
+    let view = requested_view(alloc, doc, Viewer::of(user), action)?;
     requested_law();
     match refuse(alloc, &view, action)? {
         Some(refusal) => Ok(JudgedAction::Refused(refused(refusal, index))),
-        None => judge_steps(alloc, tables, tally, user, action, index),
+        None => judge_steps(alloc, doc.tables(), tally, user, action, index),
     }
 }
 
-// Judges one action after another; those before it are done when an action is judged, and `backs`
-// takes them back.
+// Judges one action after another, each where those before it are done, and does it. The traces
+// lead back.
 fn judge_each<D: DocTables>(
     alloc: Global,
-    tables: &mut D,
+    doc: &mut Doc<D>,
     tally: Tally,
     user: &User,
     requested: &[UserAction],
-    backs: &mut Vec<D::Back>,
+    traces: &mut Vec<Trace<D>>,
 ) -> Result<JudgedBundle, AllocError>
-    requires whole { IsWhole (D.document tables.old) }
-    requires tally { IsTally (D.document tables.old) tally }
+    requires whole { IsWhole (D.document doc.old) }
+    requires tally { IsTally (D.document doc.old) tally }
     requires well_formed { list_all is_well_formed requested.now ≡ true }
     requires few { length requested.now ≤ 2000 }
-    requires first { backs.old.items ≡ [] }
+    requires first { traces.old.items ≡ [] }
     ensures judged { IfOk result (λ j. IsJudgedBundle user.now
-        (D.document tables.old) requested.now j) }
-    ensures fit { AllFit D.undone D.fits backs.new.items (D.document tables.new) }
-    ensures back { rolled_back D.undone D.fits backs.new.items (D.document tables.new)
-        ≡ D.document tables.old }
+        (D.document doc.old) requested.now j) }
+    ensures led { AllLeadBack D.fits D.undone traces.new.items (D.document doc.new) }
+    ensures back { gone_back D.fits D.undone traces.new.items (D.document doc.new)
+        ≡ D.document doc.old }
 {
     let mut tally = tally;
     let mut actions = Vec::new(alloc);
+    let mut changed = Vec::new(alloc);
     let mut created = Vec::new(alloc);
-    let mut next = Vec::new(alloc);
     for index in 0..requested.len() {
-        put_all(tables, &next, backs)?;
-        actions.append(&mut next)?;
-        match judge_action(alloc, tables, tally, user, &requested[index], index as u32)? {
+        match judge_action(alloc, doc, tally, user, &requested[index], index as u32)? {
             JudgedAction::Refused(verdict) => {
-                drop((actions, created, next));
+                drop((actions, changed, created));
                 return Ok(JudgedBundle::Refused(verdict));
             }
             JudgedAction::Accepted(plan) => {
                 created.push(plan.created)?;
-                next = plan.actions;
+                do_all(alloc, doc, &plan.actions, traces, &mut changed)?;
+                let mut next = plan.actions;
+                actions.append(&mut next)?;
                 tally = plan.tally;
             }
         }
     }
-    actions.append(&mut next)?;
     Ok(JudgedBundle::Accepted(BundlePlan {
         actions,
+        changed,
         created,
         tally,
     }))
 }
 
-/// Judges a bundle of the user. The document is as before, whatever the answer.
+/// Judges a bundle of the user: it is done while it is judged, and gone back over without memory.
+/// The document is as before, whatever the answer.
 pub(crate) fn judge<D: DocTables>(
     alloc: Global,
-    tables: &mut D,
+    doc: &mut Doc<D>,
     tally: Tally,
     user: &User,
     requested: &[UserAction],
 ) -> Result<JudgedBundle, AllocError>
-    requires whole { IsWhole (D.document tables.old) }
-    requires tally { IsTally (D.document tables.old) tally }
+    requires whole { IsWhole (D.document doc.old) }
+    requires tally { IsTally (D.document doc.old) tally }
     requires well_formed { list_all is_well_formed requested.now ≡ true }
     ensures judged { IfOk result (λ j. IsJudgedBundle user.now
-        (D.document tables.old) requested.now j) }
-    ensures same { D.document tables.new ≡ D.document tables.old }
+        (D.document doc.old) requested.now j) }
+    ensures same { D.document doc.new ≡ D.document doc.old }
 {
     if requested.len() as u64 > MAX_ACTIONS {
         return Ok(JudgedBundle::Refused(limited(LimitKind::Actions, MAX_ACTIONS as u32)));
     }
-    let mut backs = Vec::new(alloc);
-    let judged = judge_each(alloc, tables, tally, user, requested, &mut backs);
-    take_back_all(tables, backs);
+    let mut traces = Vec::new(alloc);
+    let judged = judge_each(alloc, doc, tally, user, requested, &mut traces);
+    go_back_all(doc, traces);
     judged
 }

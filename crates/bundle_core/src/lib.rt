@@ -19,6 +19,7 @@
 
 mod bare_verdict;
 mod bundle;
+mod changed_rows;
 mod created;
 mod dispatch;
 mod history_core;

@@ -1,44 +1,81 @@
-//! Actions done one after another, and taken back.
+//! Actions done one after another, and gone back over.
 
-ghost use Rattle.std.specs.Prelude.{◌≡◌, true, OnOk};
-ghost use Rattle.doc_model.specs.Apply.{all_valid, apply_all};
-ghost use Rattle.bundle_core.specs.Rollback.{AllFit, rolled_back};
+ghost use Rattle.std.specs.Prelude.{◌≡◌, [], ◌∷◌, true, OnOk};
+ghost use Rattle.doc_model.specs.Apply.{all_valid, apply, apply_all};
+ghost use Rattle.doc_model.specs.Valid.{valid};
+ghost use Rattle.recalc.specs.Evaluated.{filled};
+ghost use Rattle.view_parts.specs.PartLaws.{AreSameOutside};
+ghost use Rattle.bundle_core.specs.ChangedCells.{StayNoted};
+ghost use Rattle.bundle_core.specs.Rollback.{AllLeadBack, gone_back};
 
+use crate::changed_rows::note_rows;
 use doc_model::{DocAction, DocTables};
-use std::alloc::AllocError;
+use recalc::laws::outside_law;
+use recalc::{Doc, Trace};
+use std::alloc::{AllocError, Global};
+use view_parts::ChangedRows;
 
-/// Does valid actions, and notes what takes each back behind what is there. When out of memory,
-/// some of them are done.
-pub(crate) fn put_all<D: DocTables>(
-    tables: &mut D,
-    actions: &[DocAction],
-    backs: &mut Vec<D::Back>,
+// Does a valid action, and notes what leads back behind what is there.
+fn do_one<D: DocTables>(
+    alloc: Global,
+    doc: &mut Doc<D>,
+    action: &DocAction,
+    traces: &mut Vec<Trace<D>>,
+    changed: &mut Vec<ChangedRows>,
 ) -> Result<(), AllocError>
-    requires valid { all_valid (D.document tables.old) actions.now ≡ true }
-    requires fit { AllFit D.undone D.fits backs.old.items (D.document tables.old) }
+    requires valid { valid (D.document doc.old) action.now ≡ true }
+    requires led { AllLeadBack D.fits D.undone traces.old.items (D.document doc.old) }
+    ensures done { OnOk result (D.document doc.new ≡ apply (D.document doc.old) action.now) }
+    ensures led { AllLeadBack D.fits D.undone traces.new.items (D.document doc.new) }
+    ensures back { gone_back D.fits D.undone traces.new.items (D.document doc.new)
+        ≡ gone_back D.fits D.undone traces.old.items (D.document doc.old) }
+    ensures outside { OnOk result (AreSameOutside (action.now ∷ []) changed.new.items
+        (filled (D.document doc.old)) (filled (D.document doc.new))) }
+    ensures stays { OnOk result (StayNoted changed.old.items changed.new.items) }
+{
+    outside_law();
+    traces.reserve(1)?;
+    let trace = doc.put(alloc, action)?;
+    let noted = note_rows(alloc, trace.cells(), changed);
+    traces.push_reserved(trace);
+    noted
+}
+
+/// Does valid actions, and notes behind what is there the traces that lead back, and the rows in
+/// which cells changed. When out of memory, some of them are done.
+pub(crate) fn do_all<D: DocTables>(
+    alloc: Global,
+    doc: &mut Doc<D>,
+    actions: &[DocAction],
+    traces: &mut Vec<Trace<D>>,
+    changed: &mut Vec<ChangedRows>,
+) -> Result<(), AllocError>
+    requires valid { all_valid (D.document doc.old) actions.now ≡ true }
+    requires led { AllLeadBack D.fits D.undone traces.old.items (D.document doc.old) }
     ensures done { OnOk result
-        (D.document tables.new ≡ apply_all (D.document tables.old) actions.now) }
-    ensures fit { AllFit D.undone D.fits backs.new.items (D.document tables.new) }
-    ensures back { rolled_back D.undone D.fits backs.new.items (D.document tables.new)
-        ≡ rolled_back D.undone D.fits backs.old.items (D.document tables.old) }
+        (D.document doc.new ≡ apply_all (D.document doc.old) actions.now) }
+    ensures led { AllLeadBack D.fits D.undone traces.new.items (D.document doc.new) }
+    ensures back { gone_back D.fits D.undone traces.new.items (D.document doc.new)
+        ≡ gone_back D.fits D.undone traces.old.items (D.document doc.old) }
+    ensures outside { OnOk result (AreSameOutside actions.now changed.new.items
+        (filled (D.document doc.old)) (filled (D.document doc.new))) }
+    ensures stays { OnOk result (StayNoted changed.old.items changed.new.items) }
 {
     for action in actions {
-        backs.reserve(1)?;
-        let back = tables.put(action)?;
-        backs.push_reserved(back);
+        do_one(alloc, doc, action, traces, changed)?;
     }
     Ok(())
 }
 
-/// Takes back what was done, the last first.
+/// Goes back over what was done, the last first.
 ///
 /// Memory: none.
-pub(crate) fn take_back_all<D: DocTables>(tables: &mut D, mut backs: Vec<D::Back>)
-    requires { AllFit D.undone D.fits backs.items (D.document tables.old) }
-    ensures { D.document tables.new ≡ rolled_back D.undone D.fits backs.items
-        (D.document tables.old) }
+pub(crate) fn go_back_all<D: DocTables>(doc: &mut Doc<D>, mut traces: Vec<Trace<D>>)
+    requires { AllLeadBack D.fits D.undone traces.items (D.document doc.old) }
+    ensures { D.document doc.new
+        ≡ gone_back D.fits D.undone traces.items (D.document doc.old) }
 {
-    while let Some(back) = backs.pop() {
-        tables.take_back(back);
+    while let Some(trace) = traces.pop() {
+        doc.go_back(trace);
     }
 }

@@ -13,9 +13,9 @@ use doc_model::{DocAction, DocReader, View, ViewAction, ViewActionList};
 use list_ops::all_made;
 use plain_view::changes;
 use std::alloc::{AllocError, Global};
-use view_parts::{Viewer, affected_view};
+use view_parts::{ChangedRows, Viewer, affected_view};
 
-/// What a viewer sees of what actions are about.
+/// What a viewer sees of what actions and changed cells are about.
 #[derive(Drop)]
 pub(crate) struct SeenPart {
     pub viewer: Viewer,
@@ -64,33 +64,36 @@ fn seen_part<D: DocReader>(
     alloc: Global,
     tables: &D,
     actions: &[DocAction],
+    changed: &[ChangedRows],
     viewer: &Viewer,
 ) -> Result<SeenPart, AllocError>
     requires { IsLaidOut (D.document tables.now) }
-    ensures { IfOk result (λ p. p ≡ seen_part actions.now (D.document tables.now) viewer.now) }
+    ensures { IfOk result (λ p. p
+        ≡ seen_part actions.now changed.now (D.document tables.now) viewer.now) }
 {
-    let view = affected_view(alloc, tables, *viewer, actions, &[])?;
+    let view = affected_view(alloc, tables, *viewer, actions, changed)?;
     Ok(SeenPart {
         viewer: *viewer,
         view,
     })
 }
 
-/// What each viewer sees now of what these actions are about.
+/// What each viewer sees now of what these actions and changed cells are about.
 pub(crate) fn see_parts<D: DocReader>(
     alloc: Global,
     tables: &D,
     actions: &[DocAction],
+    changed: &[ChangedRows],
     viewers: &[Viewer],
 ) -> Result<Vec<SeenPart>, AllocError>
     requires { IsLaidOut (D.document tables.now) }
     ensures { IfOk result (λ l. l.items
-        ≡ map (seen_part actions.now (D.document tables.now)) viewers.now) }
+        ≡ map (seen_part actions.now changed.now (D.document tables.now)) viewers.now) }
 {
     let parts = all_made(
         alloc,
         viewers,
-        |viewer| seen_part(alloc, tables, actions, viewer),
+        |viewer| seen_part(alloc, tables, actions, changed, viewer),
     )?;
     Ok(parts)
 }
@@ -99,13 +102,15 @@ fn changes_since<D: DocReader>(
     alloc: Global,
     tables: &D,
     actions: &[DocAction],
+    changed: &[ChangedRows],
     before: &SeenPart,
 ) -> Result<ToldChanges, AllocError>
     requires laid_out { IsLaidOut (D.document tables.now) }
     requires seen { IsSeen before.now }
-    ensures { IfOk result (λ t. t ≡ changes_since actions.now (D.document tables.now) before.now) }
+    ensures { IfOk result (λ t. t
+        ≡ changes_since actions.now changed.now (D.document tables.now) before.now) }
 {
-    let after = affected_view(alloc, tables, before.viewer, actions, &[])?;
+    let after = affected_view(alloc, tables, before.viewer, actions, changed)?;
     Ok(ToldChanges {
         viewer: before.viewer,
         actions: changes(alloc, &before.view, &after)?,
@@ -117,16 +122,17 @@ pub(crate) fn tell_changes<D: DocReader>(
     alloc: Global,
     tables: &D,
     actions: &[DocAction],
+    changed: &[ChangedRows],
     before: &[SeenPart],
 ) -> Result<Vec<ToldChanges>, AllocError>
     requires laid_out { IsLaidOut (D.document tables.now) }
     requires seen { AllByRecursion IsSeen before.now }
     ensures { IfOk result (λ l. l.items
-        ≡ map (changes_since actions.now (D.document tables.now)) before.now) }
+        ≡ map (changes_since actions.now changed.now (D.document tables.now)) before.now) }
 {
     let mut told = Vec::new(alloc);
     for part in before {
-        told.push(changes_since(alloc, tables, actions, part)?)?;
+        told.push(changes_since(alloc, tables, actions, changed, part)?)?;
     }
     Ok(told)
 }

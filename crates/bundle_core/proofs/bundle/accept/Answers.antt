@@ -6,7 +6,7 @@ use Rattle.bundle_core.proofs.bundle.accept.Goals as goal
 
 pub post-requires-clause-may : goal.post-requires-clause-may
 post-requires-clause-may g c =
-    all_may_post (told_changes (g.D.DocReader.document c.args.tables.now) c.args.plan.now.actions.items) c.args.sessions.now.items c.ready_bundle.new.sessions.items c.in-Ok.ensures.same c.requires.few c.in-Ok.ensures.ready
+    all_may_post (told_changes (g.D.DocReader.document c.args.doc.now) c.args.plan.now.actions.items) c.args.sessions.now.items c.ready_bundle.new.sessions.items c.in-Ok.ensures.same c.requires.few c.in-Ok.ensures.ready
 
 pub post-requires-clause-few_bundles : goal.post-requires-clause-few_bundles
 post-requires-clause-few_bundles g c = few_bundles c.args.sessions.now.items c.ready_bundle.new.sessions.items c.in-Ok.ensures.same c.requires.few_bundles

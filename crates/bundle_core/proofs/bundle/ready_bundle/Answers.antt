@@ -19,14 +19,14 @@ use Rattle.bundle_core.proofs.bundle.ready_bundle.Goals as goal
 
 pub reply_to-requires-clause-whole : goal.reply_to-requires-clause-whole
 reply_to-requires-clause-whole g c =
-    let s = g.D.DocReader.document c.args.tables.now in
+    let s = g.D.DocReader.document c.args.doc.now in
     let P : Document → Type 0 = λ t. IsWhole t in
     subst P (sym (c.in_ok-told.ensures.document ∙ ap (apply_all s) c.deref-2.ensures.value)) (IsWhole-apply_all s c.args.plan.now.actions.items c.requires.whole c.requires.valid)
 
 pub returns-clause-reply : goal.returns-clause-reply
 returns-clause-reply g c =
-    let s = g.D.DocReader.document c.args.tables.now in
-    let t = g.D.DocReader.document c.done_and_told.new.tables in
+    let s = g.D.DocReader.document c.args.doc.now in
+    let t = g.D.DocReader.document c.done_and_told.new.doc in
     let after : t ≡ apply_all s c.args.plan.now.actions.items = c.in_ok-told.ensures.document ∙ ap (apply_all s) c.deref-2.ensures.value in
     let x = c.index.result.now in
     c.in_ok-reply.ensures
@@ -37,7 +37,7 @@ returns-clause-reply g c =
 
 pub returns-clause-ready : goal.returns-clause-ready
 returns-clause-ready g c =
-    let s = g.D.DocReader.document c.args.tables.now in
+    let s = g.D.DocReader.document c.args.doc.now in
     let Q : List SessionState → Type 0 = λ xs. AllByRecursion (λ x. is_among c.in_ok-viewers.viewers.items (viewer_of x.holder.user) ≡ true) xs in
     let T : List ToldChanges → Type 0 = λ l. AllByRecursion (IsReady (told_by l)) c.ready_all.new.sessions.items in
     ready_as (told_by c.in_ok-told.told.items) (told_changes s c.args.plan.now.actions.items) c.in_ok-viewers.viewers.items c.args.sessions.now.items c.ready_all.new.sessions.items

@@ -13,7 +13,7 @@ use Rattle.bundle_core.proofs.dispatch.answer_bundle.Goals as goal
 
 pub returns-in-Refused-clause-ok : goal.returns-in-Refused-clause-ok
 returns-in-Refused-clause-ok g c =
-    let s = g.D.DocReader.document c.args.tables.now in
+    let s = g.D.DocReader.document c.args.doc.now in
     let xs = c.args.sessions.now.items in
     let d = c.index.result.now in
     let v = c.in-Refused.verdict in
@@ -28,7 +28,7 @@ returns-in-Refused-clause-ok g c =
 
 pub returns-in_ok-lines-in-Accepted-clause-ok : goal.returns-in_ok-lines-in-Accepted-clause-ok
 returns-in_ok-lines-in-Accepted-clause-ok g c =
-    let s = g.D.DocReader.document c.args.tables.now in
+    let s = g.D.DocReader.document c.args.doc.now in
     let xs = c.args.sessions.now.items in
     let ys = c.accept.new.sessions.items in
     let d = c.index.result.now in
@@ -47,7 +47,7 @@ returns-in_ok-lines-in-Accepted-clause-ok g c =
 
 pub returns-in_ok-lines-in-Accepted-clause-whole : goal.returns-in_ok-lines-in-Accepted-clause-whole
 returns-in_ok-lines-in-Accepted-clause-whole g c =
-    let s = g.D.DocReader.document c.args.tables.now in
+    let s = g.D.DocReader.document c.args.doc.now in
     let p = c.in-Accepted.plan in
     let plan : IsBundlePlan c.user.result.now s c.as_slice.result.now p = rw c.in-Accepted.is at c.in_ok-verdict.ensures.judged in
     let P : Document → Type 0 = λ t. IsWhole t in

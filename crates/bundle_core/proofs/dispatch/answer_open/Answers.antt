@@ -10,7 +10,7 @@ use Rattle.bundle_core.proofs.dispatch.answer_open.Goals as goal
 
 pub returns-then-is_lagging : goal.returns-then-is_lagging
 returns-then-is_lagging g c =
-    let s = g.D.DocReader.document c.args.tables.now in
+    let s = g.D.DocReader.document c.args.doc.now in
     let xs = c.args.sessions.now.items in
     let e = c.args.entry.now in
     let d = c.index.result.now in
@@ -27,7 +27,7 @@ returns-then-is_lagging g c =
 
 pub returns-in-Some : goal.returns-in-Some
 returns-in-Some g c =
-    let s = g.D.DocReader.document c.args.tables.now in
+    let s = g.D.DocReader.document c.args.doc.now in
     let xs = c.args.sessions.now.items in
     let e = c.args.entry.now in
     let d = c.index.result.now in
@@ -45,7 +45,7 @@ returns-in-Some g c =
 
 pub returns-in_default-request : goal.returns-in_default-request
 returns-in_default-request g c =
-    let s = g.D.DocReader.document c.args.tables.now in
+    let s = g.D.DocReader.document c.args.doc.now in
     let xs = c.args.sessions.now.items in
     let e = c.args.entry.now in
     let d = c.index.result.now in
@@ -63,7 +63,7 @@ returns-in_default-request g c =
 
 pub returns-in-Close : goal.returns-in-Close
 returns-in-Close g c =
-    let s = g.D.DocReader.document c.args.tables.now in
+    let s = g.D.DocReader.document c.args.doc.now in
     let xs = c.args.sessions.now.items in
     let e = c.args.entry.now in
     let d = c.index.result.now in

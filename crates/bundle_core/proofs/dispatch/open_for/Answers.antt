@@ -18,13 +18,13 @@ pub returns-then-len-clause-ok : goal.returns-then-len-clause-ok
 returns-then-len-clause-ok g c =
     let full : nat_le session_bound (length c.args.sessions.now.items) ≡ true = le-leb _ _ (omega (arith, c.len.ensures, c.if-len.true)) in
     IfOk-weaker c.reply_alone.result _ _ (λ v p. answers_by _ _ _ _ _ _ _ _ (p ∙ ap (λ x. reply_of x ∷ []) c.too_many.ensures)
-    (miss_full c.args.users.now (g.D.DocReader.document c.args.tables.now) c.args.sessions.now.items c.args.index c.args.entry.now c.requires.misses c.args.token.now c.args.user.now c.requires.asks c.requires.known full)) c.reply_alone.ensures
+    (miss_full c.args.users.now (g.D.DocReader.document c.args.doc.now) c.args.sessions.now.items c.args.index c.args.entry.now c.requires.misses c.args.token.now c.args.user.now c.requires.asks c.requires.known full)) c.reply_alone.ensures
 
 pub returns-clause-ok : goal.returns-clause-ok
 returns-clause-ok g c =
     let free : nat_le session_bound (length c.args.sessions.now.items) ≡ false = lt-leb _ _ (omega (arith, c.len.ensures, c.if-len.false)) in
     let xs = c.args.sessions.now.items in
-    let s = g.D.DocReader.document c.args.tables.now in
+    let s = g.D.DocReader.document c.args.doc.now in
     let x = c.in_ok-session.session in
     let opened = c.in_ok-session.ensures in
     let stands : c.put_back.new.sessions.items ≡ insert xs c.args.index x = c.put_back.ensures ∙ ap (λ l. insert l c.args.index x) c.in_ok-reserve.ensures.items in

@@ -18,7 +18,7 @@ returns-in_default c =
     let old : CoreState = record { users = kept.users; start = document_of kept.opening; history = kept.entries.items } in
     let Q : List (List ℕ) → Type 0 = λ lines. IsStep old old e lines in
     subst P c.self.view_is (subst Q (sym (c.from-nothing.ensures ∙ c.new.ensures.items))
-    (gone_missed kept.users (document_of kept.opening) kept.entries.items kept.tables kept.tally kept.sessions.items kept.bytes_left name c.self.invariant.0 c.in_default.field-0 c.args.size misses))
+    (gone_missed kept.users (document_of kept.opening) kept.entries.items kept.doc kept.tally kept.sessions.items kept.bytes_left name c.self.invariant.0 c.in_default.field-0 c.args.size misses))
 
 pub invariant_of-self : goal.invariant_of-self
 invariant_of-self c =
@@ -30,11 +30,11 @@ invariant_of-self c =
     let named : c.remove.result.session ≡ name = ap (λ (x : SessionState). x.session) c.remove.ensures.value ∙ finds.named c.remove.result in
     let entered : c.last_entry-entry.result ≡ entry_of name Gone c.args.size true = c.last_entry-entry.ensures ∙ ap (λ n. entry_of n Gone c.args.size true) named in
     let grown : c.push_reserved.new.self.items ≡ kept.entries.items ++ entry_of name Gone c.args.size true ∷ [] = c.push_reserved.ensures.items ∙ ap (λ e. kept.entries.items ++ e ∷ []) entered in
-    let fewer = one_fewer kept.users (document_of kept.opening) kept.entries.items kept.tables kept.tally kept.sessions.items kept.bytes_left name c.self.invariant.0 p finds c.args.size in
-    let E : List Entry → Type 0 = λ es. IsCore kept.users (document_of kept.opening) es kept.tables kept.tally c.remove.new.self.items c.left_after-self-inside.result in
-    let X : List SessionState → Type 0 = λ xs. IsCore kept.users (document_of kept.opening) (kept.entries.items ++ entry_of name Gone c.args.size true ∷ []) kept.tables kept.tally xs c.left_after-self-inside.result in (
+    let fewer = one_fewer kept.users (document_of kept.opening) kept.entries.items kept.doc kept.tally kept.sessions.items kept.bytes_left name c.self.invariant.0 p finds c.args.size in
+    let E : List Entry → Type 0 = λ es. IsCore kept.users (document_of kept.opening) es kept.doc kept.tally c.remove.new.self.items c.left_after-self-inside.result in
+    let X : List SessionState → Type 0 = λ xs. IsCore kept.users (document_of kept.opening) (kept.entries.items ++ entry_of name Gone c.args.size true ∷ []) kept.doc kept.tally xs c.left_after-self-inside.result in (
       subst E (sym grown) (subst X (sym c.remove.ensures.items)
-          (core_parted kept.users (document_of kept.opening) kept.entries.items kept.tables kept.tally kept.sessions.items kept.bytes_left name c.self.invariant.0 p finds c.args.size
+          (core_parted kept.users (document_of kept.opening) kept.entries.items kept.doc kept.tally kept.sessions.items kept.bytes_left name c.self.invariant.0 p finds c.args.size
           c.left_after-self-inside.result (c.left_after-self-inside.ensures (sum_by size_of kept.entries.items) c.self.invariant.0.left))),
       omega (arith, fewer, ap length c.remove.ensures.items, c.push_reserved.ensures.len, c.push_reserved.ensures.capacity, c.self.invariant.1),
     )
@@ -55,4 +55,4 @@ returns c =
     let Q : List (List ℕ) → Type 0 = λ lines. IsStep old (record { users = kept.users; start = document_of kept.opening; history = c.push_reserved.new.self.items }) e lines in
     let P : CoreState → Type 0 = λ o. IsStep o (record { users = kept.users; start = document_of kept.opening; history = c.push_reserved.new.self.items }) e c.from-nothing.result in
     subst P c.self.view_is (subst Q (sym (c.from-nothing.ensures ∙ c.new.ensures.items)) (subst N (sym grown)
-    (gone_found kept.users (document_of kept.opening) kept.entries.items kept.tables kept.tally kept.sessions.items kept.bytes_left name c.self.invariant.0 p finds c.args.size)))
+    (gone_found kept.users (document_of kept.opening) kept.entries.items kept.doc kept.tally kept.sessions.items kept.bytes_left name c.self.invariant.0 p finds c.args.size)))

@@ -1,8 +1,0 @@
-use Rattle.bundle_core.proofs.RollbackLemmas.{IsUndoing}
-use Rattle.bundle_core.proofs.rollback.take_back_all.Given as goal
-
-abbrev pub invariant-loop-back : goal.invariant-loop-back
-invariant-loop-back g l = IsUndoing g.D.DocTables.undone g.D.DocTables.fits l.initial.backs.items (g.D.DocReader.document l.initial.tables) l.backs.items (g.D.DocReader.document l.tables)
-
-abbrev pub decreases-loop-back : goal.decreases-loop-back
-decreases-loop-back g l = goal.left-loop-back g l

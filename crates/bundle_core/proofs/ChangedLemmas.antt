@@ -1,5 +1,5 @@
 -- Rows that are noted, and what stays the same outside of them.
-use Rattle.std.proofs.Common.{ℕ, Bool, true, false, ◌||◌, ◌&&◌, nat_eq, List, [], ◌∷◌, ◌++◌, length, get_or, zero, suc, ◌+◌, ◌<◌, ◌≡◌, refl, sym, ap, subst, ◌∙◌, arith}
+use Rattle.std.proofs.Common.{ℕ, Bool, true, false, ◌||◌, ◌&&◌, nat_eq, List, [], ◌∷◌, ◌++◌, length, take, get_or, zero, suc, ◌+◌, ◌<◌, ◌≡◌, refl, sym, ap, subst, ◌∙◌, arith, add-one}
 use Rattle.std.proofs.lemmas.Bool.{or_parts, true≢false}
 use Rattle.std.specs.List.{list_any}
 use Rattle.std.specs.Str.{bytes_eq}
@@ -17,7 +17,7 @@ use Rattle.doc_model.proofs.SameRowLaws.{rows_itself}
 use Rattle.plain_view.proofs.PartLemmas.{SameRow-trans, both_trans}
 use Rattle.recalc.specs.Evaluated.{filled}
 use Rattle.recalc.specs.Lost.{lost}
-use Rattle.recalc.specs.Outside.{OutsideLaw, is_row_among}
+use Rattle.recalc.specs.Outside.{OutsideLaw, is_in_row, is_row_among}
 use Rattle.view_parts.specs.declared.changed.ChangedRows.{ChangedRows}
 use Rattle.view_parts.specs.Parts.{has_changed_row}
 use Rattle.view_parts.specs.PartLaws.{AreSameOutside}
@@ -28,31 +28,64 @@ pub none_of : (b d : Bool) → (b ≡ true → d ≡ true) → d ≡ false → b
 none_of false d h none = refl
 none_of true d h none = absurd (true≢false (sym (h refl) ∙ none))
 
+or_none : (b : Bool) → (b || false) ≡ b
+or_none true = refl
+or_none false = refl
+
+or_apart : (a b d : Bool) → (a || (b || d)) ≡ ((a || b) || d)
+or_apart true b d = refl
+or_apart false b d = refl
+
+either_noted : (a b d : Bool) → (a ≡ true → b ≡ true) → (a || d) ≡ true → (b || d) ≡ true
+either_noted true b d h e = ap (λ x. x || d) (h refl)
+either_noted false true d h e = refl
+either_noted false false d h e = e
+
 -- whether an action is about the row of the table
-about : List ℕ → ℕ → DocAction → Bool
+abbrev about : List ℕ → ℕ → DocAction → Bool
 about c r a = names_table a c && is_about a r
 
 -- what none of a list is, none of the others is
-pub Within : List DocAction → List DocAction → Type 0
+abbrev pub Within : List DocAction → List DocAction → Type 0
 Within some all = (p : DocAction → Bool) → list_any p all ≡ false → list_any p some ≡ false
 
 pub within_itself : (as' : List DocAction) → Within as' as'
-within_itself as' p none = none
+within_itself as' = λ p none. none
 
-pub within_front : (as' bs : List DocAction) → Within as' (as' ++ bs)
+pub within_front : (as' bs : List DocAction) (p : DocAction → Bool) → list_any p (as' ++ bs) ≡ false → list_any p as' ≡ false
 within_front [] bs p none = refl
 within_front (a ∷ as') bs p none =
     let two : (p a ≡ false) × (list_any p (as' ++ bs) ≡ false) = or_parts (p a) (list_any p (as' ++ bs)) none in
     ap (λ b. b || list_any p as') two.0 ∙ within_front as' bs p two.1
 
-pub within_back : (as' bs : List DocAction) → Within bs (as' ++ bs)
+pub within_back : (as' bs : List DocAction) (p : DocAction → Bool) → list_any p (as' ++ bs) ≡ false → list_any p bs ≡ false
 within_back [] bs p none = none
 within_back (a ∷ as') bs p none = within_back as' bs p (or_parts (p a) (list_any p (as' ++ bs)) none).1
 
-pub within_at : (as' : List DocAction) (i : ℕ) (a : DocAction) → i < length as' → a ≡ get_or as' i a → Within (a ∷ []) as'
+pub within_at : (as' : List DocAction) (i : ℕ) (a : DocAction) → i < length as' → a ≡ get_or as' i a → (p : DocAction → Bool) → list_any p as' ≡ false → (p a || false) ≡ false
 within_at [] i a lt is p none = absurd (omega (arith, lt))
 within_at (x ∷ as') zero a lt is p none = ap (λ b. b || false) (ap p is ∙ (or_parts (p x) (list_any p as') none).0)
 within_at (x ∷ as') (suc i) a lt is p none = within_at as' i a (omega (arith, lt)) is p (or_parts (p x) (list_any p as') none).1
+
+-- one more of a list that is taken from the front
+any_suc : {X : Type 0} (p : X → Bool) (xs : List X) (i : ℕ) (x : X) → i < length xs → x ≡ get_or xs i x → list_any p (take (suc i) xs) ≡ (list_any p (take i xs) || p x)
+any_suc p [] i x lt is = absurd (omega (arith, lt))
+any_suc p (y ∷ xs) zero x lt is = or_none (p y) ∙ ap p (sym is)
+any_suc p (y ∷ xs) (suc i) x lt is = ap (λ b. p y || b) (any_suc p xs i x (omega (arith, lt)) is) ∙ or_apart (p y) (list_any p (take i xs)) (p x)
+
+-- the rows of one cell more are noted
+pub noted_next : (cells : List CellOld) (i : ℕ) (o : CellOld) (old new : List ChangedRows) → i < length cells → o ≡ get_or cells i o
+    → ((t : List ℕ) (r : ℕ) → has_changed_row new t r ≡ (has_changed_row old t r || (bytes_eq o.cell.table t && nat_eq o.cell.row r)))
+    → AreNoted (take i cells) old → AreNoted (take (i + 1) cells) new
+noted_next cells i o old new lt is more noted t r =
+    let one : List CellOld → Bool = λ l. is_row_among l t r in
+    rw (add-one i) (λ h.
+        more t r
+        ∙ either_noted (one (take i cells)) (has_changed_row old t r) (bytes_eq o.cell.table t && nat_eq o.cell.row r) (noted t r) (sym (any_suc (is_in_row t r) cells i o lt is) ∙ h))
+
+pub stay_next : (first old new : List ChangedRows) (table : List ℕ) (row : ℕ) → ((t : List ℕ) (r : ℕ) → has_changed_row new t r ≡ (has_changed_row old t r || (bytes_eq table t && nat_eq row r)))
+    → StayNoted first old → StayNoted first new
+stay_next first old new table row more stays t r h = more t r ∙ ap (λ b. b || (bytes_eq table t && nat_eq row r)) (stays t r h)
 
 -- nothing changed yet
 pub outside_itself : (as' : List DocAction) (changed : List ChangedRows) (s : Document) → AreSameOutside as' changed s s

@@ -50,17 +50,15 @@ module _ {B : Type 0} (undone : B → Document → Document) (fits : B → Docum
         let P : List DocAction → Type 0 = λ l. all_valid s l ≡ true in
         (and_parts (valid s a) (all_valid (apply s a) (drop (i + 1) actions)) (subst P e h.may)).0
 
-    pub doing_next : (a : DocAction) (b : B) (t : Document) (cs : List B) → drop i actions ≡ a ∷ drop (i + 1) actions → t ≡ apply s a → fits b t → undone b t ≡ s → cs ≡ bs ++ b ∷ [] → IsDoing start actions old (i + 1) t cs
-    doing_next a b t cs e done fit back items =
+    pub doing_next : (a : DocAction) (t : Document) (cs : List B) → drop i actions ≡ a ∷ drop (i + 1) actions → t ≡ apply s a → AllFit undone fits cs t → rolled_back undone fits cs t ≡ rolled_back undone fits bs s → IsDoing start actions old (i + 1) t cs
+    doing_next a t cs e done fit back =
         let P : List DocAction → Type 0 = λ l. all_valid s l ≡ true in
         let Q : Document → Type 0 = λ u. all_valid u (drop (i + 1) actions) ≡ true in
-        let R : Document → Type 0 = λ u. AllFit undone fits bs u in
-        let S : List B → Type 0 = λ l. AllFit undone fits l t in
         record {
           leads = ap (λ u. apply_all u (drop (i + 1) actions)) done ∙ ap (apply_all s) (sym e) ∙ h.leads;
           may = subst Q (sym done) (and_parts (valid s a) (all_valid (apply s a) (drop (i + 1) actions)) (subst P e h.may)).1;
-          fit = subst S (sym items) (AllFit-last bs b t (subst R (sym back) h.fit) fit);
-          back = ap (λ l. rolled_back undone fits l t) items ∙ rolled_back-last bs b t ∙ ap (rolled_back undone fits bs) back ∙ h.back;
+          fit = fit;
+          back = back ∙ h.back;
         }
 
     pub doing_ends : length actions ≤ i → s ≡ apply_all start actions

@@ -2,6 +2,7 @@
 
 ghost use Rattle.std.specs.Prelude.{◌≡◌, [], ◌∷◌, true, OnOk};
 ghost use Rattle.doc_model.specs.Apply.{all_valid, apply, apply_all};
+ghost use Rattle.doc_model.specs.DocumentLaws.{IsWhole};
 ghost use Rattle.doc_model.specs.Valid.{valid};
 ghost use Rattle.recalc.specs.Evaluated.{filled};
 ghost use Rattle.view_parts.specs.PartLaws.{AreSameOutside};
@@ -23,8 +24,10 @@ fn do_one<D: DocTables>(
     traces: &mut Vec<Trace<D>>,
     changed: &mut Vec<ChangedRows>,
 ) -> Result<(), AllocError>
+    requires whole { IsWhole (D.document doc.old) }
     requires valid { valid (D.document doc.old) action.now ≡ true }
     requires led { AllLeadBack D.fits D.undone traces.old.items (D.document doc.old) }
+    ensures whole { OnOk result (IsWhole (D.document doc.new)) }
     ensures done { OnOk result (D.document doc.new ≡ apply (D.document doc.old) action.now) }
     ensures led { AllLeadBack D.fits D.undone traces.new.items (D.document doc.new) }
     ensures back { gone_back D.fits D.undone traces.new.items (D.document doc.new)
@@ -50,6 +53,7 @@ pub(crate) fn do_all<D: DocTables>(
     traces: &mut Vec<Trace<D>>,
     changed: &mut Vec<ChangedRows>,
 ) -> Result<(), AllocError>
+    requires whole { IsWhole (D.document doc.old) }
     requires valid { all_valid (D.document doc.old) actions.now ≡ true }
     requires led { AllLeadBack D.fits D.undone traces.old.items (D.document doc.old) }
     ensures done { OnOk result

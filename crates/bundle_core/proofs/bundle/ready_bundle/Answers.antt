@@ -30,9 +30,9 @@ returns-clause-reply g c =
     let after : t ≡ apply_all s c.args.plan.now.actions.items = c.in_ok-told.ensures.document ∙ ap (apply_all s) c.deref-2.ensures.value in
     let x = c.index.result.now in
     c.in_ok-reply.ensures
-    ∙ ap (λ (y : SessionState). reply_of (Bundle (y.holder.bundles + 1) (map (told_of (view y.holder.user t)) c.deref-4.result.now))) c.index.ensures
-    ∙ ap (λ u. reply_of (Bundle ((get_or c.args.sessions.now.items c.args.index x).holder.bundles + 1) (map (told_of (view (get_or c.args.sessions.now.items c.args.index x).holder.user u)) c.deref-4.result.now))) after
-    ∙ ap (λ l. reply_of (Bundle ((get_or c.args.sessions.now.items c.args.index x).holder.bundles + 1) (map (told_of (view (get_or c.args.sessions.now.items c.args.index x).holder.user (apply_all s c.args.plan.now.actions.items))) l))) c.deref-4.ensures.value
+    ∙ ap (λ (y : SessionState). reply_of (Bundle (y.holder.bundles + 1) (map (told_of (view y.holder.user t)) c.deref-5.result.now))) c.index.ensures
+    ∙ ap (λ u. reply_of (Bundle ((get_or c.args.sessions.now.items c.args.index x).holder.bundles + 1) (map (told_of (view (get_or c.args.sessions.now.items c.args.index x).holder.user u)) c.deref-5.result.now))) after
+    ∙ ap (λ l. reply_of (Bundle ((get_or c.args.sessions.now.items c.args.index x).holder.bundles + 1) (map (told_of (view (get_or c.args.sessions.now.items c.args.index x).holder.user (apply_all s c.args.plan.now.actions.items))) l))) c.deref-5.ensures.value
     ∙ reply_is c.args.sessions.now.items c.args.index x (apply_all s c.args.plan.now.actions.items) c.args.plan.now.created.items c.requires.within
 
 pub returns-clause-ready : goal.returns-clause-ready
@@ -42,5 +42,5 @@ returns-clause-ready g c =
     let T : List ToldChanges → Type 0 = λ l. AllByRecursion (IsReady (told_by l)) c.ready_all.new.sessions.items in
     ready_as (told_by c.in_ok-told.told.items) (told_changes s c.args.plan.now.actions.items) c.in_ok-viewers.viewers.items c.args.sessions.now.items c.ready_all.new.sessions.items
     c.in_ok-ready_all.ensures.same (subst Q c.deref.ensures.value c.in_ok-viewers.ensures)
-    (λ user among. c.in_ok-told.ensures.told user (let R : List Viewer → Type 0 = λ l. is_among l (viewer_of user) ≡ true in subst R (sym c.deref-3.ensures.value) among) ∙ ap (λ l. told_changes s l user) c.deref-2.ensures.value)
-    (subst T c.deref-5.ensures.value c.in_ok-ready_all.ensures.ready)
+    (λ user among. c.in_ok-told.ensures.told user (let R : List Viewer → Type 0 = λ l. is_among l (viewer_of user) ≡ true in subst R (sym c.deref-4.ensures.value) among) ∙ ap (λ l. told_changes s l user) c.deref-2.ensures.value)
+    (subst T c.deref-6.ensures.value c.in_ok-ready_all.ensures.ready)

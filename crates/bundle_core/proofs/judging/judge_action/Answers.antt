@@ -19,5 +19,6 @@ pub judge_steps-requires-clause-unopposed : goal.judge_steps-requires-clause-uno
 judge_steps-requires-clause-unopposed g c =
     let s = g.D.DocReader.document c.args.doc.now in
     let a = c.args.action.now in
-    sym (ap (λ v. objection_to v a) (c.in_ok-view.ensures.tables ∙ ap (λ w. requested_part a (shown_to w (filled s))) c.of.ensures) ∙ c.requested_law.ensures (view c.args.user.now s) a)
+    ap (λ d. objection_to (view c.args.user.now (g.D.DocReader.document d)) a) c.tables.ensures.value
+    ∙ sym (ap (λ v. objection_to v a) (c.in_ok-view.ensures.tables ∙ ap (λ w. requested_part a (shown_to w (filled s))) c.of.ensures) ∙ c.requested_law.ensures (view c.args.user.now s) a)
     ∙ sym c.in_ok-refusal.ensures ∙ c.in-None.is

@@ -11,8 +11,8 @@
 //! wants an action that the document allows; `unopposed_law` says that each action is allowed that
 //! is not refused in some view of the document. `steps_law` and `fresh_ids_law` say of the
 //! definitions that steps are valid and new ids free, beside at most 2^60 ids.
-//! Not promised: that memory is found, or that the text of a formula reads as one: it is taken as it
-//! stands. The tables of access rules are refused, since they are not built.
+//! Not promised: that memory is found, or that the text of a formula reads as one: it is taken as
+//! it stands. The tables of access rules are refused, since they are not built.
 //! Read first: specs/Objections.antt and refusing.rt, then specs/Steps.antt and expanding.rt.
 #![tactic(auto)]
 

@@ -1,5 +1,5 @@
 -- Sums after records go and the references to them are cleared.
-use Rattle.std.proofs.Common.{ℕ, Bool, true, false, cond, not, ◌&&◌, ◌+◌, ◌-◌, ◌^◌, ◌<◌, ◌≤◌, List, [], ◌∷◌, ◌++◌, map, filter, length, ◌≡◌, refl, sym, ap, subst, ◌∙◌, Option, Some, None, option_map, unwrap_or, arith}
+use Rattle.std.proofs.Common.{ℕ, Bool, true, false, cond, not, ◌&&◌, ◌+◌, ◌-◌, ◌^◌, ◌<◌, ◌≤◌, List, [], ◌∷◌, ◌++◌, map, filter, ◌≡◌, refl, sym, ap, ◌∙◌, Option, Some, None, option_map, unwrap_or, arith}
 use Rattle.std.specs.Bool.{⊤}
 use Rattle.std.specs.Prelude.{pos}
 use Rattle.std.proofs.lemmas.Bool.{and_parts}
@@ -20,7 +20,7 @@ use Rattle.doc_model.specs.ByIds.{find_id}
 use Rattle.doc_model.specs.Column.{column_id}
 use Rattle.doc_model.specs.CountLaws.{Sums, SumsMove, column_weight, given_weight, nothing, sums_added, sums_removed}
 use Rattle.doc_model.specs.Counts.{counts, item_weight, row_weight, total, value_weight}
-use Rattle.doc_model.specs.Document.{Document, Table, on_grid, table_id, with_table}
+use Rattle.doc_model.specs.Document.{Document, Table, on_grid, table_id}
 use Rattle.doc_model.specs.DocumentLaws.{IsWhole}
 use Rattle.doc_model.specs.Grid.{Grid, cell}
 use Rattle.doc_model.specs.Records.{given, remove_rows, update_rows, value_for}
@@ -41,7 +41,7 @@ use Rattle.action_limits.specs.declared.limits.Counted.{Counted}
 use Rattle.action_limits.specs.Capped.{all_moved, all_moved_at, capped, has_named, is_there, moved_by}
 use Rattle.action_limits.proofs.ExpansionLemmas.{IsExact, TellsSums, has_named-valid, none_told, one_told}
 use Rattle.user_actions.specs.declared.referrers.Referrer.{Referrer}
-use Rattle.user_actions.specs.CellUpdates.{column_changed, rows_changed, update_changed}
+use Rattle.user_actions.specs.CellUpdates.{column_changed, rows_changed}
 use Rattle.user_actions.specs.Marked.{direct, indirect}
 use Rattle.user_actions.specs.Objections.{is_row}
 use Rattle.user_actions.specs.References.{cleared, cleared_list, clearings, is_gone, list_or_null, name_gone, referrers, rows_staying}
@@ -65,7 +65,7 @@ no_more n g before c e le h = omega arith
 capped_back : (m n : ℕ) → m ≡ capped n → n < 2 ^ 64 → m ≡ n
 capped_back m n e h = grind arith
 
-exact_after : (s : Document) (a : DocAction) (m : Counted) → IsWhole s → valid s a ≡ true → IsExact m s → IsLess s a → IsExact (moved_by s m a) (apply s a)
+pub exact_after : (s : Document) (a : DocAction) (m : Counted) → IsWhole s → valid s a ≡ true → IsExact m s → IsLess s a → IsExact (moved_by s m a) (apply s a)
 exact_after s a m whole v exact less =
     let told : TellsSums (moved_by s m a) (apply s a) = one_told s a m whole v exact in
     let moved : SumsMove s (apply s a) a = counts-apply s a whole v in

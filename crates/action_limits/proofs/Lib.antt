@@ -7,6 +7,7 @@ mod Leaving
 mod ExpansionLemmas
 mod ClearingMoves
 mod RenamingMoves
+mod ModifyMoves
 mod StepMoves
 mod AddMoves
 mod SchemaGrowth

@@ -1,10 +1,10 @@
 -- Sums after a table is renamed, and the columns that refer to it change their types.
-use Rattle.std.proofs.Common.{ℕ, Bool, true, false, cond, ◌&&◌, ◌+◌, List, [], ◌∷◌, map, length, ◌≡◌, refl, sym, ap, subst, ◌∙◌, Option, Some, None, option_map, arith}
+use Rattle.std.proofs.Common.{ℕ, true, false, cond, ◌+◌, List, [], ◌∷◌, map, length, ◌≡◌, refl, sym, ap, subst, ◌∙◌, Option, Some, None, option_map, arith}
 use Rattle.std.proofs.lemmas.Bool.{and_parts}
 use Rattle.std.proofs.lemmas.Slice.Eq.{bytes_eq-Decides}
-use Rattle.std.specs.List.{list_all, AllByRecursion}
+use Rattle.std.specs.List.{AllByRecursion}
 use Rattle.std.specs.Str.{bytes_eq}
-use Rattle.doc_model.specs.declared.action.DocAction.TheVariants.{ModifyColumn, RenameTable}
+use Rattle.doc_model.specs.declared.action.DocAction.TheVariants.{ModifyColumn}
 use Rattle.doc_model.specs.declared.action.Step.{Step}
 use Rattle.doc_model.specs.declared.column.ColDef.{ColDef}
 use Rattle.doc_model.specs.declared.column.ColInfo.{ColInfo}

@@ -14,7 +14,7 @@ use Rattle.doc_model.specs.Apply.{all_valid, apply}
 use Rattle.doc_model.specs.ByIds.{find_id}
 use Rattle.doc_model.specs.Column.{column_row}
 use Rattle.doc_model.specs.CountLaws.{Sums, SumsMove, sums_added, nothing}
-use Rattle.doc_model.specs.Counts.{counts, greatest}
+use Rattle.doc_model.specs.Counts.{counts, formula_bytes, greatest}
 use Rattle.doc_model.specs.Document.{Document, Table, table_id}
 use Rattle.doc_model.specs.DocumentLaws.{IsWhole}
 use Rattle.doc_model.specs.Grid.{Grid}
@@ -326,7 +326,7 @@ grown_tables s (AddTable table cs) whole grows v =
 grown_tables s (AddColumn table c) whole grows v =
     let act : DocAction = action.AddColumn table (column_said s table c) in
     let moved : SumsMove s (apply s act) act = counts-apply s act whole (and_parts (valid s act) true v).0 in
-    let none : (sums_added s act).tables ≡ 0 = elim (find_id table_id table s) as (λ (o : Option Table). (elim o as (λ _. Sums) [ None ↦ nothing | Some t ↦ record { tables = 0; cells = length t.grid.rows; weight = 0 } ]).tables ≡ 0) [ None ↦ refl | Some t ↦ refl ] in
+    let none : (sums_added s act).tables ≡ 0 = elim (find_id table_id table s) as (λ (o : Option Table). (elim o as (λ _. Sums) [ None ↦ nothing | Some t ↦ record { tables = 0; cells = length t.grid.rows; weight = formula_bytes (column_said s table c) } ]).tables ≡ 0) [ None ↦ refl | Some t ↦ refl ] in
     let sums : (counts (apply s act)).tables + 0 ≡ (counts s).tables + (sums_added s act).tables = moved.tables in
     omega (arith, sums, none)
 grown_tables s (Add table single n has_row_ids ks) whole grows v = absurd (true≢false (sym grows))

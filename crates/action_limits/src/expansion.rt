@@ -243,7 +243,7 @@ fn schema_expansion<D: DocTables>(
 /// the tally of the document.
 ///
 /// Errors: out of memory.
-/// Cost: the rows and values that are given; a new type of a column costs all its cells, and a new
+/// Cost: the rows and values that are given; a column that changes costs all its cells, and a new
 /// id the ids beside it. Where records go or a table is renamed, a walk over all columns, and where
 /// records go over all cells of those that refer to the table. Where a table was above its bounds
 /// before, a walk over all tables and columns.

@@ -9,18 +9,22 @@ ghost use Rattle.user_actions.specs.Objections.{objection_to};
 ghost use Rattle.view_parts.specs.Shown.{view};
 
 use Asked::{
-    AddColumn, AddFullTable, AddRecord, AddTable, RemoveColumn, RemoveRecord, RemoveTable,
-    RenameTable,
+    AddColumn, AddFullTable, AddRecord, AddTable, Give, Modify, RemoveColumn, RemoveRecord,
+    RemoveTable, RenameTable,
 };
-use cell_types::CellText;
-use doc_model::{IdList, UserAction, UserCol, UserColList, UserColumnList, View};
+use cell_types::{CellText, CellValue, ValueList};
+use doc_model::{
+    IdList, Refusal, UserAction, UserCol, UserColList, UserColumn, UserColumnList, View,
+};
 use row_tables::RowTables;
 use std::alloc::{AllocError, Global};
 use user_actions::refuse;
 use view_parts::{Viewer, allowed_law, whole_view};
 
 /// User actions: a new record or column `D` of `Table1`, a new table `New` of no columns or of that
-/// one, and what is removed or renamed, the table first.
+/// one, and what is removed or renamed, the table first. A column of `Table1` is modified as it is
+/// said to be: its type, whether it is a formula column, its formula. A number is given to a column
+/// of it in row 1.
 pub(crate) enum Asked {
     AddRecord,
     RemoveRecord(&'static str, i64),
@@ -30,6 +34,8 @@ pub(crate) enum Asked {
     RenameTable(&'static str, &'static str),
     RemoveTable(&'static str),
     RemoveColumn(&'static str, &'static str),
+    Modify(&'static str, Option<&'static str>, Option<bool>, Option<&'static str>),
+    Give(&'static str),
 }
 
 fn text(alloc: Global, said: &str) -> Result<CellText, AllocError> {
@@ -106,6 +112,62 @@ fn remove_column(alloc: Global, table: &str, id: &str) -> Result<UserAction, All
     Ok(UserAction::RemoveColumn { table, column })
 }
 
+fn text_or_none(alloc: Global, said: Option<&str>) -> Result<Option<CellText>, AllocError> {
+    match said {
+        Some(said) => Ok(Some(text(alloc, said)?)),
+        None => Ok(None),
+    }
+}
+
+fn column_said(
+    alloc: Global,
+    id: &str,
+    ty: Option<&str>,
+    is_formula: Option<bool>,
+    formula: Option<&str>,
+) -> Result<UserCol, AllocError> {
+    let ty = text_or_none(alloc, ty)?;
+    let formula = text_or_none(alloc, formula)?;
+    Ok(UserCol {
+        id: text(alloc, id)?,
+        ty,
+        is_formula,
+        formula,
+    })
+}
+
+fn modify(
+    alloc: Global,
+    id: &str,
+    ty: Option<&str>,
+    is_formula: Option<bool>,
+    formula: Option<&str>,
+) -> Result<UserAction, AllocError> {
+    let column = column_said(alloc, id, ty, is_formula, formula)?;
+    let table = text(alloc, "Table1")?;
+    Ok(UserAction::ModifyColumn { table, column })
+}
+
+fn number_in(alloc: Global, id: &str) -> Result<UserColumnList, AllocError> {
+    let values = ValueList::from(Vec::from_array(alloc, [CellValue::Int(5)])?);
+    let id = text(alloc, id)?;
+    let mut columns = UserColumnList::new(alloc);
+    columns.push(UserColumn { id, values })?;
+    Ok(columns)
+}
+
+fn give(alloc: Global, id: &str) -> Result<UserAction, AllocError> {
+    let columns = number_in(alloc, id)?;
+    let rows = IdList::from(Vec::from_array(alloc, [1])?);
+    let table = text(alloc, "Table1")?;
+    Ok(UserAction::Update {
+        table,
+        single: true,
+        rows,
+        columns,
+    })
+}
+
 /// The user action that the words stand for.
 pub(crate) fn user_action(alloc: Global, asked: &Asked) -> Result<UserAction, AllocError> {
     match asked {
@@ -117,6 +179,8 @@ pub(crate) fn user_action(alloc: Global, asked: &Asked) -> Result<UserAction, Al
         RenameTable(table, new) => rename_table(alloc, table, new),
         RemoveTable(table) => remove_table(alloc, table),
         RemoveColumn(table, id) => remove_column(alloc, table, id),
+        Modify(id, ty, is_formula, formula) => modify(alloc, id, *ty, *is_formula, *formula),
+        Give(id) => give(alloc, id),
     }
 }
 
@@ -160,4 +224,35 @@ pub(crate) fn may_be_done(alloc: Global, document: &RowTables, action: &UserActi
 {
     allowed_law();
     is_unrefused(alloc, document, Viewer { is_owner: true }, action) && is_bare(action)
+}
+
+// Whether this is the name of the refusal, or empty and there is none.
+fn is_name(answer: &Result<Option<Refusal>, AllocError>, want: &str) -> bool {
+    match answer {
+        Ok(None) => want.is_empty(),
+        Ok(Some(refusal)) => refusal.name() == want,
+        Err(_) => false,
+    }
+}
+
+fn is_refused_in(alloc: Global, view: &View, action: &UserAction, want: &str) -> bool
+    requires { IsView view.now.tables }
+{
+    is_name(&refuse(alloc, view, action), want)
+}
+
+/// Whether the action is refused by this name, or by none where that is empty.
+#[tactic(auto, using(doc_model::proofs::LaidOutLaws::laid_out))]
+pub(crate) fn is_refused(
+    alloc: Global,
+    document: &RowTables,
+    action: &UserAction,
+    want: &str,
+) -> bool
+    requires { IsWhole document.now }
+{
+    match whole_view(alloc, document, Viewer { is_owner: true }) {
+        Ok(view) => is_refused_in(alloc, &view, action, want),
+        Err(_) => false,
+    }
 }

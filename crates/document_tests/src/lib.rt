@@ -23,6 +23,8 @@ mod evaluated_tests;
 #[cfg(test)]
 mod limit_tests;
 #[cfg(test)]
+mod modify_tests;
+#[cfg(test)]
 mod new_documents;
 #[cfg(test)]
 mod reading;

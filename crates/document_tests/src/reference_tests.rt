@@ -135,7 +135,8 @@ fn has_steps(alloc: Global, document: &RowTables, action: &UserAction, want: &st
     may_be_done(alloc, document, action) && are_steps(alloc, &steps(alloc, document, action), want)
 }
 
-fn made_has_steps(
+/// Whether the action was made and has these steps, each on a line, a direct one behind a `!`.
+pub(crate) fn made_has_steps(
     alloc: Global,
     document: &RowTables,
     action: &Result<UserAction, AllocError>,

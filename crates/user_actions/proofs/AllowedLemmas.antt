@@ -19,7 +19,7 @@ use Rattle.doc_model.proofs.ByIdsLaws.{found_all, found_id, has_id-find}
 use Rattle.doc_model.proofs.Choices.{both_true, each_true}
 use Rattle.doc_model.proofs.DocumentParts.{passes_parts}
 use Rattle.user_actions.specs.Allowed.{has_name, is_allowed, may_give, may_name}
-use Rattle.user_actions.specs.Infos.{is_plain}
+use Rattle.user_actions.specs.Columns.{may_be_new, may_become}
 use Rattle.user_actions.specs.Kinds.{table_of}
 use Rattle.user_actions.specs.Objections.{has_base, has_good_id}
 
@@ -80,10 +80,11 @@ column_named s w id c more h =
     let p : (t : Table) × ((schema_table s id ≡ Some t) × ((has_id column_id t.grid.columns c && more t) ≡ true)) = passes_parts (schema_table s id) (λ t. has_id column_id t.grid.columns c && more t) h in
     there_named p.0 (plain_names s w id p.0 p.1.0).1 c (and_parts (has_id column_id p.0.grid.columns c) (more p.0) p.1.1).0
 
-pub data_column_named : (s : Document) → IsWhole s → (id c : List ℕ) (more : Table → Bool) → passes (schema_table s id) (λ t. is_data t.grid c && more t) ≡ true → is_name c ≡ true
-data_column_named s w id c more h =
-    let p : (t : Table) × ((schema_table s id ≡ Some t) × ((is_data t.grid c && more t) ≡ true)) = passes_parts (schema_table s id) (λ t. is_data t.grid c && more t) h in
-    data_named p.0 (plain_names s w id p.0 p.1.0).1 c (and_parts (is_data p.0.grid c) (more p.0) p.1.1).0
+pub known_column_named : (s : Document) → IsWhole s → (id c : List ℕ) (more : ColDef → Bool) → passes (schema_table s id) (λ t. passes (find_id column_id c t.grid.columns) more) ≡ true → is_name c ≡ true
+known_column_named s w id c more h =
+    let p : (t : Table) × ((schema_table s id ≡ Some t) × (passes (find_id column_id c t.grid.columns) more ≡ true)) = passes_parts (schema_table s id) (λ t. passes (find_id column_id c t.grid.columns) more) h in
+    let d : (d : ColDef) × ((find_id column_id c p.0.grid.columns ≡ Some d) × (more d ≡ true)) = passes_parts (find_id column_id c p.0.grid.columns) more p.1.1 in
+    column_there p.0 (plain_names s w id p.0 p.1.0).1 c d.0 d.1.0
 
 pub only_column_named : (s : Document) → IsWhole s → (id c : List ℕ) → passes (schema_table s id) (λ t. has_id column_id t.grid.columns c) ≡ true → is_name c ≡ true
 only_column_named s w id c h =
@@ -101,10 +102,10 @@ pub action_named : (s : Document) → IsWhole s → (a : UserAction) → is_allo
 action_named s w (Add table single count has_row_ids ks) h = table_named s w table (λ t. list_all (may_give t.grid) ks) h
 action_named s w (Update table single rows ks) h = table_named s w table (λ t. may_name t.grid.rows rows && list_all (may_give t.grid) ks) h
 action_named s w (Remove table single rows) h = table_named s w table (λ t. may_name t.grid.rows rows) h
-action_named s w (AddTable table cs) h = (and_parts (is_name table) (list_all has_good_id cs) (and_parts (is_name table && list_all has_good_id cs) (list_all is_plain cs) h).0).0
+action_named s w (AddTable table cs) h = (and_parts (is_name table) (list_all has_good_id cs) (and_parts (is_name table && list_all has_good_id cs) (list_all may_be_new cs) h).0).0
 action_named s w (RemoveTable table) h = table_named s w table (λ t. true) h
 action_named s w (RenameTable table new) h = table_named s w table (λ t. is_name new) h
-action_named s w (AddColumn table c) h = table_named s w table (λ t. is_name c.id && is_plain c) h
+action_named s w (AddColumn table c) h = table_named s w table (λ t. is_name c.id && may_be_new c) h
 action_named s w (RemoveColumn table column) h = table_named s w table (λ t. has_id column_id t.grid.columns column) h
 action_named s w (RenameColumn table column new) h = table_named s w table (λ t. has_id column_id t.grid.columns column && is_name new) h
-action_named s w (ModifyColumn table c) h = table_named s w table (λ t. is_data t.grid c.id && is_plain c) h
+action_named s w (ModifyColumn table c) h = table_named s w table (λ t. passes (find_id column_id c.id t.grid.columns) (λ d. may_become d.info.is_formula c)) h

@@ -1,5 +1,5 @@
 -- No two of the columns that refer to a table are one.
-use Rattle.std.proofs.Common.{ℕ, Bool, true, false, cond, ◌&&◌, List, [], ◌∷◌, ◌++◌, map, filter, ◌≡◌, refl, sym, ap, ◌∙◌, Option, Some, None}
+use Rattle.std.proofs.Common.{ℕ, Bool, true, false, cond, ◌&&◌, List, [], ◌∷◌, ◌++◌, map, filter, ◌≡◌, refl, ap, ◌∙◌, Option, Some, None}
 use Rattle.std.specs.Bool.{⊤}
 use Rattle.std.specs.List.{AllByRecursion}
 use Rattle.std.specs.Str.{bytes_eq}
@@ -11,7 +11,7 @@ use Rattle.doc_model.specs.DocumentLaws.{IsWhole}
 use Rattle.doc_model.specs.Grid.{Grid}
 use Rattle.doc_model.specs.Schema.{no_grid}
 use Rattle.doc_model.specs.Sound.{IsSoundGrid}
-use Rattle.doc_model.proofs.ByIdsLaws.{bytes_itself, found_all}
+use Rattle.doc_model.proofs.ByIdsLaws.{found_all}
 use Rattle.doc_model.proofs.ByRowLaws.{AreDistinct-filter}
 use Rattle.doc_model.proofs.Choices.{each_both, each_mapped, each_weaker}
 use Rattle.doc_readers.specs.Parts.{grid_at}

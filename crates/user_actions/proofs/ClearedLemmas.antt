@@ -1,5 +1,5 @@
 -- Updates of cells and cleared references are valid at their places.
-use Rattle.std.proofs.Common.{ℕ, Bool, true, false, cond, not, ◌&&◌, ◌||◌, ◌≤◌, List, [], ◌∷◌, ◌++◌, map, filter, length, ◌≡◌, refl, sym, ap, subst, ◌∙◌, Option, Some, None, option_map, eqb, leb, arith}
+use Rattle.std.proofs.Common.{ℕ, Bool, true, false, cond, not, ◌&&◌, ◌≤◌, List, [], ◌∷◌, map, filter, length, ◌≡◌, refl, sym, ap, subst, ◌∙◌, Option, Some, None, option_map, eqb, leb, arith}
 use Rattle.std.proofs.lemmas.Bool.{and_parts, eq-eqb, leb-true, le-leb}
 use Rattle.std.specs.List.{list_all, AllByRecursion}
 use Rattle.std.specs.Str.{bytes_eq}
@@ -26,9 +26,9 @@ use Rattle.doc_model.specs.Same.{same_value}
 use Rattle.doc_model.specs.Sound.{IsSoundGrid}
 use Rattle.doc_model.specs.Valid.{from_one, gives_column, gives_data, is_data, passes, record_table, valid}
 use Rattle.doc_model.specs.ViewEdits.{if_any}
-use Rattle.doc_model.proofs.ByIdsLaws.{bytes_itself, found_all, found_id}
+use Rattle.doc_model.proofs.ByIdsLaws.{found_all}
 use Rattle.doc_model.proofs.ByRowLaws.{find-with_id}
-use Rattle.doc_model.proofs.Choices.{both_true, cond_true, cond_false, each_mapped, each_weaker, length_map, true_each}
+use Rattle.doc_model.proofs.Choices.{both_true, cond_false, each_mapped, each_weaker, length_map, true_each}
 use Rattle.doc_model.proofs.DocumentParts.{applied}
 use Rattle.doc_model.proofs.RecordSteps.{from_one_in}
 use Rattle.doc_model.proofs.RowsLaws.{each_has, has-filter, IsAscending-filter}
@@ -39,7 +39,7 @@ use Rattle.user_actions.specs.declared.referrers.Referrer.{Referrer}
 use Rattle.user_actions.specs.CellUpdates.{column_changed, rows_changed, update_changed}
 use Rattle.user_actions.specs.Marked.{indirect}
 use Rattle.user_actions.specs.Objections.{is_row}
-use Rattle.user_actions.specs.References.{cleared, cleared_list, clearings, is_gone, is_referrer, list_or_null, name_gone, referrers, refers_to, renamed_id, rows_staying}
+use Rattle.user_actions.specs.References.{cleared, cleared_list, clearings, is_gone, list_or_null, name_gone, referrers, refers_to, renamed_id, rows_staying}
 use Rattle.user_actions.specs.StepLaws.{action_of}
 use Rattle.user_actions.proofs.ReferrerLemmas.{IsReferrer, each_referrer}
 use Rattle.user_actions.proofs.SchemaStepLemmas.{bytes_symm}

@@ -11,7 +11,7 @@ use Rattle.doc_model.proofs.DocumentParts.{passes_parts}
 use Rattle.name_rules.specs.FreeName.{IsFresh, free_name}
 use Rattle.name_rules.proofs.FreshNames.{free_name-fresh}
 use Rattle.user_actions.specs.FreshIds.{FreshIdsLaw, StepsLaw}
-use Rattle.user_actions.specs.Infos.{is_plain}
+use Rattle.user_actions.specs.Columns.{may_be_new}
 use Rattle.user_actions.specs.Objections.{has_good_id}
 use Rattle.user_actions.specs.StepLaws.{AreFresh}
 use Rattle.user_actions.specs.Steps.{column_ids, table_ids}
@@ -33,15 +33,15 @@ HasFresh-allowed s (Add table single count has_row_ids ks) whole h few = tt
 HasFresh-allowed s (Update table single rows ks) whole h few = tt
 HasFresh-allowed s (Remove table single rows) whole h few = tt
 HasFresh-allowed s (AddTable table cs) whole h few =
-    let names : (is_name table ≡ true) × (list_all has_good_id cs ≡ true) = and_parts (is_name table) (list_all has_good_id cs) (and_parts (is_name table && list_all has_good_id cs) (list_all is_plain cs) h).0 in
+    let names : (is_name table ≡ true) × (list_all has_good_id cs ≡ true) = and_parts (is_name table) (list_all has_good_id cs) (and_parts (is_name table && list_all has_good_id cs) (list_all may_be_new cs) h).0 in
     (fresh (table_ids s) table few.tables names.0, all_fresh [] cs (let new : length cs ≤ 2 ^ 60 = few.new in omega (arith, new)) names.1)
 HasFresh-allowed s (RemoveTable table) whole h few = tt
 HasFresh-allowed s (RenameTable table new) whole h few =
     let p : (t : Table) × ((schema_table s table ≡ Some t) × (is_name new ≡ true)) = passes_parts (schema_table s table) (λ t. is_name new) h in
     λ _. fresh (table_ids s) new few.tables p.1.1
 HasFresh-allowed s (AddColumn table c) whole h few =
-    let p : (t : Table) × ((schema_table s table ≡ Some t) × ((is_name c.id && is_plain c) ≡ true)) = passes_parts (schema_table s table) (λ t. is_name c.id && is_plain c) h in
-    fresh (column_ids s table) c.id few.columns (and_parts (is_name c.id) (is_plain c) p.1.1).0
+    let p : (t : Table) × ((schema_table s table ≡ Some t) × ((is_name c.id && may_be_new c) ≡ true)) = passes_parts (schema_table s table) (λ t. is_name c.id && may_be_new c) h in
+    fresh (column_ids s table) c.id few.columns (and_parts (is_name c.id) (may_be_new c) p.1.1).0
 HasFresh-allowed s (RemoveColumn table column) whole h few = tt
 HasFresh-allowed s (RenameColumn table column new) whole h few = λ _. fresh (column_ids s table) new few.columns (new_name s table column new h)
 HasFresh-allowed s (ModifyColumn table c) whole h few = tt

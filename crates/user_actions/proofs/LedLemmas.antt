@@ -1,6 +1,5 @@
 -- The steps by which columns refer to a table under its new id are valid at their places.
-use Rattle.std.proofs.Common.{ℕ, Bool, true, false, cond, not, ◌&&◌, ◌||◌, List, [], ◌∷◌, map, ◌≡◌, refl, sym, ap, subst, ◌∙◌, Option, Some, None, option_map}
-use Rattle.std.proofs.lemmas.Bool.{true≢false}
+use Rattle.std.proofs.Common.{ℕ, Bool, true, false, cond, not, ◌&&◌, ◌||◌, List, [], ◌∷◌, map, ◌≡◌, refl, sym, ap, subst, ◌∙◌, Some, None, option_map}
 use Rattle.std.proofs.lemmas.Slice.Eq.{bytes_eq-Decides}
 use Rattle.std.specs.List.{list_all, AllByRecursion}
 use Rattle.std.specs.Str.{bytes_eq}
@@ -19,13 +18,12 @@ use Rattle.doc_model.specs.Document.{Document, Table, on_grid, renamed, table_id
 use Rattle.doc_model.specs.DocumentLaws.{IsWhole}
 use Rattle.doc_model.specs.Grid.{Grid, cell}
 use Rattle.doc_model.specs.MetadataIds.{is_metadata_id}
-use Rattle.doc_model.specs.Rows.{has}
 use Rattle.doc_model.specs.Schema.{with_schema, plain_tables, resources, rules}
 use Rattle.doc_model.specs.Sound.{IsSoundGrid}
 use Rattle.doc_model.specs.Valid.{all_null, is_new_table, passes, schema_table, valid}
-use Rattle.doc_model.proofs.ByIdsLaws.{bytes_apart, found_all, found_id, has_found}
+use Rattle.doc_model.proofs.ByIdsLaws.{bytes_apart, found_all, has_found}
 use Rattle.doc_model.proofs.ByRowLaws.{apart_ids, find-new_id, find-with_id, has_id-with_id}
-use Rattle.doc_model.proofs.Choices.{both_true, cond_false, each_mapped, each_weaker, map_each, parts_3, true_each}
+use Rattle.doc_model.proofs.Choices.{both_true, cond_false, each_weaker, parts_3, true_each}
 use Rattle.doc_model.proofs.ColumnsKept.{cell-with_info}
 use Rattle.doc_model.proofs.DocumentParts.{absent_parts, applied, passes_parts, schema_table_parts, schema_table_plain}
 use Rattle.doc_model.proofs.RowsLaws.{each_has}

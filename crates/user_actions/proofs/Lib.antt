@@ -4,13 +4,14 @@ pub mod ClearedLemmas
 mod FitLemmas
 mod FreshIdsLemmas
 mod InfoLemmas
+mod ColumnLemmas
 pub mod LedLemmas
 mod LoopLemmas
 mod NumberLemmas
 mod ObjectionLemmas
 pub mod RecordStepLemmas
 pub mod ReferrerLemmas
-mod RetypedLemmas
+mod ModifiedLemmas
 pub mod SchemaStepLemmas
 pub mod StepsValid
 mod UnopposedLemmas

@@ -1,18 +1,16 @@
 -- The steps of schema actions are valid.
-use Rattle.std.proofs.Common.{ℕ, ◌+◌, Bool, true, false, cond, not, ◌&&◌, ◌||◌, List, [], ◌∷◌, ◌++◌, map, length, ◌≡◌, refl, sym, ap, ◌∙◌, Option, Some, None, unwrap_or, arith, codes}
+use Rattle.std.proofs.Common.{ℕ, ◌+◌, Bool, true, false, cond, not, ◌&&◌, ◌||◌, List, [], ◌∷◌, ◌++◌, map, length, ◌≡◌, refl, sym, ap, ◌∙◌, Option, Some, None, arith}
 use Rattle.std.proofs.lemmas.Bool.{and_parts, true≢false}
 use Rattle.std.proofs.lemmas.List.Folds.{list_any-append}
 use Rattle.std.proofs.lemmas.Slice.Eq.{bytes_eq-Decides}
 use Rattle.std.specs.List.{list_all}
 use Rattle.std.specs.Str.{bytes_eq}
-use Rattle.cell_types.specs.declared.column_type.ColType.{ColType}
-use Rattle.cell_types.specs.declared.column_type.ColType.TheVariants as type
 use Rattle.cell_types.specs.NameRule.{is_name}
 use Rattle.doc_model.specs.declared.action.DocAction.TheVariants.{RemoveTable, RenameTable, AddColumn, RemoveColumn, RenameColumn}
 use Rattle.doc_model.specs.declared.column.ColDef.{ColDef}
 use Rattle.doc_model.specs.declared.user_action.UserCol.{UserCol}
 use Rattle.doc_model.specs.ByIds.{are_distinct, find_id, has_id}
-use Rattle.doc_model.specs.Column.{column_id, column_row, is_sound_info, is_sound_type}
+use Rattle.doc_model.specs.Column.{column_id, column_row, is_sound_info}
 use Rattle.doc_model.specs.Document.{Table, Document, table_id}
 use Rattle.doc_model.specs.Grid.{Grid}
 use Rattle.doc_model.specs.MetadataIds.{is_metadata_id, tables_id, columns_id}
@@ -26,10 +24,10 @@ use Rattle.doc_model.proofs.TableSteps.{free_from, one_free}
 use Rattle.doc_model.proofs.TimesLaws.{once_ascending}
 use Rattle.doc_readers.specs.Parts.{grid_at}
 use Rattle.name_rules.specs.FreeName.{free_name, is_taken}
-use Rattle.user_actions.specs.Infos.{type_or}
+use Rattle.user_actions.specs.Columns.{info_said, may_be_new, new_info}
 use Rattle.user_actions.specs.StepLaws.{AreFresh}
-use Rattle.user_actions.specs.Steps.{column_ids, column_said, info_said, last_row, new_columns, numbers_after, table_ids, table_said}
-use Rattle.user_actions.proofs.InfoLemmas.{said_sound}
+use Rattle.user_actions.specs.Steps.{column_ids, column_said, last_row, new_columns, numbers_after, table_ids, table_said}
+use Rattle.user_actions.proofs.ColumnLemmas.{new_sound}
 use Rattle.user_actions.proofs.RecordStepLemmas.{above_from_one, above_none_in, has_greater, numbers_above, numbers_ascend}
 
 -- ---- ids
@@ -92,16 +90,13 @@ valid-rename_column s table column new n h free named =
 
 -- ---- what is said of columns
 
-pub info_sound : (other : ColType) (c : UserCol) → is_sound_type other ≡ true → is_sound_info (info_said other c) ≡ true
-info_sound other c h = both_true (is_sound_type (unwrap_or (type_or other c.ty) other) && true) true (both_true (is_sound_type (unwrap_or (type_or other c.ty) other)) true (said_sound other h c.ty) refl) refl
-
-pub valid-add_column : (s : Document) (table : List ℕ) (c : UserCol) (test : Table → Bool) → passes (schema_table s table) test ≡ true
+pub valid-add_column : (s : Document) (table : List ℕ) (c : UserCol) (test : Table → Bool) → passes (schema_table s table) test ≡ true → may_be_new c ≡ true
     → is_taken (column_ids s table) (column_said s table c).id ≡ false → is_name (column_said s table c).id ≡ true → valid s (AddColumn table (column_said s table c)) ≡ true
-valid-add_column s table c test h free named =
+valid-add_column s table c test h new free named =
     let d : ColDef = column_said s table c in
     passes_weaker (schema_table s table) test (λ t. is_new_column t.grid d.id && are_free s columns_id (d.row ∷ []) && is_sound_info d.info)
     (λ t found _. both_true (is_new_column t.grid d.id && are_free s columns_id (d.row ∷ [])) (is_sound_info d.info)
-    (both_true (is_new_column t.grid d.id) (are_free s columns_id (d.row ∷ [])) (new_in s table d.id t found free named) (next_free s columns_id)) (info_sound type.Any c refl)) h
+    (both_true (is_new_column t.grid d.id) (are_free s columns_id (d.row ∷ [])) (new_in s table d.id t found free named) (next_free s columns_id)) (new_sound c new)) h
 
 -- ---- the columns of a new table
 
@@ -140,11 +135,12 @@ names-new_columns taken row (c ∷ cs) fresh =
     both_true (is_name (free_name taken c.id)) (list_all (λ (d : ColDef). is_name d.id) (new_columns (taken ++ free_name taken c.id ∷ []) (row + 1) cs)) fresh.0.1
     (names-new_columns (taken ++ free_name taken c.id ∷ []) (row + 1) cs fresh.1)
 
-infos-new_columns : (taken : List (List ℕ)) (row : ℕ) (cs : List UserCol) → list_all (λ (d : ColDef). is_sound_info d.info) (new_columns taken row cs) ≡ true
-infos-new_columns taken row [] = refl
-infos-new_columns taken row (c ∷ cs) =
-    both_true (is_sound_info (info_said type.Any c)) (list_all (λ (d : ColDef). is_sound_info d.info) (new_columns (taken ++ free_name taken c.id ∷ []) (row + 1) cs)) (info_sound type.Any c refl)
-    (infos-new_columns (taken ++ free_name taken c.id ∷ []) (row + 1) cs)
+infos-new_columns : (taken : List (List ℕ)) (row : ℕ) (cs : List UserCol) → list_all may_be_new cs ≡ true → list_all (λ (d : ColDef). is_sound_info d.info) (new_columns taken row cs) ≡ true
+infos-new_columns taken row [] h = refl
+infos-new_columns taken row (c ∷ cs) h =
+    let parts : (may_be_new c ≡ true) × (list_all may_be_new cs ≡ true) = and_parts (may_be_new c) (list_all may_be_new cs) h in
+    both_true (is_sound_info (info_said (new_info c) c)) (list_all (λ (d : ColDef). is_sound_info d.info) (new_columns (taken ++ free_name taken c.id ∷ []) (row + 1) cs)) (new_sound c parts.0)
+    (infos-new_columns (taken ++ free_name taken c.id ∷ []) (row + 1) cs parts.1)
 
 columns_free : (s : Document) (cs : List UserCol) → are_free s columns_id (map column_row (new_columns [] (last_row s columns_id) cs)) ≡ true
 columns_free s cs =
@@ -155,8 +151,8 @@ columns_free s cs =
     (ap (λ rows. none_in (numbers_after last (length cs)) rows) (rows_of-grid s columns_id) ∙ above_none_in (numbers_after last (length cs)) (grid_at s columns_id).rows (numbers_above last (length cs)))
 
 pub valid-add_table : (s : Document) (table : List ℕ) (cs : List UserCol) → is_taken (table_ids s) (free_name (table_ids s) table) ≡ false → is_name (free_name (table_ids s) table) ≡ true → AreFresh [] cs
-    → valid s (table_said s table cs) ≡ true
-valid-add_table s table cs free named fresh =
+    → list_all may_be_new cs ≡ true → valid s (table_said s table cs) ≡ true
+valid-add_table s table cs free named fresh new =
     let n : List ℕ = free_name (table_ids s) table in
     let row : ℕ = last_row s tables_id + 1 in
     let columns : List ColDef = new_columns [] (last_row s columns_id) cs in
@@ -165,7 +161,7 @@ valid-add_table s table cs free named fresh =
     (both_true ((is_new_table s n && are_free s tables_id (row ∷ [])) && are_distinct column_id columns) (list_all (λ (d : ColDef). is_name d.id) columns)
     (both_true (is_new_table s n && are_free s tables_id (row ∷ [])) (are_distinct column_id columns)
     (both_true (is_new_table s n) (are_free s tables_id (row ∷ [])) (new_id table_id s n free named) (next_free s tables_id))
-    (distinct-new_columns [] (last_row s columns_id) cs fresh)) (names-new_columns [] (last_row s columns_id) cs fresh)) (columns_free s cs)) (infos-new_columns [] (last_row s columns_id) cs)
+    (distinct-new_columns [] (last_row s columns_id) cs fresh)) (names-new_columns [] (last_row s columns_id) cs fresh)) (columns_free s cs)) (infos-new_columns [] (last_row s columns_id) cs new)
 
 pub valid-remove_column : (s : Document) (table column : List ℕ) → passes (schema_table s table) (λ t. has_id column_id t.grid.columns column) ≡ true → valid s (RemoveColumn table column) ≡ true
 valid-remove_column s table column h = h

@@ -1,5 +1,7 @@
 -- The steps of user actions are valid, each at its place.
-use Rattle.std.proofs.Common.{ℕ, Bool, true, false, cond, ◌&&◌, List, [], ◌∷◌, map, ◌≡◌, refl, sym, ◌∙◌}
+use Rattle.std.proofs.Common.{ℕ, Bool, true, false, cond, ◌&&◌, List, [], ◌∷◌, map, ◌≡◌, refl, sym, ◌∙◌, Some}
+use Rattle.std.proofs.lemmas.Bool.{and_parts}
+use Rattle.std.specs.List.{list_all}
 use Rattle.std.specs.Str.{bytes_eq}
 use Rattle.cell_types.specs.NameRule.{is_name}
 use Rattle.doc_model.specs.declared.action.DocAction.{DocAction}
@@ -8,24 +10,26 @@ use Rattle.doc_model.specs.declared.action.Step.{Step}
 use Rattle.doc_model.specs.declared.user_action.UserAction.{UserAction}
 use Rattle.doc_model.specs.declared.user_action.UserAction.TheVariants.{Add, Update, Remove, AddTable, RemoveTable, RenameTable, AddColumn, RemoveColumn, RenameColumn, ModifyColumn}
 use Rattle.doc_model.specs.Apply.{all_valid, apply}
-use Rattle.doc_model.specs.Document.{Document, table_id}
+use Rattle.doc_model.specs.Document.{Document, Table, table_id}
 use Rattle.doc_model.specs.DocumentLaws.{IsWhole}
-use Rattle.doc_model.specs.Valid.{valid}
+use Rattle.doc_model.specs.Valid.{schema_table, valid}
 use Rattle.doc_model.specs.ViewEdits.{if_any}
 use Rattle.doc_model.specs.WellFormed.{has_whole_columns}
 use Rattle.doc_model.proofs.Choices.{both_true}
+use Rattle.doc_model.proofs.DocumentParts.{passes_parts}
 use Rattle.name_rules.specs.FreeName.{free_name}
 use Rattle.user_actions.specs.Allowed.{is_allowed}
-use Rattle.user_actions.specs.Infos.{is_plain}
+use Rattle.user_actions.specs.Columns.{may_be_new}
 use Rattle.user_actions.specs.StepLaws.{action_of, HasFresh}
 use Rattle.user_actions.specs.Marked.{direct}
+use Rattle.user_actions.specs.Objections.{has_good_id}
 use Rattle.user_actions.specs.References.{clearings, led_to, referrers}
 use Rattle.user_actions.specs.Steps.{all_fitted, column_ids, column_said, last_row, numbers_after, renaming, row_ids, steps_of, table_ids, table_said}
 use Rattle.user_actions.proofs.ClearedLemmas.{valid_clearings}
 use Rattle.user_actions.proofs.LedLemmas.{valid-renaming}
 use Rattle.user_actions.proofs.FitLemmas.{all_base-fit, is_base-fit}
 use Rattle.user_actions.proofs.RecordStepLemmas.{valid-add, valid-update, valid-remove}
-use Rattle.user_actions.proofs.RetypedLemmas.{valid-modified}
+use Rattle.user_actions.proofs.ModifiedLemmas.{valid-modified}
 use Rattle.user_actions.proofs.SchemaStepLemmas.{is_taken-ids, valid-add_table, valid-remove_table, valid-rename_table, valid-add_column, valid-remove_column, valid-rename_column}
 
 -- one action
@@ -54,7 +58,8 @@ all_valid-steps_of s w (Remove table single rows) h whole fresh =
     let a : DocAction = action.BulkRemove table (row_ids rows) in
     let v : valid s a ≡ true = valid-remove all_base-fit s table rows h in
     both_true (valid s a) (all_valid (apply s a) (map action_of (clearings s table (row_ids rows) (referrers s table table false)))) v (valid_clearings s w table (row_ids rows) v)
-all_valid-steps_of s w (AddTable table cs) h whole fresh = one_valid s (table_said s table cs) (valid-add_table s table cs fresh.0.0 fresh.0.1 fresh.1)
+all_valid-steps_of s w (AddTable table cs) h whole fresh =
+    one_valid s (table_said s table cs) (valid-add_table s table cs fresh.0.0 fresh.0.1 fresh.1 (and_parts (is_name table && list_all has_good_id cs) (list_all may_be_new cs) h).1)
 all_valid-steps_of s w (RemoveTable table) h whole fresh = one_valid s (action.RemoveTable table) (valid-remove_table s table (λ t. true) h)
 all_valid-steps_of s w (RenameTable table new) h whole fresh =
     unless_valid s (bytes_eq table new) (renaming s table (free_name (table_ids s) new))
@@ -64,7 +69,10 @@ all_valid-steps_of s w (RenameTable table new) h whole fresh =
     let v : valid s a ≡ true = valid-rename_table s table n (λ t. is_name new) h (fresh differs).0 (fresh differs).1 in
     both_true (valid s a) (all_valid (apply s a) (map action_of (map (led_to n) (referrers s table n true)))) v
     (valid-renaming s w table n (λ t. is_name new) h (fresh differs).1 (sym (is_taken-ids table_id s n) ∙ (fresh differs).0) v))
-all_valid-steps_of s w (AddColumn table c) h whole fresh = one_valid s (action.AddColumn table (column_said s table c)) (valid-add_column s table c (λ t. is_name c.id && is_plain c) h fresh.0 fresh.1)
+all_valid-steps_of s w (AddColumn table c) h whole fresh =
+    let p : (t : Table) × ((schema_table s table ≡ Some t) × ((is_name c.id && may_be_new c) ≡ true)) = passes_parts (schema_table s table) (λ t. is_name c.id && may_be_new c) h in
+    one_valid s (action.AddColumn table (column_said s table c))
+    (valid-add_column s table c (λ t. is_name c.id && may_be_new c) h (and_parts (is_name c.id) (may_be_new c) p.1.1).1 fresh.0 fresh.1)
 all_valid-steps_of s w (RemoveColumn table column) h whole fresh = one_valid s (action.RemoveColumn table column) (valid-remove_column s table column h)
 all_valid-steps_of s w (RenameColumn table column new) h whole fresh =
     other_valid s (bytes_eq column new) (action.RenameColumn table column (free_name (column_ids s table) new))

@@ -24,7 +24,7 @@ use Rattle.doc_model.proofs.Choices.{both_true}
 use Rattle.doc_model.specs.declared.refusal.Refusal.{Refusal}
 use Rattle.doc_model.specs.declared.refusal.Refusal.TheVariants as refusal
 use Rattle.user_actions.specs.Allowed.{may_give, may_name}
-use Rattle.user_actions.specs.Infos.{is_plain}
+use Rattle.user_actions.specs.Columns.{may_be_new, may_become}
 use Rattle.user_actions.specs.Objections.{against, have_no_duplicates, has_base, has_good_id, in_records, in_schema, in_table, is_computed, is_row, is_shown, on_change, on_columns, on_rows, on_values, to_records, to_schema}
 use Rattle.user_actions.specs.Unopposed.{IsColumnOf, IsTableOf, UnopposedLaw}
 
@@ -150,19 +150,16 @@ rows_none s t p rows next h =
 values_none : (ks : List UserColumn) → on_values ks ≡ None → list_all has_base ks ≡ true
 values_none ks h = lone_none (list_all has_base ks) refusal.BadValue h
 
-change_none : (s : Document) (t : ViewTable) (p : IsTableOf s t) (c : UserCol) → on_change t c ≡ None → (is_data p.table.grid c.id && is_plain c) ≡ true
+change_none : (s : Document) (t : ViewTable) (p : IsTableOf s t) (c : UserCol) → on_change t c ≡ None → passes (find_id column_id c.id p.table.grid.columns) (λ d. may_become d.info.is_formula c) ≡ true
 change_none s t p c h =
-    elim (find_id shown_id c.id t.columns) as (λ (o : Option ViewCol). find_id shown_id c.id t.columns ≡ o → elim o as (λ _. Option Refusal) [ None ↦ Some refusal.NoSuchColumn | Some d ↦ against (d.is_formula || not (is_plain c)) refusal.BadValue None ] ≡ None
-    → (is_data p.table.grid c.id && is_plain c) ≡ true) [
+    elim (find_id shown_id c.id t.columns) as (λ (o : Option ViewCol). find_id shown_id c.id t.columns ≡ o → elim o as (λ _. Option Refusal) [ None ↦ Some refusal.NoSuchColumn | Some d ↦ against (not (may_become d.is_formula c)) refusal.BadValue None ] ≡ None
+    → passes (find_id column_id c.id p.table.grid.columns) (λ d. may_become d.info.is_formula c) ≡ true) [
       | None ↦ λ is e. absurd (cc)
       | Some d ↦ λ found e.
-          let b : (d.is_formula ≡ false) × (not (is_plain c) ≡ false) = or_parts d.is_formula (not (is_plain c)) (lone_false (d.is_formula || not (is_plain c)) refusal.BadValue e) in
-          both_true (is_data p.table.grid c.id) (is_plain c) (column_data p.table t.columns p.columns c.id d found b.0) (not_false (is_plain c) b.1)
+          let q : IsColumnOf p.table d = found_all shown_id (IsColumnOf p.table) c.id t.columns d p.columns found in
+          let known : find_id column_id c.id p.table.grid.columns ≡ Some q.column = ap (λ id. find_id column_id id p.table.grid.columns) (sym (found_id shown_id c.id t.columns d found)) ∙ q.found in
+          ap (λ o. passes o (λ (d : ColDef). may_become d.info.is_formula c)) known ∙ ap (λ b. may_become b c) q.same_kind ∙ lone_none (may_become d.is_formula c) refusal.BadValue e
     ] refl h
-  where
-    not_false : (b : Bool) → not b ≡ false → b ≡ true
-    not_false true e = refl
-    not_false false e = absurd (true≢false e)
 
 pub is_allowed-unopposed : UnopposedLaw
 is_allowed-unopposed s (Add table single count has_row_ids ks) u =
@@ -176,18 +173,18 @@ is_allowed-unopposed s (Update table single rows ks) u =
 is_allowed-unopposed s (Remove table single rows) u =
     records_none s u.view u.shown table (λ t. to_records t (Remove table single rows)) (λ t. may_name t.grid.rows rows) (λ t p none. (rows_none s t p rows None none).0) u.none
 is_allowed-unopposed s (AddTable table cs) u =
-    let a : (is_metadata_id table ≡ false) × (against (not (is_name table && list_all has_good_id cs)) refusal.BadName (against (not (list_all is_plain cs)) refusal.BadValue None) ≡ None) = against_none (is_metadata_id table) refusal.MetaTable (against (not (is_name table && list_all has_good_id cs)) refusal.BadName (against (not (list_all is_plain cs)) refusal.BadValue None)) u.none in
-    let b : ((is_name table && list_all has_good_id cs) ≡ true) × (against (not (list_all is_plain cs)) refusal.BadValue None ≡ None) = needs_none (is_name table && list_all has_good_id cs) refusal.BadName (against (not (list_all is_plain cs)) refusal.BadValue None) a.1 in
-    both_true (is_name table && list_all has_good_id cs) (list_all is_plain cs) b.0 (lone_none (list_all is_plain cs) refusal.BadValue b.1)
+    let a : (is_metadata_id table ≡ false) × (against (not (is_name table && list_all has_good_id cs)) refusal.BadName (against (not (list_all may_be_new cs)) refusal.BadValue None) ≡ None) = against_none (is_metadata_id table) refusal.MetaTable (against (not (is_name table && list_all has_good_id cs)) refusal.BadName (against (not (list_all may_be_new cs)) refusal.BadValue None)) u.none in
+    let b : ((is_name table && list_all has_good_id cs) ≡ true) × (against (not (list_all may_be_new cs)) refusal.BadValue None ≡ None) = needs_none (is_name table && list_all has_good_id cs) refusal.BadName (against (not (list_all may_be_new cs)) refusal.BadValue None) a.1 in
+    both_true (is_name table && list_all has_good_id cs) (list_all may_be_new cs) b.0 (lone_none (list_all may_be_new cs) refusal.BadValue b.1)
 is_allowed-unopposed s (RemoveTable table) u =
     schema_none s u.view u.shown table (λ t. to_schema t (RemoveTable table)) (λ t. true) (λ t p none. refl) u.none
 is_allowed-unopposed s (RenameTable table new) u =
     schema_none s u.view u.shown table (λ t. to_schema t (RenameTable table new)) (λ t. is_name new) (λ t p none. lone_none (is_name new) refusal.BadName none) u.none
 is_allowed-unopposed s (AddColumn table c) u =
-    schema_none s u.view u.shown table (λ t. to_schema t (AddColumn table c)) (λ t. is_name c.id && is_plain c)
+    schema_none s u.view u.shown table (λ t. to_schema t (AddColumn table c)) (λ t. is_name c.id && may_be_new c)
     (λ t p none.
-    let a : (is_name c.id ≡ true) × (against (not (is_plain c)) refusal.BadValue None ≡ None) = needs_none (is_name c.id) refusal.BadName (against (not (is_plain c)) refusal.BadValue None) none in
-    both_true (is_name c.id) (is_plain c) a.0 (lone_none (is_plain c) refusal.BadValue a.1)) u.none
+    let a : (is_name c.id ≡ true) × (against (not (may_be_new c)) refusal.BadValue None ≡ None) = needs_none (is_name c.id) refusal.BadName (against (not (may_be_new c)) refusal.BadValue None) none in
+    both_true (is_name c.id) (may_be_new c) a.0 (lone_none (may_be_new c) refusal.BadValue a.1)) u.none
 is_allowed-unopposed s (RemoveColumn table column) u =
     schema_none s u.view u.shown table (λ t. to_schema t (RemoveColumn table column)) (λ t. has_id column_id t.grid.columns column)
     (λ t p none. column_has p.table t.columns p.columns column (lone_none (has_id shown_id t.columns column) refusal.NoSuchColumn none)) u.none
@@ -197,4 +194,4 @@ is_allowed-unopposed s (RenameColumn table column new) u =
     let a : (has_id shown_id t.columns column ≡ true) × (against (not (is_name new)) refusal.BadName None ≡ None) = needs_none (has_id shown_id t.columns column) refusal.NoSuchColumn (against (not (is_name new)) refusal.BadName None) none in
     both_true (has_id column_id p.table.grid.columns column) (is_name new) (column_has p.table t.columns p.columns column a.0) (lone_none (is_name new) refusal.BadName a.1)) u.none
 is_allowed-unopposed s (ModifyColumn table c) u =
-    schema_none s u.view u.shown table (λ t. to_schema t (ModifyColumn table c)) (λ t. is_data t.grid c.id && is_plain c) (λ t p none. change_none s t p c none) u.none
+    schema_none s u.view u.shown table (λ t. to_schema t (ModifyColumn table c)) (λ t. passes (find_id column_id c.id t.grid.columns) (λ d. may_become d.info.is_formula c)) (λ t p none. change_none s t p c none) u.none

@@ -6,12 +6,12 @@ use Rattle.doc_model.specs.declared.column.ColDef.{ColDef}
 use Rattle.doc_model.specs.declared.user_action.UserAction.{UserAction}
 use Rattle.doc_model.specs.declared.user_action.UserAction.TheVariants.{Add, Update, Remove, AddTable, RemoveTable, RenameTable, AddColumn, RemoveColumn, RenameColumn, ModifyColumn}
 use Rattle.doc_model.specs.declared.user_action.UserColumn.{UserColumn}
-use Rattle.doc_model.specs.ByIds.{has_id}
+use Rattle.doc_model.specs.ByIds.{find_id, has_id}
 use Rattle.doc_model.specs.Column.{column_id}
 use Rattle.doc_model.specs.Document.{Document}
 use Rattle.doc_model.specs.Grid.{Grid}
 use Rattle.doc_model.specs.Valid.{is_data, passes, schema_table}
-use Rattle.user_actions.specs.Infos.{is_plain}
+use Rattle.user_actions.specs.Columns.{may_be_new, may_become}
 use Rattle.user_actions.specs.Objections.{have_no_duplicates, has_base, has_good_id, is_row}
 
 abbrev pub has_name : UserColumn → Bool
@@ -32,13 +32,14 @@ is_allowed s (Update table single rows ks) = passes (schema_table s table) (λ t
     may_name t.grid.rows rows && list_all (may_give t.grid) ks)
 is_allowed s (Remove table single rows) = passes (schema_table s table) (λ t.
     may_name t.grid.rows rows)
-is_allowed s (AddTable table cs) = is_name table && list_all has_good_id cs && list_all is_plain cs
+is_allowed s (AddTable table cs) =
+    is_name table && list_all has_good_id cs && list_all may_be_new cs
 is_allowed s (RemoveTable table) = passes (schema_table s table) (λ t. true)
 is_allowed s (RenameTable table new) = passes (schema_table s table) (λ t. is_name new)
-is_allowed s (AddColumn table c) = passes (schema_table s table) (λ t. is_name c.id && is_plain c)
+is_allowed s (AddColumn table c) = passes (schema_table s table) (λ t. is_name c.id && may_be_new c)
 is_allowed s (RemoveColumn table column) = passes (schema_table s table) (λ t.
     has_id column_id t.grid.columns column)
 is_allowed s (RenameColumn table column new) = passes (schema_table s table) (λ t.
     has_id column_id t.grid.columns column && is_name new)
 is_allowed s (ModifyColumn table c) = passes (schema_table s table) (λ t.
-    is_data t.grid c.id && is_plain c)
+    passes (find_id column_id c.id t.grid.columns) (λ d. may_become d.info.is_formula c))

@@ -1,12 +1,10 @@
--- What a user says of a column. Formulas are not built yet, and references wait for them.
-use Rattle.std.specs.Prelude.{ℕ, Bool, true, false, cond, not, ◌&&◌, nat_eq, List, [], ◌∷◌, Option, Some, None, codes, unwrap_or, is_some}
+-- The types that texts name.
+use Rattle.std.specs.Prelude.{ℕ, cond, nat_eq, List, [], ◌∷◌, Option, Some, None, codes}
 use Rattle.std.specs.Option.{option_map}
 use Rattle.std.specs.Str.{bytes_eq}
 use Rattle.cell_types.specs.NameRule.{is_name}
 use Rattle.cell_types.specs.declared.column_type.ColType.{ColType}
 use Rattle.cell_types.specs.declared.column_type.ColType.TheVariants as type
-use Rattle.doc_model.specs.declared.user_action.UserCol.{UserCol}
-use Rattle.doc_model.specs.Column.{is_empty}
 use Rattle.doc_model.specs.Records.{or_else}
 
 -- the type where the text is its name, or else the next one
@@ -45,16 +43,3 @@ type_of text = or_else (plain_type_of text) (reference_type_of text)
 abbrev pub type_or : ColType → Option (List ℕ) → Option ColType
 type_or other None = Some other
 type_or other (Some text) = type_of text
-
--- whether a type that is given is one, but for references
-abbrev pub has_type : UserCol → Bool
-has_type c = elim c.ty [ None ↦ true | Some text ↦ is_some (plain_type_of text) ]
-
--- whether no formula is given, and the column is not said to have one
-abbrev pub has_no_formula : UserCol → Bool
-has_no_formula c =
-    not (unwrap_or c.is_formula false) && elim c.formula [ None ↦ true | Some text ↦ is_empty text ]
-
--- whether a data column may be as the user says
-abbrev pub is_plain : UserCol → Bool
-is_plain c = has_type c && has_no_formula c

@@ -1,10 +1,12 @@
 pub mod Infos
+pub mod Columns
 pub mod Kinds
 pub mod Objections
 pub mod ObjectionLaws
 pub mod Marked
 pub mod CellUpdates
 pub mod References
+pub mod Modified
 pub mod Steps
 pub mod StepLaws
 pub mod Allowed

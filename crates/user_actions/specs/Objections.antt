@@ -1,5 +1,5 @@
 -- What stands against a user action, told from the action and its user's view alone.
-use Rattle.std.specs.Prelude.{ℕ, ℤ, Bool, true, false, cond, not, ◌&&◌, ◌||◌, List, [], ◌∷◌, Option, Some, None}
+use Rattle.std.specs.Prelude.{ℕ, ℤ, Bool, true, false, cond, not, ◌&&◌, List, [], ◌∷◌, Option, Some, None}
 use Rattle.std.specs.List.{list_all, list_any}
 use Rattle.std.specs.Ordering.{int_eq}
 use Rattle.cell_types.specs.NameRule.{is_name}
@@ -18,7 +18,7 @@ use Rattle.doc_model.specs.Rows.{has}
 use Rattle.doc_model.specs.ViewEdits.{shown_id}
 use Rattle.doc_model.specs.declared.refusal.Refusal.{Refusal}
 use Rattle.doc_model.specs.declared.refusal.Refusal.TheVariants as refusal
-use Rattle.user_actions.specs.Infos.{is_plain}
+use Rattle.user_actions.specs.Columns.{may_be_new, may_become}
 use Rattle.user_actions.specs.Kinds.{is_about_rows, table_of}
 
 -- the objection where it applies, or else the next one
@@ -89,16 +89,16 @@ on_column t column next = against (not (has_id shown_id t.columns column)) refus
 abbrev pub on_name : List ℕ → Option Refusal → Option Refusal
 on_name id next = against (not (is_name id)) refusal.BadName next
 
--- what is said of a column
+-- what is said of a new column
 abbrev pub on_info : UserCol → Option Refusal
-on_info c = against (not (is_plain c)) refusal.BadValue None
+on_info c = against (not (may_be_new c)) refusal.BadValue None
 
--- what is said of a column that is there; one with a formula cannot be changed yet
+-- what is said of a column that is there
 abbrev pub on_change : ViewTable → UserCol → Option Refusal
 on_change t c =
     elim (find_id shown_id c.id t.columns) [
       | None ↦ Some refusal.NoSuchColumn
-      | Some d ↦ against (d.is_formula || not (is_plain c)) refusal.BadValue None
+      | Some d ↦ against (not (may_become d.is_formula c)) refusal.BadValue None
     ]
 
 abbrev pub has_good_id : UserCol → Bool
@@ -108,7 +108,7 @@ has_good_id c = is_name c.id
 abbrev pub on_table : List ℕ → List UserCol → Option Refusal
 on_table table cs =
     against (not (is_name table && list_all has_good_id cs)) refusal.BadName
-    (against (not (list_all is_plain cs)) refusal.BadValue None)
+    (against (not (list_all may_be_new cs)) refusal.BadValue None)
 
 -- a record action on a table that is there
 abbrev pub to_records : ViewTable → UserAction → Option Refusal

@@ -16,7 +16,7 @@ use Rattle.doc_model.specs.declared.column.ColInfo.{ColInfo}
 use Rattle.doc_model.specs.ByIds.{precedes}
 use Rattle.doc_model.specs.Document.{Document, table_id}
 use Rattle.doc_model.specs.MetadataIds.{is_metadata_id, is_schema_id}
-use Rattle.doc_model.specs.Rows.{has, without}
+use Rattle.doc_model.specs.Rows.{without}
 use Rattle.doc_readers.specs.Parts.{grid_at}
 use Rattle.user_actions.specs.CellUpdates.{update_changed}
 use Rattle.user_actions.specs.declared.referrers.Referrer.{Referrer}

@@ -1,5 +1,5 @@
 -- The document actions that a user action stands for.
-use Rattle.std.specs.Prelude.{ℕ, suc, zero, ℤ, ◌+◌, false, true, cond, not, List, [], ◌∷◌, ◌++◌, map, filter, length, max, Some, None, unwrap_or}
+use Rattle.std.specs.Prelude.{ℕ, suc, zero, ℤ, ◌+◌, true, false, cond, List, [], ◌∷◌, ◌++◌, map, length, max, Some, None, unwrap_or}
 use Rattle.std.specs.Str.{bytes_eq}
 use Rattle.cell_types.specs.declared.column_type.ColType.{ColType}
 use Rattle.cell_types.specs.declared.column_type.ColType.TheVariants as type
@@ -10,7 +10,6 @@ use Rattle.doc_model.specs.declared.action.DocAction.TheVariants as action
 use Rattle.doc_model.specs.declared.action.Step.{Step}
 use Rattle.doc_model.specs.declared.column.CellColumn.{CellColumn}
 use Rattle.doc_model.specs.declared.column.ColDef.{ColDef}
-use Rattle.doc_model.specs.declared.column.ColInfo.{ColInfo}
 use Rattle.doc_model.specs.declared.user_action.UserAction.{UserAction}
 use Rattle.doc_model.specs.declared.user_action.UserAction.TheVariants as user
 use Rattle.doc_model.specs.declared.user_action.UserCol.{UserCol}
@@ -21,13 +20,12 @@ use Rattle.doc_model.specs.Counts.{greatest}
 use Rattle.doc_model.specs.Document.{Document, table_id}
 use Rattle.doc_model.specs.Grid.{Grid}
 use Rattle.doc_model.specs.MetadataIds.{tables_id, columns_id}
-use Rattle.doc_model.specs.Same.{same_type}
 use Rattle.doc_model.specs.ViewEdits.{if_any}
 use Rattle.doc_readers.specs.Parts.{grid_at}
 use Rattle.name_rules.specs.FreeName.{free_name}
-use Rattle.user_actions.specs.CellUpdates.{update_changed}
-use Rattle.user_actions.specs.Infos.{type_or}
+use Rattle.user_actions.specs.Columns.{info_said, new_info}
 use Rattle.user_actions.specs.Marked.{direct}
+use Rattle.user_actions.specs.Modified.{modified}
 use Rattle.user_actions.specs.References.{clearings, led_to, referrers}
 
 -- the greatest row of a table, 0 where it has none
@@ -54,15 +52,10 @@ all_fitted s table ks = map (fitted (grid_at s table)) ks
 abbrev pub row_ids : List ℤ → List ℕ
 row_ids rows = map (λ n. unwrap_or (row_number n) 0) rows
 
--- what a data column becomes as the user says; a type that is not given stays as it was
-abbrev pub info_said : ColType → UserCol → ColInfo
-info_said other c =
-    record { ty = unwrap_or (type_or other c.ty) other; is_formula = false; formula = [] }
-
 -- a new column beside those of these ids, which that row describes
 abbrev pub new_column : List (List ℕ) → ℕ → UserCol → ColDef
 new_column taken row c =
-    record { id = free_name taken c.id; info = info_said type.Any c; row = row }
+    record { id = free_name taken c.id; info = info_said (new_info c) c; row = row }
 
 -- new columns, each beside those before it, and the rows after that one
 abbrev pub new_columns : List (List ℕ) → ℕ → List UserCol → List ColDef
@@ -86,21 +79,6 @@ abbrev pub table_said : Document → List ℕ → List UserCol → DocAction
 table_said s table cs =
     action.AddTable (free_name (table_ids s) table) (last_row s tables_id + 1)
     (new_columns [] (last_row s columns_id) cs)
-
--- a column of another type, and then the cells that this changes
-abbrev pub retyped : List ℕ → Grid ColDef → ColDef → ColInfo → List Step
-retyped table g d info =
-    cond (same_type d.info.ty info.ty) []
-    (direct (action.ModifyColumn table d.id info)
-    ∷ update_changed table g d.id (fit info.ty) g.rows)
-
--- a column as the user says
-abbrev pub modified : List ℕ → Grid ColDef → UserCol → List Step
-modified table g c =
-    elim (find_id column_id c.id g.columns) [
-      | None ↦ []
-      | Some d ↦ retyped table g d (info_said d.info.ty c)
-    ]
 
 -- a table under a new id, and then the columns that refer to it
 abbrev pub renaming : Document → List ℕ → List ℕ → List Step

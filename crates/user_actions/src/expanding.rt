@@ -12,9 +12,9 @@ ghost use Rattle.user_actions.specs.StepLaws.{HasFresh, action_of};
 ghost use Rattle.user_actions.specs.Marked.{direct};
 ghost use Rattle.user_actions.specs.Steps.{last_new_row, steps_of};
 
+use crate::modifying::modify_steps;
 use crate::record_steps::{add_steps, direct, remove_steps, update_steps};
 use crate::refusing::table_of;
-use crate::retyping::modify_steps;
 use crate::schema_steps::{
     add_column_steps, add_table_steps, rename_column_steps, rename_table_steps,
 };
@@ -119,9 +119,9 @@ fn makes_rows(action: &UserAction) -> bool
 /// The document actions that a user action stands for, in their order; nothing where a new row
 /// would pass the last row id, though they are valid there too. Limits are not asked here.
 ///
-/// Errors: out of memory. Cost: the rows and values that are given; a new type of a column costs
-/// all its cells, and a new id the ids beside it. Where records go or a table is renamed, a walk
-/// over all columns, and where records go over all cells of those that refer to the table.
+/// Errors: out of memory. Cost: the rows and values that are given; a column that changes costs all
+/// its cells, and a new id the ids beside it. Where records go or a table is renamed, a walk over
+/// all columns, and where records go over all cells of those that refer to the table.
 /// Source: docs/DEFINITIONS.md, "user_actions".
 pub fn steps<D: DocTables>(
     alloc: Global,

@@ -1,12 +1,11 @@
-//! What a user says of a column.
+//! The types that texts name.
 
-ghost use Rattle.std.specs.Prelude.{◌≡◌, true, Some, None, IfOk, IfSome, codes, is_some, unwrap_or};
+ghost use Rattle.std.specs.Prelude.{◌≡◌, true, Some, None, IfOk, IfSome, codes, is_some};
 ghost use Rattle.std.specs.Option.{option_copied};
 ghost use Rattle.cell_types.specs.NameRule.{is_name};
-ghost use Rattle.user_actions.specs.Infos.{behind, has_no_formula, has_type, is_plain, name_behind, named, plain_type_of, reference_type_of, type_of};
+ghost use Rattle.user_actions.specs.Infos.{behind, name_behind, named, plain_type_of, reference_type_of, type_of};
 
 use cell_types::ColType;
-use doc_model::UserCol;
 use name_rules::{is_name, name_of};
 use std::alloc::{AllocError, Global};
 
@@ -86,30 +85,16 @@ pub(crate) fn type_of(alloc: Global, text: &str) -> Result<Option<ColType>, Allo
     }
 }
 
-fn has_type(column: &UserCol) -> bool
-    ensures { result ≡ has_type column.now }
+// Whether a text names a type of references.
+fn is_reference_type(text: &str) -> bool
+    ensures { result ≡ is_some (reference_type_of text.now) }
 {
-    match &column.ty {
-        Some(text) => plain_type_of(text.as_str()).is_some(),
-        None => true,
-    }
+    name_behind("Ref:", text).is_some() || name_behind("RefList:", text).is_some()
 }
 
-fn has_no_formula(column: &UserCol) -> bool
-    ensures { result ≡ has_no_formula column.now }
+/// Whether a text names a type.
+pub(crate) fn is_type(text: &str) -> bool
+    ensures { result ≡ is_some (type_of text.now) }
 {
-    if let Some(true) = column.is_formula {
-        return false;
-    }
-    match &column.formula {
-        Some(text) => text.len() == 0,
-        None => true,
-    }
-}
-
-/// Whether a data column may be as the user says.
-pub(crate) fn is_plain(column: &UserCol) -> bool
-    ensures { result ≡ is_plain column.now }
-{
-    has_type(column) && has_no_formula(column)
+    plain_type_of(text).is_some() || is_reference_type(text)
 }

@@ -11,23 +11,23 @@
 //! wants an action that the document allows; `unopposed_law` says that each action is allowed that
 //! is not refused in some view of the document. `steps_law` and `fresh_ids_law` say of the
 //! definitions that steps are valid and new ids free, beside at most 2^60 ids.
-//! Not promised: that memory is found. Formulas and the tables of access rules are refused, since
-//! they are not built; what they would bring has no steps. Columns of references are refused until
-//! there are formulas; their steps are made.
+//! Not promised: that memory is found, or that the text of a formula reads as one: it is taken as
+//! it stands. The tables of access rules are refused, since they are not built.
 //! Read first: specs/Objections.antt and refusing.rt, then specs/Steps.antt and expanding.rt.
 #![tactic(auto)]
 
 mod cell_updates;
 mod clearing;
+mod columns;
 mod expanding;
 mod gone_rows;
 mod infos;
 mod laws;
 mod leading;
+mod modifying;
 mod record_steps;
 mod referrers;
 mod refusing;
-mod retyping;
 mod rows;
 mod schema_steps;
 mod table_readers;

@@ -8,11 +8,11 @@ ghost use Rattle.doc_model.specs.Rows.{IsAscending};
 ghost use Rattle.doc_model.specs.ViewEdits.{IsShown};
 ghost use Rattle.doc_model.specs.declared.refusal.Refusal.{Refusal};
 ghost use Rattle.doc_model.specs.declared.refusal.Refusal.TheVariants.{BadValue};
-ghost use Rattle.user_actions.specs.Infos.{is_plain};
+ghost use Rattle.user_actions.specs.Columns.{may_be_new};
 ghost use Rattle.user_actions.specs.Kinds.{table_of};
 ghost use Rattle.user_actions.specs.Objections.{against, has_good_id, in_records, in_schema, objection_to, on_change, on_column, on_columns, on_name, on_info, on_rows, on_table, on_values, to_records, to_schema};
 
-use crate::infos::is_plain;
+use crate::columns::{may_be_new, may_become};
 use crate::rows::{are_rows, have_no_duplicates};
 use crate::tables::{find_column, find_table, has_column};
 use crate::values::{are_all_base, are_shown, is_any_computed};
@@ -123,7 +123,7 @@ fn on_column(table: &ViewTable, column: &str, next: Option<Refusal>) -> Option<R
 fn on_info(column: &UserCol) -> Option<Refusal>
     ensures { result ≡ on_info column.now }
 {
-    if !is_plain(column) {
+    if !may_be_new(column) {
         return Some(Refusal::BadValue);
     }
     None
@@ -135,7 +135,7 @@ fn on_change(table: &ViewTable, column: &UserCol) -> Option<Refusal>
 {
     match find_column(table.columns.as_slice(), column.id.as_str()) {
         None => Some(Refusal::NoSuchColumn),
-        Some(known) if known.is_formula || !is_plain(column) => Some(Refusal::BadValue),
+        Some(known) if !may_become(known.is_formula, column) => Some(Refusal::BadValue),
         Some(_) => None,
     }
 }
@@ -146,10 +146,10 @@ fn have_good_ids(columns: &[UserCol]) -> bool
     columns.iter().all(|column| is_name(column.id.as_str()))
 }
 
-fn are_plain(columns: &[UserCol]) -> bool
-    ensures { result ≡ list_all is_plain columns.now }
+fn may_all_be_new(columns: &[UserCol]) -> bool
+    ensures { result ≡ list_all may_be_new columns.now }
 {
-    columns.iter().all(|column| is_plain(column))
+    columns.iter().all(|column| may_be_new(column))
 }
 
 // A new table.
@@ -159,7 +159,7 @@ fn on_table(table: &str, columns: &[UserCol]) -> Option<Refusal>
     if !is_name(table) || !have_good_ids(columns) {
         return Some(Refusal::BadName);
     }
-    if !are_plain(columns) {
+    if !may_all_be_new(columns) {
         return Some(Refusal::BadValue);
     }
     None

@@ -3,7 +3,6 @@
 ghost use Rattle.std.specs.Prelude.{◌≡◌, ◌<◌, ◌≤◌, ◌+◌, ◌++◌, [], ◌∷◌, true, false, cond, length, max, bytes_eq, IfOk, MatchOption};
 ghost use Rattle.std.specs.List.{list_all};
 ghost use Rattle.cell_types.specs.NameRule.{is_name};
-ghost use Rattle.cell_types.specs.declared.column_type.ColType.TheVariants.{Any};
 ghost use Rattle.doc_model.specs.DocumentLaws.{IsWhole};
 ghost use Rattle.doc_model.specs.MetadataIds.{columns_id, tables_id};
 ghost use Rattle.doc_model.specs.declared.action.DocAction.TheVariants.{AddColumn, AddTable, RenameColumn, RenameTable};
@@ -11,17 +10,15 @@ ghost use Rattle.name_rules.specs.FreeName.{IsFresh, free_name};
 ghost use Rattle.user_actions.specs.Objections.{has_good_id};
 ghost use Rattle.user_actions.specs.StepLaws.{AreFresh};
 ghost use Rattle.user_actions.specs.Marked.{direct};
-ghost use Rattle.user_actions.specs.Steps.{column_ids, column_said, info_said, last_row, new_column, new_columns, renaming, table_ids, table_said};
+ghost use Rattle.user_actions.specs.Steps.{column_ids, column_said, last_row, new_column, new_columns, renaming, table_ids, table_said};
 
-use crate::infos::type_of;
+use crate::columns::new_info_said;
 use crate::leading::add_led;
 use crate::record_steps::direct;
 use crate::referrers::referrers;
 use crate::table_readers::{column_ids, last_row, table_ids};
-use cell_types::{CellText, ColType, Name};
-use doc_model::{
-    ColDef, ColDefList, ColInfo, DocAction, DocTables, LAST_ROW_ID, StepList, UserCol,
-};
+use cell_types::Name;
+use doc_model::{ColDef, ColDefList, DocAction, DocTables, LAST_ROW_ID, StepList, UserCol};
 use doc_readers::{columns_table, tables_table};
 use name_rules::{free_name, name_of};
 use std::alloc::{AllocError, Global};
@@ -68,38 +65,6 @@ fn new_column_id<D: DocTables>(
     Ok(id)
 }
 
-/// The type that a data column gets as the user says.
-pub(crate) fn type_said(
-    alloc: Global,
-    other: &ColType,
-    column: &UserCol,
-) -> Result<ColType, AllocError>
-    ensures { IfOk result (λ t. t ≡ (info_said other.now column.now).ty) }
-{
-    match &column.ty {
-        Some(text) => match type_of(alloc, text.as_str())? {
-            Some(ty) => Ok(ty),
-            None => other.clone(),
-        },
-        None => other.clone(),
-    }
-}
-
-/// What a data column becomes as the user says.
-pub(crate) fn info_said(
-    alloc: Global,
-    other: &ColType,
-    column: &UserCol,
-) -> Result<ColInfo, AllocError>
-    ensures { IfOk result (λ i. i ≡ info_said other.now column.now) }
-{
-    Ok(ColInfo {
-        ty: type_said(alloc, other, column)?,
-        is_formula: false,
-        formula: CellText::empty(alloc),
-    })
-}
-
 // A new column beside those of these ids, which that row describes.
 fn new_column(
     alloc: Global,
@@ -113,7 +78,7 @@ fn new_column(
 {
     Ok(ColDef {
         id: free_id(alloc, taken, column.id.as_str())?,
-        info: info_said(alloc, &ColType::Any, column)?,
+        info: new_info_said(alloc, column)?,
         row,
     })
 }

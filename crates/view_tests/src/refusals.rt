@@ -4,13 +4,13 @@
 ghost use Rattle.doc_model.specs.Changes.{IsView};
 
 use crate::asking::{Asked, actions_of};
-use Asked::{AddTable, RemoveTable, Update};
+use Asked::{AddData, AddLong, AddTable, RemoveTable, Update};
 use doc_model::{Refusal, UserAction, UserActionList, View, ViewTableList};
 use std::alloc::{AllocError, Global};
 use user_actions::refuse;
 
 // Actions, and the names of their refusals; empty where there is none.
-static ASKED: [(Asked, &str); 11] = [
+static ASKED: [(Asked, &str); 17] = [
     (Update("_grist_Tables"), "MetaTable"),
     (Update("_grist_ACLRules"), "NoSuchTable"),
     (Update("Nope"), "NoSuchTable"),
@@ -20,8 +20,14 @@ static ASKED: [(Asked, &str); 11] = [
     (AddTable("Work", "A", "Int", ""), ""),
     (AddTable("1x", "A", "Nope", ""), "BadName"),
     (AddTable("Work", "in", "Nope", ""), "BadName"),
-    (AddTable("Work", "A", "Ref:Work", ""), "BadValue"),
-    (AddTable("Work", "A", "Int", "$A"), "BadValue"),
+    (AddTable("Work", "A", "Nope", ""), "BadValue"),
+    (AddTable("Work", "A", "Ref:in", ""), "BadValue"),
+    (AddTable("Work", "A", "RefList:Work", ""), ""),
+    (AddTable("Work", "A", "Ref:Nope", "$A +"), ""),
+    (AddData(""), ""),
+    (AddData("$A"), "BadValue"),
+    (AddLong(65536), ""),
+    (AddLong(65537), "BadValue"),
 ];
 
 fn empty(alloc: Global) -> View

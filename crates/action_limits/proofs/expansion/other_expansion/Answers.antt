@@ -7,7 +7,8 @@ use Rattle.user_actions.specs.StepLaws.{action_of}
 use Rattle.user_actions.specs.Steps.{steps_of}
 use Rattle.action_limits.specs.Tallies.{IsExpansion}
 use Rattle.action_limits.proofs.ExpansionLemmas.{exact_from, settled_is}
-use Rattle.action_limits.proofs.StepMoves.{TellsSteps, other_quiet, other_told}
+use Rattle.action_limits.proofs.ModifyMoves.{TellsSteps}
+use Rattle.action_limits.proofs.StepMoves.{other_quiet, other_told}
 use Rattle.action_limits.proofs.expansion.other_expansion.Goals as goal
 
 pub after_steps-sums-requires : goal.after_steps-sums-requires

@@ -1,4 +1,3 @@
-use Rattle.std.proofs.Common.{◌≡◌}
 use Rattle.doc_readers.specs.Parts.{grid_at}
 use Rattle.user_actions.proofs.UpdateLemmas.{no_update, one_update}
 use Rattle.user_actions.proofs.cell_updates.add_update.Goals as goal

@@ -1,5 +1,4 @@
-use Rattle.std.proofs.Common.{◌≡◌, refl}
-use Rattle.cell_types.specs.declared.value.CellValue.{CellValue}
+use Rattle.std.proofs.Common.{refl}
 use Rattle.doc_model.specs.Column.{column_id}
 use Rattle.doc_model.specs.Grid.{cell}
 use Rattle.doc_readers.specs.Parts.{grid_at}

@@ -1,4 +1,4 @@
-use Rattle.std.proofs.Common.{ℕ, List, ◌≡◌, ◌∙◌, ◌++◌, subst, rules}
+use Rattle.std.proofs.Common.{◌≡◌, ◌∙◌, ◌++◌, subst, rules}
 use Rattle.std.specs.Result.{IfOk}
 use Rattle.doc_readers.specs.Parts.{grid_at}
 use Rattle.user_actions.specs.CellUpdates.{update_changed}

@@ -7,11 +7,11 @@ use Rattle.doc_model.specs.declared.action.Step.{Step}
 use Rattle.doc_model.specs.declared.user_action.UserColumn.{UserColumn}
 use Rattle.doc_model.specs.Document.{Document}
 use Rattle.doc_model.specs.ViewEdits.{if_any}
-use Rattle.user_actions.specs.Infos.{is_plain}
+use Rattle.user_actions.specs.Columns.{may_become}
 use Rattle.user_actions.specs.Kinds.{table_of}
 use Rattle.user_actions.specs.Marked.{direct}
 use Rattle.user_actions.specs.Steps.{all_fitted, row_ids, steps_of}
-use Rattle.user_actions.proofs.AllowedLemmas.{columns_named, column_named, only_column_named, data_column_named, new_name}
+use Rattle.user_actions.proofs.AllowedLemmas.{columns_named, column_named, only_column_named, known_column_named, new_name}
 use Rattle.user_actions.proofs.expanding.other_steps.Goals as goal
 
 pub update_steps-requires-clause-names : goal.update_steps-requires-clause-names
@@ -41,7 +41,7 @@ rename_column_steps-requires-clause-name g c =
 pub modify_steps-requires-clause-name : goal.modify_steps-requires-clause-name
 modify_steps-requires-clause-name g c =
     let s = g.D.DocReader.document c.args.tables.now in
-    data_column_named s c.requires.whole c.in-ModifyColumn.table c.in-ModifyColumn.column.id (λ t. is_plain c.in-ModifyColumn.column) (sym (ap (is_allowed s) c.in-ModifyColumn.is) ∙ c.requires.allowed)
+    known_column_named s c.requires.whole c.in-ModifyColumn.table c.in-ModifyColumn.column.id (λ d. may_become d.info.is_formula c.in-ModifyColumn.column) (sym (ap (is_allowed s) c.in-ModifyColumn.is) ∙ c.requires.allowed)
 
 pub returns-in_ok-steps-in-Update-clause-made : goal.returns-in_ok-steps-in-Update-clause-made
 returns-in_ok-steps-in-Update-clause-made g c =

@@ -8,6 +8,8 @@
 //! Read first: trees.rt, then values.rt.
 #![tactic(auto)]
 
+#[cfg(test)]
+mod kinds;
 mod memory;
 #[cfg(test)]
 mod samples;

@@ -1,8 +1,9 @@
 //! Values of formulas over one table of three rows. Expected values are worked out by hand from
 //! docs/FORMULAS.md.
 //!
-//! `gives_values` has each operator and function on each kind of value, references, lookups and bad
-//! inputs; `notes_reads_in_order` has what is read, and that nothing else is.
+//! `gives_values` has the values of that page, each operator and function, references, lookups and
+//! bad inputs; `notes_reads_in_order` has what is read, and that nothing else is. What each kind of
+//! value gives is in kinds.rt.
 
 ghost use Rattle.std.specs.Prelude.{◌≡◌, ◌<◌};
 
@@ -21,10 +22,13 @@ use std::marker::Brand;
 use std::sync::ledger::{Blank, Ledger};
 
 // Table P.
-static COLUMNS: [ColumnSample; 17] = [
+static COLUMNS: [ColumnSample; 20] = [
+    ("A", Any, Int(7), Null, Null),
+    ("B", Any, Null, Null, Null),
+    ("C", Any, Text("x"), Null, Null),
     ("N", Any, Int(7), Int(0), Null),
     ("S", Any, Text("ab"), Text(""), Text("a")),
-    ("B", Any, Bool(true), Bool(false), Bool(true)),
+    ("Flag", Any, Bool(true), Bool(false), Bool(true)),
     ("D", Any, Date(86400), Date(5), Null),
     ("L", Any, Numbers(&[1, 2]), Numbers(&[]), Texts(&["a"])),
     ("Tags", Any, Texts(&["a", "b"]), Texts(&["b"]), Text("a")),
@@ -33,7 +37,7 @@ static COLUMNS: [ColumnSample; 17] = [
     ("X", Any, Circular, Int(1), Int(1)),
     ("E", Any, Error, Int(1), Int(1)),
     ("F", Any, Needed, Int(1), Int(1)),
-    ("C", Any, Censored, Int(1), Int(1)),
+    ("Hidden", Any, Censored, Int(1), Int(1)),
     ("K", Kind::Int, Int(1), Int(2), Int(1)),
     ("V", Kind::Int, Int(10), Int(20), Int(5)),
     ("Long", Any, Letters(40000), Null, Null),
@@ -42,7 +46,7 @@ static COLUMNS: [ColumnSample; 17] = [
 ];
 
 // Formulas, the row where they stand, and their values.
-static VALUES: [(&str, u32, &str); 190] = [
+static VALUES: [(&str, u32, &str); 218] = [
     ("1", 1, "1"),
     ("'a'", 1, "'a'"),
     ("", 1, "None"),
@@ -56,12 +60,17 @@ static VALUES: [(&str, u32, &str); 190] = [
     ("$N + 1", 1, "8"),
     ("1 + True", 1, "2"),
     ("'a' + $S", 1, "'aab'"),
+    ("'a' + 'b'", 1, "'ab'"),
     ("[1] + $L", 1, "[1, 1, 2]"),
+    ("[1] + [2]", 1, "[1, 2]"),
     ("1 + 'a'", 1, "TypeError"),
+    ("'a' + 1", 1, "TypeError"),
+    ("'a' * 2", 1, "TypeError"),
     ("None + 1", 1, "TypeError"),
     ("rec + 1", 1, "TypeError"),
     ("$D + 1", 1, "TypeError"),
-    ("$C + 1", 1, "TypeError"),
+    ("$D - $D", 1, "TypeError"),
+    ("$Hidden + 1", 1, "TypeError"),
     ("$N - 9", 1, "-2"),
     ("3 * -2", 1, "-6"),
     ("-7 // 2", 1, "-4"),
@@ -70,6 +79,8 @@ static VALUES: [(&str, u32, &str); 190] = [
     ("7 % -2", 1, "-1"),
     ("1 // 0", 1, "ZeroDivisionError"),
     ("1 % 0", 1, "ZeroDivisionError"),
+    ("1 // False", 1, "ZeroDivisionError"),
+    ("1 % False", 1, "ZeroDivisionError"),
     ("9223372036854775806 + 1", 1, "9223372036854775807"),
     ("9223372036854775807 + 1", 1, "OverflowError"),
     ("-9223372036854775807 - 2", 1, "OverflowError"),
@@ -81,6 +92,8 @@ static VALUES: [(&str, u32, &str); 190] = [
     ("not $RL", 2, "True"),
     ("not $R", 2, "True"),
     ("1 == True", 1, "True"),
+    ("True == 1", 1, "True"),
+    ("[True] == [1]", 1, "True"),
     ("1 == '1'", 1, "False"),
     ("'a' != 'b'", 1, "True"),
     ("$D == $D", 1, "True"),
@@ -92,6 +105,8 @@ static VALUES: [(&str, u32, &str); 190] = [
     ("2 <= 2", 1, "True"),
     ("3 <= 2", 1, "False"),
     ("'a' > 'b'", 1, "False"),
+    ("'Z' < 'a'", 1, "True"),
+    ("'a' < 'ab'", 1, "True"),
     ("2 >= 3", 1, "False"),
     ("3 >= 3", 1, "True"),
     ("$D > $D", 1, "False"),
@@ -102,6 +117,10 @@ static VALUES: [(&str, u32, &str); 190] = [
     ("$N < \"x\"", 1, "TypeError"),
     ("2 in $L", 1, "True"),
     ("'b' in $S", 1, "True"),
+    ("True in [1]", 1, "True"),
+    ("'bc' in 'abc'", 1, "True"),
+    ("'' in 'a'", 1, "True"),
+    ("1 in 'a'", 1, "TypeError"),
     ("3 not in $L", 1, "True"),
     ("rec in P.all", 1, "True"),
     ("3 in $RL", 1, "True"),
@@ -110,6 +129,8 @@ static VALUES: [(&str, u32, &str); 190] = [
     ("1 not in None", 1, "TypeError"),
     ("1 is True", 1, "False"),
     ("1 is not True", 1, "True"),
+    ("True is 1", 1, "False"),
+    ("[True] is [1]", 1, "True"),
     ("None is None", 1, "True"),
     ("$N or 'none'", 2, "'none'"),
     ("$N or \"none\"", 1, "7"),
@@ -150,7 +171,7 @@ static VALUES: [(&str, u32, &str); 190] = [
     ("$E", 1, "ZeroDivisionError"),
     ("$X", 1, "CircularRefError"),
     ("$F", 1, "needed"),
-    ("[$C]", 1, "TypeError"),
+    ("[$Hidden]", 1, "TypeError"),
     ("P.all", 1, "P[[1, 2, 3]]"),
     ("Q.all", 1, "NameError"),
     ("P.all.V", 1, "[10, 20, 5]"),
@@ -158,7 +179,7 @@ static VALUES: [(&str, u32, &str); 190] = [
     ("P.lookupRecords(K=1)", 1, "P[[1, 3]]"),
     ("P.lookupRecords(K=1, V=5)", 1, "P[[3]]"),
     ("P.lookupRecords(K='1')", 1, "P[[]]"),
-    ("P.lookupRecords(B=1)", 1, "P[[1, 3]]"),
+    ("P.lookupRecords(Flag=1)", 1, "P[[1, 3]]"),
     ("P.lookupRecords(id=2)", 1, "P[[2]]"),
     ("P.lookupRecords(E=1)", 1, "P[[2, 3]]"),
     ("P.lookupRecords(R=2)", 1, "P[[1]]"),
@@ -225,6 +246,14 @@ static VALUES: [(&str, u32, &str); 190] = [
     ("str($N)", 2, "'0'"),
     ("str([1, 'a'])", 1, "'[1, 'a']'"),
     ("str($D)", 1, "'d86400'"),
+    ("str($Flag)", 1, "'True'"),
+    ("str(rec)", 1, "'P[1]'"),
+    ("str($RL)", 1, "'P[[1, 3]]'"),
+    (
+        "str(['a', None, True, $D, rec])",
+        1,
+        "'['a', None, True, d86400, P[1]]'",
+    ),
     ("bool('')", 1, "False"),
     ("bool(rec)", 1, "True"),
     ("FOO(1 // 0)", 1, "NameError"),
@@ -233,6 +262,13 @@ static VALUES: [(&str, u32, &str); 190] = [
     ("len($Many + $Many)", 1, "10002"),
     ("$Many + $Many", 1, "OverflowError"),
     ("len($Many)", 1, "5001"),
+    ("$A // 2", 1, "3"),
+    ("$A + $C", 1, "TypeError"),
+    ("IFERROR($A // 0, 'none')", 1, "'none'"),
+    ("$B or $C", 1, "'x'"),
+    ("len([$A, $B, $C])", 1, "3"),
+    ("MAX($A, [9, 1])", 1, "9"),
+    ("LEFT($C)", 1, "NameError"),
 ];
 
 fn shown_value(alloc: Global, value: &CellValue) -> Result<String, AllocError> {
@@ -288,7 +324,13 @@ fn try_formula(
     tried::<Brand>(alloc, memory, formula, &at, Blank::new(1))
 }
 
-fn try_text(alloc: Global, memory: &Memory, text: &str, row: u32) -> Result<Attempt, AllocError> {
+/// One attempt at the formula of a text, in a row of P.
+pub fn try_text(
+    alloc: Global,
+    memory: &Memory,
+    text: &str,
+    row: u32,
+) -> Result<Attempt, AllocError> {
     let Ok(formula) = parse(alloc, text) else {
         return Err(AllocError);
     };
@@ -324,7 +366,7 @@ static NOTES: [(&str, &str); 14] = [
     ("1 or $N", ""),
     ("$N or $S", "C"),
     ("$N and $S", "CC"),
-    ("IF($N, $S, $B)", "CC"),
+    ("IF($N, $S, $Flag)", "CC"),
     ("IF(1, 2)", ""),
     ("$id", ""),
     ("$RL.N", "CCC"),

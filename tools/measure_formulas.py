@@ -1,0 +1,126 @@
+#!/usr/bin/env python3
+"""Replays documents with and without a formula column that is added last, and prints what its cells cost.
+
+    python3 tools/measure_formulas.py [rows ..]      chains of 10,000, 20,000, 50,000 and 100,000 rows where they are left out
+
+It runs crates/grist_main/out/grist_main, which `rt run` in crates/grist_main makes. There are two documents:
+
+- a chain: table Run with A Int, and V Int with the formula `Run.lookupOne(id=$id - 1).V + $A`, so that each
+  cell reads the one before;
+- sums: table Tasks of 5,000 rows with Hours Int and Project, which names one of 100 rows of table Projects;
+  each project adds up its tasks, and then each task all tasks of its project.
+
+The time of the formula's cells is that of the script with the column less that of the script without it; it
+has the reply and the stream line with all cells in it. Each script is run three times, and the least time
+counts. The memory is that of the peaks, in the same way. The last cell is compared with what it has to be.
+"""
+import json
+import subprocess
+import sys
+import tempfile
+
+from measure_adds import OPEN, PROGRAM, USER, least_time
+
+FRAME = '{"line":{"actions":%s,"method":"applyUserActions"},"session":"s1"}\n'
+CHAIN = "Run.lookupOne(id=$id - 1).V + $A"
+PROJECT_SUM = "SUM(Tasks.lookupRecords(Project=$id).Hours)"
+TASK_SUM = "SUM(Tasks.lookupRecords(Project=$Project).Hours)"
+SIZES = (10_000, 20_000, 50_000, 100_000)
+TASKS, PROJECTS = 5_000, 100
+BULK_ROWS = 5_000
+
+
+def frame(*actions):
+    return FRAME % json.dumps(actions)
+
+
+def table(id, **types):
+    return frame(["AddTable", id, [{"id": column, "type": type} for column, type in types.items()]])
+
+
+def rows(id, **columns):
+    """Lines that add rows with these columns of values."""
+    count = len(next(iter(columns.values())))
+    for first in range(0, count, BULK_ROWS):
+        part = {column: values[first : first + BULK_ROWS] for column, values in columns.items()}
+        yield frame(["BulkAddRecord", id, [None] * len(next(iter(part.values()))), part])
+
+
+def formula(id, column, text):
+    return frame(["AddColumn", id, column, {"formula": text, "isFormula": True, "type": "Int"}])
+
+
+def last_cell(script, column):
+    """What the last changes that hold the column tell of its last row."""
+    script.seek(0)
+    run = subprocess.run([PROGRAM, "replay"], stdin=script, stdout=subprocess.PIPE)
+    found = None
+    for line in run.stdout.splitlines():
+        told = json.loads(line)["line"]
+        if "error" in told:
+            raise SystemExit(f"the program answered {json.dumps(told)}")
+        for action in told.get("actions", []):
+            if action[0] == "BulkUpdateRecord" and column in action[3]:
+                found = action[3][column][-1]
+    return found
+
+
+def cost_of(lines, column=None, wanted=None):
+    """The least seconds of three runs of a script of these lines, and the peak memory in bytes."""
+    with tempfile.TemporaryFile("w+") as script:
+        script.write(USER + OPEN)
+        script.writelines(lines)
+        script.flush()
+        if column and last_cell(script, column) != wanted:
+            raise SystemExit(f"the last cell of {column} is not {wanted}")
+        return least_time(script, 3)
+
+
+def added(before, line, column, wanted):
+    """Seconds and bytes of peak memory that the formula column of the line adds."""
+    seconds, peak = cost_of(before)
+    with_cells, higher = cost_of([*before, line], column, wanted)
+    return with_cells - seconds, higher - peak
+
+
+def show(what, cells, seconds, memory):
+    print(f"{what}: {seconds:.3f} s, {1e6 * seconds / cells:.2f} microseconds and {memory / cells:.0f} bytes of peak memory for each formula cell")
+
+
+def chain(count):
+    """Seconds of a chain of so many rows, where each cell is its row's number."""
+    before = [table("Run", A="Int"), *rows("Run", A=[1] * count)]
+    seconds, memory = added(before, formula("Run", "V", CHAIN), "V", count)
+    show(f"chain of {count} rows", count, seconds, memory)
+    return seconds
+
+
+def sums():
+    """Sums over lookups: one of each project, then one of each task."""
+    project = [number * 37 % PROJECTS + 1 for number in range(TASKS)]
+    hours = [number * 7919 % 40 for number in range(TASKS)]
+    total = [sum(hour for hour, own in zip(hours, project) if own == row) for row in range(1, PROJECTS + 1)]
+    before = [
+        table("Projects", Name="Text"),
+        *rows("Projects", Name=[f"p{number}" for number in range(PROJECTS)]),
+        table("Tasks", Project="Ref:Projects", Hours="Int"),
+        *rows("Tasks", Project=project, Hours=hours),
+    ]
+    each = TASKS // PROJECTS
+    first = formula("Projects", "Total", PROJECT_SUM)
+    show(f"{PROJECTS} sums of {each} rows", PROJECTS, *added(before, first, "Total", total[-1]))
+    second = formula("Tasks", "Total2", TASK_SUM)
+    show(f"{TASKS} sums of {each} rows", TASKS, *added([*before, first], second, "Total2", total[project[-1] - 1]))
+
+
+def main():
+    sizes = [int(word) for word in sys.argv[1:]] or SIZES
+    seconds = {count: chain(count) for count in sizes}
+    for count in sizes:
+        if 2 * count in seconds:
+            print(f"chain of {2 * count} rows: {seconds[2 * count] / seconds[count]:.2f} times as long as {count}")
+    sums()
+
+
+if __name__ == "__main__":
+    main()

@@ -133,6 +133,21 @@ has_filtered id p c (y ∷ ys) x at is =
 none_filtered : {X : Type 0} (id : X → List ℕ) (p : X → Bool) (c : List ℕ) (xs : List X) → has_id id xs c ≡ false → has_id id (filter p xs) c ≡ false
 none_filtered id p c xs h = has_apart id c (filter p xs) (each_filter (λ y. bytes_eq c (id y) ≡ false) p xs (apart_has id c xs h))
 
+-- ---- whether a column is a formula column
+
+module _ (v : Document) where
+  pub computed_by : (t c : List ℕ) → is_computed v (cell_of t c 0) ≡ elim (find_id column_id c (grid_at v t).columns) as (λ _. Bool) [ None ↦ false | Some d ↦ d.info.is_formula ]
+  computed_by t c =
+      elim (find_id table_id t v) as (λ (o : Option Table). elim (elim o as (λ _. Option ColDef) [ None ↦ None | Some u ↦ find_id column_id c u.grid.columns ]) as (λ _. Bool) [ None ↦ false | Some d ↦ d.info.is_formula ]
+      ≡ elim (find_id column_id c (elim o as (λ _. Grid ColDef) [ None ↦ no_grid | Some u ↦ u.grid ]).columns) as (λ _. Bool) [ None ↦ false | Some d ↦ d.info.is_formula ]) [ None ↦ refl | Some u ↦ refl ]
+
+  pub no_formula : (t c : List ℕ) → has_formula (grid_at v t).columns ≡ false → is_computed v (cell_of t c 0) ≡ false
+  no_formula t c plain = computed_by t c ∙ by (find_id column_id c (grid_at v t).columns) refl
+    where
+      by : (o : Option ColDef) → find_id column_id c (grid_at v t).columns ≡ o → elim o as (λ _. Bool) [ None ↦ false | Some d ↦ d.info.is_formula ] ≡ false
+      by None e = refl
+      by (Some d) e = found_all column_id (λ d. d.info.is_formula ≡ false) c (grid_at v t).columns d (any_none (λ (d : ColDef). d.info.is_formula) (grid_at v t).columns plain) e
+
 module _ (v : Document) (a : DocAction) where
   abbrev pub column_losing : List ℕ → List ℕ → List CellOld
   column_losing t c = filter (may_lose v a) (cells_at t (grid_at v t) c (grid_at v t).rows)
@@ -199,11 +214,6 @@ module _ (v : Document) (a : DocAction) where
 
   -- ---- the columns of a table
 
-  pub computed_by : (t c : List ℕ) → is_computed v (cell_of t c 0) ≡ elim (find_id column_id c (grid_at v t).columns) as (λ _. Bool) [ None ↦ false | Some d ↦ d.info.is_formula ]
-  computed_by t c =
-      elim (find_id table_id t v) as (λ (o : Option Table). elim (elim o as (λ _. Option ColDef) [ None ↦ None | Some u ↦ find_id column_id c u.grid.columns ]) as (λ _. Bool) [ None ↦ false | Some d ↦ d.info.is_formula ]
-      ≡ elim (find_id column_id c (elim o as (λ _. Grid ColDef) [ None ↦ no_grid | Some u ↦ u.grid ]).columns) as (λ _. Bool) [ None ↦ false | Some d ↦ d.info.is_formula ]) [ None ↦ refl | Some u ↦ refl ]
-
   columns_same : (t c : List ℕ) → ((is_computed v (cell_of t c 0) || may_lose_column a c) && has_id column_id (filter (may_lose_at a) (grid_at v t).columns) c)
       ≡ ((is_computed v (cell_of t c 0) || may_lose_column a c) && has_id column_id (grid_at v t).columns c)
   columns_same t c = by (find_id column_id c (grid_at v t).columns) refl
@@ -218,7 +228,7 @@ module _ (v : Document) (a : DocAction) where
           ap (λ b. (is_computed v (cell_of t c 0) || may_lose_column a c) && b) (none_filtered column_id (may_lose_at a) c ds isnot ∙ sym isnot)
       by (Some d) e =
           let test : (is_computed v (cell_of t c 0) || may_lose_column a c) ≡ may_lose_at a d
-          = ap (λ b. b || may_lose_column a c) (computed_by t c ∙ ap (λ (o : Option ColDef). elim o as (λ _. Bool) [ None ↦ false | Some d ↦ d.info.is_formula ]) e)
+          = ap (λ b. b || may_lose_column a c) (computed_by v t c ∙ ap (λ (o : Option ColDef). elim o as (λ _. Bool) [ None ↦ false | Some d ↦ d.info.is_formula ]) e)
           ∙ ap (λ n. d.info.is_formula || may_lose_column a n) (sym (found_id column_id c ds d e)) in
           ap (λ b. b && has_id column_id (filter (may_lose_at a) ds) c) test
           ∙ elim (may_lose_at a d) as (λ b. may_lose_at a d ≡ b → (b && has_id column_id (filter (may_lose_at a) ds) c) ≡ (b && has_id column_id ds c)) [
@@ -244,17 +254,10 @@ module _ (v : Document) (a : DocAction) where
 
   -- ---- the tables
 
-  no_formula : (t c : List ℕ) → has_formula (grid_at v t).columns ≡ false → is_computed v (cell_of t c 0) ≡ false
-  no_formula t c plain = computed_by t c ∙ by (find_id column_id c (grid_at v t).columns) refl
-    where
-      by : (o : Option ColDef) → find_id column_id c (grid_at v t).columns ≡ o → elim o as (λ _. Bool) [ None ↦ false | Some d ↦ d.info.is_formula ] ≡ false
-      by None e = refl
-      by (Some d) e = found_all column_id (λ d. d.info.is_formula ≡ false) c (grid_at v t).columns d (any_none (λ (d : ColDef). d.info.is_formula) (grid_at v t).columns plain) e
-
   table_nothing : (t : List ℕ) → has_formula (grid_at v t).columns ≡ false → ((r : ℕ) → may_lose_row v a t r ≡ false) → table_losing t ≡ []
   table_nothing t plain isnot =
       columns_flat t (in_order (map column_id (grid_at v t).columns))
-      ∙ flat_none (column_losing t) (in_order (map column_id (grid_at v t).columns)) (λ c. rows_left t c (no_formula t c plain) isnot (grid_at v t).rows)
+      ∙ flat_none (column_losing t) (in_order (map column_id (grid_at v t).columns)) (λ c. rows_left t c (no_formula v t c plain) isnot (grid_at v t).rows)
 
 -- ---- tables of which no data cells are lost
 
@@ -375,6 +378,15 @@ module _ (v : Document) (plain : has_formulas v ≡ false) where
       ∙ same_flat (table_losing v a) (λ t. may_lose_data a t && has_id table_id v t) (tables_written a) (in_order (map table_id v)) (written_ordered a) (IsByIds-by_id itself (map table_id v)) (nothing a)
       (λ t. written_has a is t ∙ sym (ap (λ b. (may_lose_data a t && has_id table_id v t) && b) (has_id-by_id itself (map table_id v) t ∙ has_id-map itself table_id v t)))
       ∙ sym (tables_flat v a (in_order (map table_id v)))
+
+-- what need not be looked at where no column has a formula
+pub plain_column : (v : Document) (t c : List ℕ) (b : Bool) → (b ≡ true → has_formulas v ≡ false) → b ≡ true → not b ≡ is_computed v (cell_of t c 0)
+plain_column v t c true plain e = sym (no_formula v t c (plain_table v (plain refl) t))
+plain_column v t c false plain e = absurd (false≢true e)
+
+pub plain_in : (v : Document) (a : DocAction) (t : List ℕ) (b : Bool) → (b ≡ true → has_formulas v ≡ false) → b ≡ true → may_lose_data a t ≡ false → not b ≡ may_lose_in v a t
+plain_in v a t true plain e left = sym (ap (λ x. x || has_formula (grid_at v t).columns) left ∙ plain_table v (plain refl) t)
+plain_in v a t false plain e left = absurd (false≢true e)
 
 -- ---- rows that describe columns
 

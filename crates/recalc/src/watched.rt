@@ -29,10 +29,20 @@ fn is_computed<R: DocReader>(doc: &R, table: &Name, column: &Name) -> bool
     }
 }
 
-fn may_lose_in<R: DocReader>(doc: &R, action: &DocAction, table: &Name) -> bool
+// The same, and no column looked at where none has a formula.
+fn is_computed_in<R: DocReader>(doc: &R, table: &Name, column: &Name, is_plain: bool) -> bool
+    requires { is_plain ≡ true → has_formulas (R.document doc.now) ≡ false }
+    ensures { result ≡ is_computed (R.document doc.now) (cell_of table.now column.now 0) }
+{
+    !is_plain && is_computed(doc, table, column)
+}
+
+// Whether cells of the table may be lost. Where no column has a formula, its id alone tells.
+fn may_lose_in<R: DocReader>(doc: &R, action: &DocAction, table: &Name, is_plain: bool) -> bool
+    requires { is_plain ≡ true → has_formulas (R.document doc.now) ≡ false }
     ensures { result ≡ may_lose_in (R.document doc.now) action.now table.now }
 {
-    may_lose_data(action, table) || has_formula(doc, table)
+    may_lose_data(action, table) || !is_plain && has_formula(doc, table)
 }
 
 // The tables of which cells may be lost, in the order of the document.
@@ -40,7 +50,9 @@ fn tables_to_lose<R: DocReader>(
     alloc: Global,
     doc: &R,
     action: &DocAction,
+    is_plain: bool,
 ) -> Result<Vec<Name>, AllocError>
+    requires { is_plain ≡ true → has_formulas (R.document doc.now) ≡ false }
     ensures { IfOk result (λ v. v.items
         ≡ filter (may_lose_in (R.document doc.now) action.now)
         (map table_id (R.document doc.now))) }
@@ -48,7 +60,7 @@ fn tables_to_lose<R: DocReader>(
     let mut ids = Vec::new(alloc);
     let mut index = 0;
     while let Some(id) = doc.table(index) {
-        push_if(&mut ids, id, may_lose_in(doc, action, id))?;
+        push_if(&mut ids, id, may_lose_in(doc, action, id, is_plain))?;
         index += 1;
     }
     Ok(ids)
@@ -71,7 +83,7 @@ fn tables_in_order<R: DocReader>(
         let tables = tables_written(alloc, action)?;
         return Ok(tables);
     }
-    let ids = tables_to_lose(alloc, doc, action)?;
+    let ids = tables_to_lose(alloc, doc, action, is_plain)?;
     let tables = sorted(alloc, &ids)?;
     Ok(tables)
 }
@@ -109,16 +121,18 @@ fn push_column<R: DocReader>(
     table: &Name,
     column: &Name,
     rows: &[u32],
+    is_plain: bool,
     cells: &mut Vec<CellOld>,
 ) -> Result<(), AllocError>
-    requires { rows.now ≡ filter (may_lose_row (R.document doc.now) action.now table.now)
+    requires plain { is_plain ≡ true → has_formulas (R.document doc.now) ≡ false }
+    requires touched { rows.now ≡ filter (may_lose_row (R.document doc.now) action.now table.now)
         (grid_at (R.document doc.now) table.now).rows }
     ensures { OnOk result (cells.new.items ≡ cells.old.items
         ++ filter (may_lose (R.document doc.now) action.now)
         (cells_at table.now (grid_at (R.document doc.now) table.now) column.now
         (grid_at (R.document doc.now) table.now).rows)) }
 {
-    if is_computed(doc, table, column) {
+    if is_computed_in(doc, table, column, is_plain) {
         return push_cells(doc, table, column, rows_in(doc, table), cells);
     }
     if may_lose_column(action, column) {
@@ -132,8 +146,10 @@ fn push_table<R: DocReader>(
     doc: &R,
     action: &DocAction,
     table: &Name,
+    is_plain: bool,
     cells: &mut Vec<CellOld>,
 ) -> Result<(), AllocError>
+    requires { is_plain ≡ true → has_formulas (R.document doc.now) ≡ false }
     ensures { OnOk result (cells.new.items ≡ cells.old.items
         ++ filter (may_lose (R.document doc.now) action.now)
         (table_cells (R.document doc.now) table.now)) }
@@ -142,7 +158,7 @@ fn push_table<R: DocReader>(
     let ids = columns_to_lose(alloc, doc, action, table)?;
     let columns = sorted(alloc, &ids)?;
     for column in &columns {
-        push_column(doc, action, table, column, &rows, cells)?;
+        push_column(doc, action, table, column, &rows, is_plain, cells)?;
     }
     Ok(())
 }
@@ -165,7 +181,7 @@ pub(crate) fn watched_cells<R: DocReader>(
     let tables = tables_in_order(alloc, doc, action, is_plain)?;
     let mut cells = Vec::new(alloc);
     for table in &tables {
-        push_table(alloc, doc, action, table, &mut cells)?;
+        push_table(alloc, doc, action, table, is_plain, &mut cells)?;
     }
     Ok(cells)
 }

@@ -1,10 +1,9 @@
 -- The cells that an action may lose, as they are listed table by table, column by column.
-use Rattle.std.proofs.Common.{ℕ, zero, suc, drop, slice_get, append_assoc, Bool, true, false, cond, not, ◌||◌, ◌&&◌, List, [], ◌∷◌, ◌++◌, map, filter, ◌≡◌, refl, sym, ap, subst, ◌∙◌, Option, Some, None}
+use Rattle.std.proofs.Common.{ℕ, zero, suc, drop, slice_get, append_assoc, Bool, true, false, cond, not, ◌||◌, ◌&&◌, List, [], ◌∷◌, ◌++◌, map, filter, ◌≡◌, refl, sym, ap, ◌∙◌, Option, Some, None}
 use Rattle.std.proofs.lemmas.Bool.{false≢true, true≢false, or_parts, or_right}
 use Rattle.std.proofs.lemmas.List.{append-nil}
 use Rattle.std.proofs.lemmas.List.Elements.{filter-append}
 use Rattle.std.proofs.lemmas.Slice.Eq.{bytes_eq-Decides}
-use Rattle.std.specs.List.{AllByRecursion, list_any}
 use Rattle.std.specs.Option.{is_some}
 use Rattle.std.specs.Str.{bytes_eq}
 use Rattle.cell_types.specs.declared.cell.CellOld.{CellOld}
@@ -18,13 +17,12 @@ use Rattle.doc_model.specs.Grid.{Grid, cell}
 use Rattle.doc_model.specs.MetadataIds.{tables_id, columns_id}
 use Rattle.doc_model.specs.Rows.{has}
 use Rattle.doc_model.specs.Schema.{no_grid}
-use Rattle.doc_model.specs.Touched.{names_table, columns_touched, columns_described, column_described}
+use Rattle.doc_model.specs.Touched.{columns_touched, columns_described, column_described}
 use Rattle.doc_model.proofs.Choices.{each_filter}
 use Rattle.doc_model.proofs.ByIdsLaws.{found_id, found_all, has_found, has_id-find, has_id-by_id, has_id-map, find_absent, same_by_ids, IsByIds-filter, IsByIds-by_id, apart_has, has_apart}
 use Rattle.doc_readers.specs.Parts.{grid_at}
 use Rattle.recalc.specs.Cells.{cell_of}
 use Rattle.recalc.specs.Current.{has_formula, has_formulas}
-use Rattle.recalc.specs.Evaluated.{column_in}
 use Rattle.recalc.specs.InOrder.{in_order, itself}
 use Rattle.recalc.specs.Lost.{all_cells, cells_at, columns_cells, table_cells, tables_cells}
 use Rattle.recalc.specs.MayLose.{is_record, tables_written, may_lose, may_lose_all, may_lose_at, may_lose_column, may_lose_data, may_lose_in, may_lose_row, rows_to_lose}

@@ -1,6 +1,6 @@
 -- What an action loses is among the cells that it may lose.
-use Rattle.std.proofs.Common.{ℕ, Bool, true, false, cond, not, ◌||◌, ◌&&◌, List, [], ◌∷◌, ◌++◌, map, filter, ◌≡◌, refl, sym, ap, subst, ◌∙◌, Option, Some, None, option_map, unwrap_or}
-use Rattle.std.proofs.lemmas.Bool.{false≢true, true≢false, or_parts, and_parts}
+use Rattle.std.proofs.Common.{ℕ, Bool, true, false, cond, not, ◌||◌, ◌&&◌, List, [], ◌∷◌, ◌++◌, map, ◌≡◌, refl, sym, ap, ◌∙◌, Option, Some, None, option_map, unwrap_or}
+use Rattle.std.proofs.lemmas.Bool.{true≢false, or_parts}
 use Rattle.std.specs.Option.{is_some}
 use Rattle.std.specs.Str.{bytes_eq}
 use Rattle.cell_types.specs.declared.cell.CellOld.{CellOld}
@@ -9,20 +9,18 @@ use Rattle.doc_model.specs.declared.action.DocAction.{DocAction}
 use Rattle.doc_model.specs.declared.action.DocAction.TheVariants.{BulkAdd, BulkUpdate, BulkRemove, AddTable, RemoveTable, RenameTable, AddColumn, RemoveColumn, RenameColumn, ModifyColumn}
 use Rattle.doc_model.specs.declared.column.CellColumn.{CellColumn}
 use Rattle.doc_model.specs.declared.column.ColDef.{ColDef}
-use Rattle.doc_model.specs.Apply.{apply, effect}
+use Rattle.doc_model.specs.Apply.{apply}
 use Rattle.doc_model.specs.ByIds.{find_id, has_id}
 use Rattle.doc_model.specs.Column.{column_id, column_row}
-use Rattle.doc_model.specs.Document.{Table, Document, table_id, on_grid, with_table}
+use Rattle.doc_model.specs.Document.{Table, Document, table_id, on_grid}
 use Rattle.doc_model.specs.DocumentLaws.{IsWhole}
-use Rattle.doc_model.specs.Grid.{Grid, cell}
+use Rattle.doc_model.specs.Grid.{cell}
 use Rattle.doc_model.specs.MetadataIds.{tables_id, columns_id, is_schema_id}
-use Rattle.doc_model.specs.Readers.{cell_at}
 use Rattle.doc_model.specs.Records.{given, given_id, update_rows}
 use Rattle.doc_model.specs.Rows.{has, has_no_duplicates, none_in}
-use Rattle.doc_model.specs.Same.{same_value}
-use Rattle.doc_model.specs.Touched.{names_table, is_about, is_row_touched, tables_touched, columns_touched, columns_described, column_described}
-use Rattle.doc_model.specs.Valid.{valid, passes, record_table, from_one, gives_data}
-use Rattle.doc_model.proofs.Choices.{cond_true, cond_false, parts_4}
+use Rattle.doc_model.specs.Touched.{names_table, is_row_touched, tables_touched, columns_touched, columns_described, column_described}
+use Rattle.doc_model.specs.Valid.{valid, record_table, from_one, gives_data}
+use Rattle.doc_model.proofs.Choices.{parts_4}
 use Rattle.doc_model.proofs.ByIdsLaws.{found_id}
 use Rattle.doc_model.proofs.ByRowLaws.{find-with_id}
 use Rattle.doc_model.proofs.DocumentParts.{applied, passes_parts}
@@ -35,9 +33,9 @@ use Rattle.doc_readers.specs.Parts.{grid_at}
 use Rattle.recalc.specs.Cells.{cell_of}
 use Rattle.recalc.specs.declared.kept.KeptTable.{KeptTable}
 use Rattle.recalc.specs.Current.{IsCurrent, has_formula, has_formulas}
-use Rattle.recalc.specs.Evaluated.{column_in, filled, filled_by, value_of}
+use Rattle.recalc.specs.Evaluated.{filled, filled_by, value_of}
 use Rattle.recalc.specs.InOrder.{in_order}
-use Rattle.recalc.specs.Lost.{all_cells, differs, is_lost, lost, table_after, column_after}
+use Rattle.recalc.specs.Lost.{all_cells, differs, is_lost}
 use Rattle.recalc.specs.MayLose.{MayLoseLaw, may_lose, may_lose_all, may_lose_column, may_lose_row, rows_to_lose}
 use Rattle.recalc.specs.Watched.{is_computed}
 use Rattle.recalc.proofs.FilledLemmas.{filled_table, find_filled}

@@ -1,25 +1,23 @@
 -- Documents without formula columns: what an action leaves of that, and what they hold.
-use Rattle.std.proofs.Common.{ℕ, Bool, true, false, cond, ◌||◌, ◌&&◌, List, [], ◌∷◌, ◌++◌, map, filter, drop, slice_get, ◌≡◌, ◌+◌, suc, zero, refl, sym, ap, subst, ◌∙◌, Option, Some, None, arith, Bor}
-use Rattle.std.proofs.lemmas.Bool.{false≢true, true≢false, or_parts}
+use Rattle.std.proofs.Common.{ℕ, Bool, true, false, cond, ◌||◌, ◌&&◌, List, [], ◌∷◌, drop, slice_get, ◌≡◌, suc, zero, refl, sym, ap, ◌∙◌, Option, Some, None}
+use Rattle.std.proofs.lemmas.Bool.{or_parts}
 use Rattle.std.specs.List.{AllByRecursion, list_any}
-use Rattle.std.specs.Option.{option_map, is_some, MatchOption}
+use Rattle.std.specs.Option.{option_map, is_some}
 use Rattle.cell_types.specs.declared.value.CellValue.{CellValue}
 use Rattle.doc_model.specs.declared.action.DocAction.{DocAction}
 use Rattle.doc_model.specs.declared.action.DocAction.TheVariants.{BulkAdd, BulkUpdate, BulkRemove, AddTable, RemoveTable, RenameTable, AddColumn, RemoveColumn, RenameColumn, ModifyColumn}
 use Rattle.doc_model.specs.declared.column.ColDef.{ColDef}
-use Rattle.doc_model.specs.declared.column.ColInfo.{ColInfo}
-use Rattle.doc_model.specs.Apply.{apply, effect, new_table, add_column, remove_column, with_column, with_name, with_info, with_plain}
+use Rattle.doc_model.specs.Apply.{effect, new_table, add_column, remove_column, with_column, with_name, with_info, with_plain}
 use Rattle.doc_model.specs.ByIds.{find_id, has_id, with_id, without_id}
 use Rattle.doc_model.specs.Column.{column_id, column_row, start_of}
 use Rattle.doc_model.specs.Document.{Table, Document, table_id, table_row, on_grid, renamed, put_by_row, by_row}
-use Rattle.doc_model.specs.DocumentLaws.{IsWhole}
-use Rattle.doc_model.specs.Grid.{Grid, cell}
+use Rattle.doc_model.specs.Grid.{cell}
 use Rattle.doc_model.specs.Readers.{cell_at}
 use Rattle.doc_model.specs.Records.{add_rows, update_rows, remove_rows}
 use Rattle.doc_model.specs.Rows.{has}
-use Rattle.doc_model.specs.Schema.{resources, rules, plain_tables, no_grid}
+use Rattle.doc_model.specs.Schema.{resources, rules, plain_tables}
 use Rattle.doc_model.specs.Valid.{valid}
-use Rattle.doc_model.proofs.Choices.{cond_true, each_weaker, each_filter}
+use Rattle.doc_model.proofs.Choices.{each_filter}
 use Rattle.doc_model.proofs.ByIdsLaws.{found_id, found_all, has_id-find, has_found}
 use Rattle.doc_model.proofs.ByRowLaws.{each_put, each_by_row, each_with_id}
 use Rattle.recalc.specs.Current.{has_formula, has_formulas, brings_formula, StaysPlainLaw}

@@ -1,7 +1,6 @@
 -- What an action loses stands in formula columns or in rows that it touches.
-use Rattle.std.proofs.Common.{ℕ, Bool, true, false, cond, not, ◌||◌, ◌&&◌, List, [], ◌∷◌, ◌++◌, map, filter, ◌≡◌, refl, sym, ap, subst, ◌∙◌, Option, Some, None}
-use Rattle.std.proofs.lemmas.Bool.{false≢true, true≢false, or_parts}
-use Rattle.std.proofs.lemmas.Slice.Eq.{bytes_eq-Decides}
+use Rattle.std.proofs.Common.{ℕ, Bool, true, false, cond, not, ◌||◌, ◌&&◌, List, [], ◌∷◌, map, filter, ◌≡◌, refl, sym, ap, subst, ◌∙◌, Option, Some, None}
+use Rattle.std.proofs.lemmas.Bool.{false≢true, or_parts}
 use Rattle.std.specs.List.{AllByRecursion}
 use Rattle.std.specs.Option.{option_map, is_some}
 use Rattle.std.specs.Str.{bytes_eq}
@@ -15,11 +14,10 @@ use Rattle.doc_model.specs.ByIds.{find_id, has_id}
 use Rattle.doc_model.specs.Column.{column_id}
 use Rattle.doc_model.specs.Document.{Table, Document, table_id}
 use Rattle.doc_model.specs.DocumentLaws.{IsWhole}
-use Rattle.doc_model.specs.Grid.{Grid, cell, grid_of}
+use Rattle.doc_model.specs.Grid.{Grid, cell}
 use Rattle.doc_model.specs.Readers.{cell_at}
 use Rattle.doc_model.specs.Rows.{has}
-use Rattle.doc_model.specs.Same.{same_value}
-use Rattle.doc_model.specs.SameRows.{Both, SameRow}
+use Rattle.doc_model.specs.SameRows.{Both}
 use Rattle.doc_model.specs.Touched.{names_table, is_about, is_row_touched, tables_touched, columns_touched, AreSameTables}
 use Rattle.doc_model.specs.MetadataIds.{tables_id, columns_id}
 use Rattle.doc_model.specs.Valid.{valid}
@@ -33,9 +31,9 @@ use Rattle.doc_model.proofs.WholeLaws.{each_append}
 use Rattle.doc_model.specs.Schema.{no_grid}
 use Rattle.doc_readers.specs.Parts.{grid_at}
 use Rattle.recalc.specs.Cells.{cell_of}
-use Rattle.recalc.specs.Evaluated.{column_in, fill, filled_by, filled, value_of}
+use Rattle.recalc.specs.Evaluated.{filled_by, filled, value_of}
 use Rattle.recalc.specs.InOrder.{in_order, itself}
-use Rattle.recalc.specs.Lost.{all_cells, cells_at, columns_cells, table_cells, tables_cells, table_after, column_after, differs, is_lost, lost}
+use Rattle.recalc.specs.Lost.{all_cells, cells_at, columns_cells, table_cells, tables_cells, table_after, column_after, differs, is_lost}
 use Rattle.recalc.specs.Watched.{is_computed, is_watched, WatchedLaw}
 use Rattle.recalc.proofs.FilledLemmas.{filled_table, find_filled}
 

@@ -1,6 +1,5 @@
-use Rattle.std.proofs.Common.{◌∙◌, ap, filter, sym}
+use Rattle.std.proofs.Common.{◌∙◌, sym}
 use Rattle.doc_readers.specs.Parts.{grid_at}
-use Rattle.recalc.specs.MayLose.{may_lose_row}
 use Rattle.recalc.proofs.LosingCells.{rows_all}
 use Rattle.recalc.proofs.touched.rows_of_table.Goals as goal
 

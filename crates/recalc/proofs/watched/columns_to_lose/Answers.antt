@@ -1,4 +1,4 @@
-use Rattle.std.proofs.Common.{List, ℕ, true, false, cond, ◌∷◌, ◌≡◌, ◌+◌, ◌∙◌, filter, map, refl, arith, ap, sym}
+use Rattle.std.proofs.Common.{List, true, false, cond, ◌∷◌, ◌≡◌, ◌+◌, filter, map, refl, arith}
 use Rattle.doc_model.specs.declared.column.ColDef.{ColDef}
 use Rattle.doc_model.specs.Column.{column_id}
 use Rattle.doc_readers.specs.Parts.{grid_at}

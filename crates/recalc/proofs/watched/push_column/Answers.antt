@@ -1,6 +1,5 @@
-use Rattle.std.proofs.Common.{◌≡◌, ◌∙◌, ◌++◌, List, ap, subst, sym, refl}
+use Rattle.std.proofs.Common.{◌≡◌, ◌∙◌, ◌++◌, ap, subst, sym}
 use Rattle.std.specs.Prelude.{OnOk}
-use Rattle.cell_types.specs.declared.cell.CellOld.{CellOld}
 use Rattle.std.proofs.lemmas.List.{append-nil}
 use Rattle.doc_readers.specs.Parts.{grid_at}
 use Rattle.recalc.specs.Lost.{cells_at}

@@ -1,4 +1,4 @@
-use Rattle.std.proofs.Common.{List, ℕ, ◌∙◌, ap, filter, sym}
+use Rattle.std.proofs.Common.{◌∙◌, ap, filter, sym}
 use Rattle.recalc.specs.InOrder.{in_order}
 use Rattle.recalc.specs.Lost.{tables_cells}
 use Rattle.recalc.specs.MayLose.{may_lose}

@@ -1,4 +1,4 @@
-use Rattle.std.proofs.Common.{List, ℕ, ◌+◌, ◌∙◌, filter, map, refl, arith, ap, sym}
+use Rattle.std.proofs.Common.{◌+◌, ◌∙◌, filter, map, refl, arith, ap}
 use Rattle.doc_model.specs.Document.{Document, Table, table_id}
 use Rattle.recalc.specs.MayLose.{may_lose_in}
 use Rattle.recalc.proofs.LosingCells.{kept_next, kept_end}

@@ -1,4 +1,4 @@
-use Rattle.std.proofs.Common.{false, sym, subst, ◌≡◌, Option, Some, None}
+use Rattle.std.proofs.Common.{false, sym, subst, ◌≡◌, Some, None}
 use Rattle.std.specs.Option.{MatchOption}
 use Rattle.doc_model.specs.Readers.{cell_at}
 use Rattle.recalc.specs.Current.{has_formulas}

@@ -1,18 +1,16 @@
 -- A circular cell is one without a value.
-use Rattle.std.proofs.Common.{ℕ, zero, suc, Bool, true, false, List, length, ◌≡◌, ◌↔◌, refl, sym, ap, ◌∙◌, subst, Option, Some, None, unwrap_or}
+use Rattle.std.proofs.Common.{ℕ, zero, suc, false, List, length, ◌≡◌, refl, sym, ap, ◌∙◌, subst, Option, Some, None, unwrap_or}
 use Rattle.std.proofs.lemmas.Bool.{true≢false}
 use Rattle.cell_types.specs.declared.cell.CellId.{CellId}
 use Rattle.cell_types.specs.declared.value.CellValue.{CellValue}
 use Rattle.cell_types.specs.declared.value.CellValue.TheVariants as value
 use Rattle.cell_types.specs.declared.value.ErrKind.TheVariants.{Circular}
 use Rattle.cell_types.specs.declared.column_type.ColType.{ColType}
-use Rattle.cell_types.specs.Conversion.{fit}
-use Rattle.formula_eval.specs.Reader.{Reader}
 use Rattle.formula_eval.specs.Run.{Out, gives, raises, stops}
 use Rattle.value_ops.specs.Raising.{IsValue, IsRaised}
 use Rattle.formula_eval.specs.Obeys.{Obeys}
 use Rattle.formula_eval.proofs.TextLaws.{text_obeys}
-use Rattle.recalc.specs.Sheet.{Sheet, Values, IsListed, over, fit_in, finished, row_of, run_of, value_by, eval, evaluated}
+use Rattle.recalc.specs.Sheet.{Sheet, over, fit_in, finished, row_of, run_of, value_by, eval, evaluated}
 use Rattle.recalc.specs.SheetLaws.{CircularLaw}
 use Rattle.cell_types.specs.ConversionLaws.{is_error}
 use Rattle.cell_types.proofs.NoErrorLemmas.{fit_no_error}

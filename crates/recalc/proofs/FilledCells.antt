@@ -1,21 +1,21 @@
 -- What is told of a cell, all values known, is what the document with its values in place holds.
-use Rattle.std.proofs.Common.{ℕ, Bool, true, false, cond, ◌&&◌, List, ◌≡◌, refl, sym, ap, ◌∙◌, subst, Option, Some, None, Bor}
+use Rattle.std.proofs.Common.{ℕ, Bool, true, false, cond, ◌&&◌, List, ◌≡◌, refl, sym, ap, ◌∙◌, Option, Some, None, Bor}
 use Rattle.std.specs.Option.{option_map, option_copied, is_some, MatchOption}
 use Rattle.cell_types.specs.declared.value.CellValue.{CellValue}
 use Rattle.doc_model.specs.declared.column.ColDef.{ColDef}
 use Rattle.doc_model.specs.ByIds.{find_id, has_id}
 use Rattle.doc_model.specs.Column.{column_id}
 use Rattle.doc_model.specs.Document.{Table, Document, table_id}
-use Rattle.doc_model.specs.Grid.{Grid, cell}
+use Rattle.doc_model.specs.Grid.{cell}
 use Rattle.doc_model.specs.Readers.{cell_at}
 use Rattle.doc_model.specs.Rows.{has}
 use Rattle.doc_model.proofs.ByIdsLaws.{found_id, has_id-find}
 use Rattle.doc_model.proofs.GridLaws.{cell-grid_of}
-use Rattle.formula_eval.specs.Reader.{Told, known, no_table, no_column, no_row}
+use Rattle.formula_eval.specs.Reader.{Told, known, no_table, no_row}
 use Rattle.recalc.specs.Cells.{cell_of}
-use Rattle.recalc.specs.Evaluated.{base_at, base_in, fill, filled_by, formula_at, formula_in, sheet_of}
+use Rattle.recalc.specs.Evaluated.{base_at, base_in, fill, filled_by, formula_at, formula_in}
 use Rattle.recalc.specs.Seen.{value_told}
-use Rattle.recalc.specs.Sheet.{Values, over, told_by}
+use Rattle.recalc.specs.Sheet.{Values, told_by}
 use Rattle.recalc.proofs.FilledLemmas.{filled_table, find_filled}
 
 pub copied_match : {X : Type 0} (o : Option (Bor X)) {p : Option X} → option_copied o ≡ p → MatchOption o (p ≡ None) (λ v. p ≡ Some v.now)

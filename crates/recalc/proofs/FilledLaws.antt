@@ -1,19 +1,18 @@
 -- A document with its values in place is laid out as the document is.
-use Rattle.std.proofs.Common.{ℕ, Bool, true, false, cond, ◌||◌, List, [], ◌∷◌, map, ◌≡◌, refl, sym, ap, ◌∙◌}
+use Rattle.std.proofs.Common.{ℕ, true, false, cond, ◌||◌, List, [], ◌∷◌, ◌≡◌, sym}
 use Rattle.std.proofs.lemmas.Simd.{map-map}
 use Rattle.std.specs.List.{AllByRecursion}
 use Rattle.std.specs.Str.{bytes_eq}
 use Rattle.cell_types.specs.declared.value.CellValue.{CellValue}
-use Rattle.doc_model.specs.declared.column.ColDef.{ColDef}
 use Rattle.doc_model.specs.ByIds.{AreDistinct}
 use Rattle.doc_model.specs.Column.{column_id}
-use Rattle.doc_model.specs.Document.{Table, Document, table_id, on_grid}
-use Rattle.doc_model.specs.Grid.{Grid, IsGrid, cell}
-use Rattle.doc_model.specs.LaidOut.{IsLaidOut, no_cells}
+use Rattle.doc_model.specs.Document.{Table, Document, table_id}
+use Rattle.doc_model.specs.Grid.{IsGrid, cell}
+use Rattle.doc_model.specs.LaidOut.{no_cells}
 use Rattle.doc_model.specs.MetadataIds.{is_metadata_id}
 use Rattle.doc_model.specs.Sound.{IsSoundGrid, has_names}
 use Rattle.doc_model.proofs.GridLaws.{IsGrid-grid_of}
-use Rattle.recalc.specs.Evaluated.{fill, filled_by, value_of}
+use Rattle.recalc.specs.Evaluated.{filled_by, value_of}
 use Rattle.recalc.specs.FilledLaws.{LaidOutLaw, SamePartsLaw}
 use Rattle.recalc.proofs.FilledLemmas.{filled_table}
 

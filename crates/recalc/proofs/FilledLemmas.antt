@@ -1,12 +1,11 @@
 -- What a document with its values in place tells.
-use Rattle.std.proofs.Common.{ℕ, zero, suc, Bool, true, false, cond, ◌&&◌, List, [], ◌∷◌, map, slice_get, ◌≡◌, refl, sym, ap, ◌∙◌, Option, Some, None}
+use Rattle.std.proofs.Common.{ℕ, zero, suc, true, false, cond, List, [], ◌∷◌, slice_get, ◌≡◌, refl, ap, ◌∙◌, Option, Some, None}
 use Rattle.std.specs.Option.{option_map}
 use Rattle.std.specs.Str.{bytes_eq}
 use Rattle.cell_types.specs.declared.value.CellValue.{CellValue}
 use Rattle.doc_model.specs.declared.column.ColDef.{ColDef}
 use Rattle.doc_model.specs.ByIds.{find_id}
 use Rattle.doc_model.specs.Document.{Table, Document, table_id, on_grid}
-use Rattle.doc_model.specs.Grid.{Grid}
 use Rattle.doc_model.specs.Readers.{table_at, column_at, rows_at}
 use Rattle.recalc.specs.Evaluated.{fill, filled_by}
 

@@ -1,12 +1,12 @@
 -- More fuel changes no value.
-use Rattle.std.proofs.Common.{ℕ, zero, suc, ◌≤◌, ◌<◌, List, [], ◌∷◌, ◌≡◌, ◌⊎◌, inl, inr, refl, sym, ap, ◌∙◌, subst, Option, Some, None, arith}
+use Rattle.std.proofs.Common.{ℕ, zero, suc, ◌≤◌, List, ◌≡◌, ◌⊎◌, inl, inr, refl, sym, ap, ◌∙◌, subst, Option, Some, None, arith}
 use Rattle.cell_types.specs.declared.cell.CellId.{CellId}
 use Rattle.cell_types.specs.declared.value.CellValue.{CellValue}
-use Rattle.formula_eval.specs.Reader.{Told, known, needed}
-use Rattle.formula_eval.specs.Run.{Stop, need, Out, gives, raises, stops, Run}
+use Rattle.formula_eval.specs.Reader.{known}
+use Rattle.formula_eval.specs.Run.{Stop, Out, gives, raises, stops}
 use Rattle.formula_eval.specs.Reading.{told_out}
-use Rattle.formula_eval.specs.Likeness.{IsSameOut, StopsBy, IsAlikeOut, IsAlikeRun}
-use Rattle.recalc.specs.Sheet.{Sheet, Values, told_by, over, finished, run_of, value_by, step, eval}
+use Rattle.formula_eval.specs.Likeness.{StopsBy, IsAlikeOut}
+use Rattle.recalc.specs.Sheet.{Sheet, Values, told_by, over, run_of, value_by, step, eval}
 use Rattle.recalc.specs.SheetLaws.{FuelLaw}
 use Rattle.recalc.proofs.Over.{same_out, IsAlikeCell, over_alike, finished_same, finished_stop}
 

@@ -1,16 +1,12 @@
 -- Where a thing goes among things that stand by their ids.
-use Rattle.std.proofs.Common.{ℕ, zero, suc, ◌+◌, Bool, true, false, cond, not, ◌||◌, eqb, ltb, List, [], ◌∷◌, ◌++◌, take, drop, length, get_or, ◌≡◌, ◌<◌, ◌≤◌, refl, sym, ap, subst, ◌∙◌, arith, append_assoc, drop-cons, set}
+use Rattle.std.proofs.Common.{ℕ, suc, ◌+◌, cond, List, [], ◌∷◌, ◌++◌, take, drop, length, get_or, ◌≡◌, ◌<◌, refl, sym, ap, ◌∙◌, arith, append_assoc, drop-cons, set}
 use Rattle.std.specs.declared.cmp.Ordering.TheVariants.{Less, Equal, Greater}
-use Rattle.std.proofs.lemmas.Bool.{eqb-true, eq-eqb, le-ltb, lt-ltb, ne_eqb, or_right}
 use Rattle.std.proofs.lemmas.List.{set_split, take_more}
 use Rattle.std.proofs.lemmas.Map.Text.{is_eq-slice_cmp}
 use Rattle.std.specs.Cmp.Lexicographic.{slice_cmp}
 use Rattle.std.specs.Ordering.{nat_cmp, is_lt, is_eq}
 use Rattle.std.specs.Str.{bytes_eq}
 use Rattle.doc_model.specs.ByIds.{precedes, put_by_id}
-use Rattle.doc_model.specs.Rows.{has, insert_row, insert_rows, IsAscending}
-use Rattle.doc_model.proofs.Choices.{both_true, cond_true, cond_false, or_assoc, or_swap}
-use Rattle.doc_model.proofs.RowsLaws.{has_below, has-insert_row, has-insert_rows, IsAscending-insert_row, IsAscending-insert_rows, same_ascending}
 use Rattle.recalc.specs.InOrder.{GoesBefore, GoesOver}
 
 module _ {X : Type 0} (id : X → List ℕ) where

@@ -1,9 +1,9 @@
 -- What is kept of a document has its tables and columns.
-use Rattle.std.proofs.Common.{ℕ, zero, suc, ◌<◌, Bool, true, false, cond, ◌&&◌, List, [], ◌∷◌, map, length, get_or, set, slice_get, ◌≡◌, refl, sym, ap, ◌∙◌, subst, Option, Some, None}
+use Rattle.std.proofs.Common.{ℕ, Bool, true, false, cond, ◌&&◌, List, [], ◌∷◌, map, length, get_or, ◌≡◌, refl, sym, ap, ◌∙◌, Option, Some, None}
 use Rattle.std.proofs.Math.Seq.{map-set_same}
 use Rattle.std.proofs.lemmas.Simd.{map-map}
 use Rattle.std.proofs.lemmas.List.{length-set, length-map}
-use Rattle.std.proofs.lemmas.Option.{get_or_from_slice_get, slice_get_within}
+use Rattle.std.proofs.lemmas.Option.{get_or_from_slice_get}
 use Rattle.std.specs.Option.{option_map}
 use Rattle.std.specs.Str.{bytes_eq}
 use Rattle.cell_types.specs.declared.cell.CellId.{CellId}
@@ -16,7 +16,6 @@ use Rattle.doc_model.specs.Column.{column_id}
 use Rattle.doc_model.specs.Document.{Table, Document, table_id}
 use Rattle.doc_model.specs.Grid.{Grid}
 use Rattle.doc_model.specs.Rows.{has}
-use Rattle.doc_model.specs.Schema.{no_grid}
 use Rattle.doc_readers.specs.Parts.{grid_at}
 use Rattle.recalc.specs.declared.kept.KeptColumn.{KeptColumn}
 use Rattle.recalc.specs.declared.kept.KeptTable.{KeptTable}

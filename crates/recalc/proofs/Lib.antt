@@ -21,3 +21,7 @@ pub mod FilledCells
 pub mod FilledLaws
 pub mod WatchedCells
 pub mod OutsideRows
+pub mod PlainLemmas
+pub mod SortedRows
+pub mod LosingCells
+pub mod MayLoseCells

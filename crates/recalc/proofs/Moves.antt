@@ -2,14 +2,13 @@
 use Rattle.std.proofs.Common.{ℕ, zero, suc, ◌+◌, ◌≤◌, ◌<◌, Bool, true, false, cond, not, ◌&&◌, ◌||◌, List, [], ◌∷◌, ◌++◌, length, ◌≡◌, ◌⊎◌, inl, inr, refl, sym, ap, ◌∙◌, subst, Option, Some, None, arith, unwrap_or}
 use Rattle.std.proofs.lemmas.Bool.{false≢true, true≢false}
 use Rattle.std.specs.Option.{is_some}
-use Rattle.std.specs.List.{list_any}
 use Rattle.cell_types.specs.declared.cell.CellId.{CellId}
 use Rattle.cell_types.specs.declared.value.CellValue.{CellValue}
 use Rattle.cell_types.specs.declared.value.CellValue.TheVariants.{Err}
 use Rattle.cell_types.specs.declared.value.ErrKind.TheVariants.{Circular}
 use Rattle.recalc.specs.Sheet.{Sheet, Values, IsIn, eval, evaluated}
 use Rattle.recalc.specs.Cells.{same_cell}
-use Rattle.recalc.specs.Stack.{IsSheet, IsSound, Waits, IsChain, IsOpen, AreOpen, IsWorking, on, one, count, is_open, is_fresh, work}
+use Rattle.recalc.specs.Stack.{IsSheet, IsSound, Waits, IsChain, IsOpen, AreOpen, IsWorking, on, count, is_open, is_fresh, work}
 use Rattle.recalc.proofs.Fuel.{none_some}
 use Rattle.recalc.proofs.Settled.{count_more, count_same}
 use Rattle.recalc.proofs.Turn.{same_true, same_itself}

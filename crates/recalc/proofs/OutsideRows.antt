@@ -19,20 +19,19 @@ use Rattle.doc_model.specs.MetadataIds.{tables_id, columns_id, is_schema_id}
 use Rattle.doc_model.specs.Readers.{cell_at}
 use Rattle.doc_model.specs.Rows.{has}
 use Rattle.doc_model.specs.Same.{same_value}
-use Rattle.doc_model.specs.SameRows.{Both, SameRow}
+use Rattle.doc_model.specs.SameRows.{Both}
 use Rattle.doc_model.specs.Touched.{names_table, is_about, is_row_touched, tables_touched, columns_touched, AreSameTables}
 use Rattle.doc_model.specs.Valid.{valid}
-use Rattle.doc_model.proofs.Choices.{cond_true, cond_false, both_true}
-use Rattle.doc_model.proofs.ByIdsLaws.{found_id, has_found, bytes_itself, has_id-by_id, has_id-map}
-use Rattle.doc_model.proofs.GridLaws.{cell-grid_of}
+use Rattle.doc_model.proofs.Choices.{cond_true, both_true}
+use Rattle.doc_model.proofs.ByIdsLaws.{has_found, bytes_itself, has_id-by_id, has_id-map}
 use Rattle.doc_model.proofs.RowsLaws.{number_itself}
 use Rattle.doc_model.proofs.SameLaws.{same_value-Decides}
 use Rattle.doc_model.proofs.UntouchedRows.{untouched}
 use Rattle.doc_readers.specs.Parts.{grid_at}
 use Rattle.recalc.specs.Cells.{cell_of}
-use Rattle.recalc.specs.Evaluated.{filled_by, filled, value_of}
+use Rattle.recalc.specs.Evaluated.{filled, value_of}
 use Rattle.recalc.specs.InOrder.{in_order, itself}
-use Rattle.recalc.specs.Lost.{all_cells, cells_at, columns_cells, table_cells, tables_cells, table_after, column_after, differs, is_lost, lost}
+use Rattle.recalc.specs.Lost.{all_cells, cells_at, columns_cells, table_cells, tables_cells, column_after, differs, is_lost, lost}
 use Rattle.recalc.specs.Outside.{is_in_row, is_row_among, OutsideLaw}
 use Rattle.recalc.proofs.FilledLemmas.{filled_table, find_filled}
 use Rattle.recalc.proofs.WatchedCells.{same_table, same_column, grid_filled}

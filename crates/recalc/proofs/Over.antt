@@ -1,18 +1,17 @@
 -- Two runs of a formula over one sheet, with different known values.
-use Rattle.std.proofs.Common.{ℕ, zero, suc, List, [], ◌∷◌, ◌≡◌, ◌⊎◌, inl, inr, refl, sym, ap, ◌∙◌, subst, Option, Some, None}
+use Rattle.std.proofs.Common.{ℕ, List, [], ◌∷◌, ◌≡◌, inl, refl, ap, subst, Option, Some, None}
 use Rattle.std.specs.List.{AllByRecursion}
 use Rattle.cell_types.specs.declared.cell.CellId.{CellId}
 use Rattle.cell_types.specs.declared.value.CellValue.{CellValue}
 use Rattle.cell_types.specs.declared.column_type.ColType.{ColType}
 use Rattle.cell_types.specs.declared.cell.Read.{Read}
 use Rattle.cell_types.specs.declared.cell.Read.TheVariants.{Cell, Key, Rows}
-use Rattle.formula_eval.specs.Reader.{Told, Reader}
-use Rattle.formula_eval.specs.Run.{Stop, need, Out, gives, raises, stops, Run, reads_of}
+use Rattle.formula_eval.specs.Run.{Stop, Out, gives, raises, stops, reads_of}
 use Rattle.formula_eval.specs.Reading.{told_out}
 use Rattle.formula_eval.specs.Likeness.{IsSameOut, StopsBy, IsAlikeOut, IsAlikeRun, IsAlikeRead, IsJoined}
 use Rattle.formula_eval.proofs.TextLaws.{text_alike, text_covers}
 use Rattle.recalc.specs.Cells.{cell_of}
-use Rattle.recalc.specs.Sheet.{Sheet, Values, told_by, over, finished, row_of, run_of, value_by, step}
+use Rattle.recalc.specs.Sheet.{Sheet, Values, told_by, over, finished, row_of, run_of}
 
 pub same_out : {A : Type 0} (L : Stop → Type 0) (R : Type 0) (o p : Out A) → o ≡ p → IsAlikeOut L R o p
 same_out L R (gives v) p e = subst (λ q. IsAlikeOut L R (gives v) q) e (inl refl)

@@ -4,14 +4,12 @@ use Rattle.std.proofs.lemmas.Bool.{true≢false, false≢true, eqb-true, eq-eqb,
 use Rattle.std.proofs.lemmas.Slice.Eq.{bytes_eq-Decides}
 use Rattle.std.specs.List.{position, position_or_len, AllByRecursion}
 use Rattle.std.proofs.lemmas.Bool.{ltb-true}
-use Rattle.std.specs.Option.{option_map}
 use Rattle.std.specs.Str.{bytes_eq}
 use Rattle.cell_types.specs.declared.cell.CellId.{CellId}
 use Rattle.cell_types.specs.declared.value.CellValue.{CellValue}
 use Rattle.doc_model.specs.ByIds.{find_id}
 use Rattle.doc_model.specs.Rows.{IsAscending, has}
 use Rattle.recalc.specs.Seen.{joined}
-use Rattle.doc_model.specs.Grid.{beside}
 use Rattle.doc_model.proofs.Choices.{cond_true, cond_false}
 use Rattle.doc_model.specs.Document.{Document}
 use Rattle.doc_readers.specs.Parts.{grid_at}
@@ -19,7 +17,7 @@ use Rattle.recalc.specs.declared.kept.KeptColumn.{KeptColumn}
 use Rattle.recalc.specs.declared.kept.KeptTable.{KeptTable}
 use Rattle.recalc.specs.Kept.{held_in, held_column, held_table, held_at, kept_table_id, kept_column_id}
 use Rattle.recalc.specs.Cells.{same_cell}
-use Rattle.recalc.specs.Put.{IsPutInTables, HasSpot}
+use Rattle.recalc.specs.Put.{IsPutInTables}
 use Rattle.std.proofs.lemmas.Option.{get_or_from_slice_get}
 
 -- in one column

@@ -1,29 +1,26 @@
 -- What is done of a list, item by item.
-use Rattle.std.proofs.Common.{ℕ, zero, suc, ◌+◌, ◌<◌, ◌≤◌, Bool, true, false, cond, List, [], ◌∷◌, ◌++◌, map, length, get_or, slice_get, ◌≡◌, ◌⊎◌, inl, inr, refl, sym, ap, ◌∙◌, subst, Option, Some, None, arith}
+use Rattle.std.proofs.Common.{ℕ, suc, ◌+◌, ◌<◌, ◌≤◌, true, false, cond, List, [], ◌∷◌, ◌++◌, map, length, get_or, slice_get, ◌≡◌, ◌⊎◌, inl, inr, refl, sym, ap, ◌∙◌, subst, Option, Some, None, arith}
 use Rattle.std.proofs.lemmas.Bool.{true≢false}
 use Rattle.std.proofs.lemmas.Option.{slice_get-map, get_or_from_slice_get}
 use Rattle.std.proofs.lemmas.List.{length-map}
 use Rattle.std.specs.List.{AllByRecursion}
-use Rattle.std.specs.Option.{is_some, option_map}
+use Rattle.std.specs.Option.{is_some}
 use Rattle.cell_types.specs.declared.cell.CellId.{CellId}
 use Rattle.cell_types.specs.declared.value.CellValue.{CellValue}
 use Rattle.doc_model.specs.declared.column.ColDef.{ColDef}
-use Rattle.doc_model.specs.Document.{Table, Document, table_id}
+use Rattle.doc_model.specs.Document.{Table, Document}
 use Rattle.doc_model.specs.DocumentLaws.{IsWhole}
 use Rattle.doc_model.specs.Grid.{Grid}
-use Rattle.doc_model.specs.Readers.{column_at, table_at}
 use Rattle.doc_model.proofs.Choices.{each_weaker}
 use Rattle.doc_readers.specs.Parts.{grid_at}
 use Rattle.recalc.specs.Cells.{cell_of}
 use Rattle.recalc.specs.declared.kept.KeptTable.{KeptTable}
-use Rattle.recalc.specs.Evaluated.{cells_of_column, cells_of_columns, formula_at, formula_cells, sheet_of, value_of}
+use Rattle.recalc.specs.Evaluated.{cells_of_column, cells_of_columns, formula_cells, sheet_of, value_of}
 use Rattle.recalc.specs.Kept.{AreKnown, ColumnShape, TableShape, IsEvaluated, IsFurther, IsKeptOf, IsSettled, held_at}
 use Rattle.recalc.specs.Sheet.{Values, IsIn, evaluated}
-use Rattle.recalc.specs.Stack.{IsSound}
 use Rattle.recalc.specs.Turn.{StaysKnown}
-use Rattle.recalc.proofs.KeptLemmas.{match_some, shape_kept, shape_blank, column_kept, column_blank, blank_kept, blank_held}
+use Rattle.recalc.proofs.KeptLemmas.{match_some, shape_kept, shape_blank, blank_kept, blank_held}
 use Rattle.recalc.proofs.SheetLemmas.{is_sheet}
-use Rattle.recalc.proofs.WalkLemmas.{table_read, table_past}
 use Rattle.recalc.proofs.WholeLemmas.{grid_there}
 
 -- each of the first n items

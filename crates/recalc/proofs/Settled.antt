@@ -1,16 +1,15 @@
 -- As much fuel as there are formula cells is enough.
 use mathlib.Core.Path.{fun_ext}
-use Rattle.std.proofs.Common.{ℕ, zero, suc, ◌+◌, ◌≤◌, ◌<◌, Bool, true, false, cond, List, [], ◌∷◌, length, ◌≡◌, ◌⊎◌, inl, inr, refl, sym, ap, ◌∙◌, subst, Option, Some, None, arith, unwrap_or}
+use Rattle.std.proofs.Common.{ℕ, zero, suc, ◌+◌, ◌≤◌, Bool, true, false, List, [], ◌∷◌, length, ◌≡◌, ◌⊎◌, inl, inr, refl, sym, ap, ◌∙◌, subst, Option, Some, None, arith, unwrap_or}
 use Rattle.std.specs.Option.{is_some}
 use Rattle.cell_types.specs.declared.cell.CellId.{CellId}
-use Rattle.cell_types.specs.declared.value.CellValue.{CellValue}
 use Rattle.cell_types.specs.declared.value.CellValue.TheVariants.{Err}
 use Rattle.cell_types.specs.declared.value.ErrKind.TheVariants.{Circular}
-use Rattle.recalc.specs.Sheet.{Sheet, Values, IsIn, IsListed, step, value_by, eval, evaluated}
+use Rattle.recalc.specs.Sheet.{Sheet, IsIn, IsListed, step, value_by, eval}
 use Rattle.recalc.specs.Stack.{one, count}
-use Rattle.recalc.specs.SheetLaws.{FuelLaw, SettledLaw, ValueLaw}
+use Rattle.recalc.specs.SheetLaws.{SettledLaw, ValueLaw}
 use Rattle.recalc.proofs.Settles.{settles}
-use Rattle.recalc.proofs.Fuel.{Extends, none_some, fuel_one, fuel_law}
+use Rattle.recalc.proofs.Fuel.{fuel_one, fuel_law}
 
 pub count_length : (p : CellId → Bool) (cs : List CellId) → count p cs ≤ length cs
 count_length p [] = omega arith

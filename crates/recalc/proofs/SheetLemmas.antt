@@ -1,11 +1,10 @@
 -- A document as formulas see it.
-use Rattle.std.proofs.Common.{ℕ, Bool, true, false, cond, ◌&&◌, ◌||◌, nat_eq, List, [], ◌∷◌, ◌++◌, map, ◌≡◌, ◌⊎◌, inl, inr, refl, sym, ap, ◌∙◌, subst, Option, Some, None}
-use Rattle.std.proofs.lemmas.Bool.{true≢false, false≢true, eqb-true}
+use Rattle.std.proofs.Common.{ℕ, Bool, true, false, cond, ◌&&◌, ◌||◌, nat_eq, List, [], ◌∷◌, ◌++◌, map, ◌≡◌, inl, inr, refl, sym, ap, ◌∙◌, subst, Option, Some, None}
+use Rattle.std.proofs.lemmas.Bool.{false≢true, eqb-true}
 use Rattle.std.proofs.lemmas.Slice.Eq.{bytes_eq-Decides}
 use Rattle.std.specs.Option.{option_map}
 use Rattle.std.specs.Str.{bytes_eq}
 use Rattle.cell_types.specs.declared.cell.CellId.{CellId}
-use Rattle.cell_types.specs.declared.column_type.ColType.{ColType}
 use Rattle.doc_model.specs.declared.column.ColDef.{ColDef}
 use Rattle.doc_model.specs.ByIds.{find_id}
 use Rattle.doc_model.specs.Rows.{has}
@@ -14,10 +13,10 @@ use Rattle.doc_model.specs.Column.{column_id}
 use Rattle.doc_model.specs.Document.{Table, Document, table_id}
 use Rattle.doc_model.specs.Schema.{no_grid}
 use Rattle.doc_readers.specs.Parts.{grid_at}
-use Rattle.formula_eval.specs.Reader.{Told, known, no_table, no_column, no_row, needed}
+use Rattle.formula_eval.specs.Reader.{Told, known, no_table, no_row, needed}
 use Rattle.recalc.specs.Cells.{cell_of}
-use Rattle.recalc.specs.Sheet.{Sheet, IsIn}
-use Rattle.recalc.specs.Evaluated.{formula_in, formula_at, base_in, base_at, cells_of_column, cells_of_columns, formula_cells, sheet_of, column_in}
+use Rattle.recalc.specs.Sheet.{IsIn}
+use Rattle.recalc.specs.Evaluated.{formula_in, formula_at, base_in, base_at, cells_of_column, cells_of_columns, formula_cells, sheet_of}
 use Rattle.recalc.specs.Stack.{IsSheet}
 
 in_left : (c : CellId) (xs ys : List CellId) → IsIn c xs → IsIn c (xs ++ ys)

@@ -1,5 +1,5 @@
 -- The place of an open cell among what is kept.
-use Rattle.std.proofs.Common.{ℕ, ◌<◌, Bool, true, false, cond, ◌&&◌, nat_lt, List, length, get_or, slice_get, ◌≡◌, refl, sym, ap, ◌∙◌, subst, Option, Some, None}
+use Rattle.std.proofs.Common.{ℕ, ◌<◌, Bool, true, false, cond, ◌&&◌, List, length, get_or, slice_get, ◌≡◌, refl, sym, ap, ◌∙◌, subst, Option, Some, None}
 use Rattle.std.proofs.lemmas.Bool.{true≢false, false≢true, lt-ltb}
 use Rattle.std.proofs.lemmas.Option.{slice_get_within}
 use Rattle.std.proofs.lemmas.List.Folds.{find_at}
@@ -16,12 +16,12 @@ use Rattle.doc_model.specs.Rows.{IsAscending, has}
 use Rattle.doc_readers.specs.Parts.{grid_at}
 use Rattle.recalc.specs.declared.kept.KeptColumn.{KeptColumn}
 use Rattle.recalc.specs.declared.kept.KeptTable.{KeptTable}
-use Rattle.recalc.specs.Evaluated.{formula_at, formula_in, sheet_of}
+use Rattle.recalc.specs.Evaluated.{formula_in, sheet_of}
 use Rattle.recalc.specs.Kept.{IsKeptOf, held_at, kept_column_id, kept_table_id}
 use Rattle.recalc.specs.Put.{HasSpot, IsPutInTables}
 use Rattle.recalc.specs.Cells.{same_cell}
 use Rattle.recalc.specs.Stack.{IsOpen}
-use Rattle.recalc.proofs.KeptLemmas.{find_table, find_column, table_of, column_of, match_none, places_of, shape_kept, shape_blank, column_kept, column_blank, tables_put}
+use Rattle.recalc.proofs.KeptLemmas.{find_table, find_column, table_of, column_of, match_none, places_of, shape_kept, shape_blank, column_kept, column_blank}
 use Rattle.recalc.proofs.PlaceLemmas.{IsFirst, position_first, first_there, item_there, same_item, find-first, put_done}
 use Rattle.recalc.proofs.ToldCells.{grid_found}
 

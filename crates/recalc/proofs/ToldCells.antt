@@ -1,5 +1,5 @@
 -- What a document and what is kept of it tell of a cell.
-use Rattle.std.proofs.Common.{ℕ, zero, suc, Bool, true, false, cond, ◌&&◌, List, [], ◌∷◌, slice_get, ◌≡◌, refl, sym, ap, ◌∙◌, subst, Option, Some, None}
+use Rattle.std.proofs.Common.{ℕ, zero, suc, Bool, true, false, cond, ◌&&◌, List, [], ◌∷◌, slice_get, ◌≡◌, refl, sym, ap, ◌∙◌, Option, Some, None}
 use Rattle.std.specs.Option.{is_some}
 use Rattle.cell_types.specs.declared.value.CellValue.{CellValue}
 use Rattle.doc_model.specs.declared.column.ColDef.{ColDef}
@@ -12,11 +12,11 @@ use Rattle.doc_model.specs.Readers.{cell_at}
 use Rattle.doc_model.specs.Rows.{IsAscending, has}
 use Rattle.doc_model.specs.Schema.{no_grid}
 use Rattle.doc_readers.specs.Parts.{grid_at}
-use Rattle.formula_eval.specs.Reader.{Told, known, no_table, no_column, no_row, needed}
+use Rattle.formula_eval.specs.Reader.{Told, known, no_table, no_column, no_row}
 use Rattle.recalc.specs.Cells.{cell_of}
 use Rattle.recalc.specs.declared.kept.KeptColumn.{KeptColumn}
 use Rattle.recalc.specs.declared.kept.KeptTable.{KeptTable}
-use Rattle.recalc.specs.Evaluated.{formula_at, formula_in, base_at, base_in, sheet_of}
+use Rattle.recalc.specs.Evaluated.{formula_in, base_in, sheet_of}
 use Rattle.recalc.specs.Kept.{ColumnShape, IsKeptOf, held_at, held_column, held_in, held_table, kept_column_id, kept_table_id}
 use Rattle.recalc.specs.Seen.{told_or_needed, told_or_no_row, joined}
 use Rattle.recalc.specs.Sheet.{over, told_by}

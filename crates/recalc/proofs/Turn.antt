@@ -1,29 +1,25 @@
 -- One attempt at the cell on top of the stack.
-use Rattle.std.proofs.Common.{ℕ, zero, suc, ◌+◌, ◌≤◌, ◌<◌, Bool, true, false, cond, not, ◌&&◌, nat_eq, List, [], ◌∷◌, ◌++◌, length, ◌≡◌, ◌⊎◌, inl, inr, refl, sym, ap, ◌∙◌, subst, Option, Some, None, arith, unwrap_or}
+use Rattle.std.proofs.Common.{ℕ, Bool, true, false, ◌&&◌, nat_eq, List, [], ◌∷◌, ◌++◌, length, ◌≡◌, ◌⊎◌, inl, inr, refl, sym, ap, ◌∙◌, subst, Option, Some, None, unwrap_or}
 use Rattle.std.proofs.lemmas.Bool.{false≢true, true≢false, eqb-true, eq-eqb}
-use Rattle.std.proofs.lemmas.List.{append-nil}
-use Rattle.std.specs.Option.{is_some}
 use Rattle.std.specs.Str.{bytes_eq}
 use Rattle.std.proofs.lemmas.Slice.Eq.{bytes_eq-Decides}
 use Rattle.cell_types.specs.declared.value.ErrKind.{ErrKind}
-use Rattle.std.specs.List.{list_any, AllByRecursion}
 use Rattle.cell_types.specs.declared.cell.CellId.{CellId}
 use Rattle.cell_types.specs.declared.value.CellValue.{CellValue}
 use Rattle.cell_types.specs.declared.value.CellValue.TheVariants.{Err}
 use Rattle.cell_types.specs.declared.value.ErrKind.TheVariants.{Circular}
 use Rattle.cell_types.specs.declared.column_type.ColType.{ColType}
 use Rattle.cell_types.specs.declared.column_type.ColType.TheVariants as ty
-use Rattle.formula_eval.specs.Reader.{Told, known, needed, Reader}
-use Rattle.formula_eval.specs.Run.{Stop, circular, need, Out, gives, raises, stops, Run, IsAmong, MayName, reads_of}
+use Rattle.formula_eval.specs.Reader.{known, needed}
+use Rattle.formula_eval.specs.Run.{Stop, circular, need, Out, gives, raises, stops, IsAmong, MayName, reads_of}
 use Rattle.formula_eval.specs.Reading.{told_out}
 use Rattle.formula_eval.specs.Attempted.{value_of}
-use Rattle.formula_eval.specs.Likeness.{IsSameOut, StopsBy, IsAlikeOut, IsAlikeRun, IsJoined}
-use Rattle.formula_eval.specs.Names.{NamedOut}
+use Rattle.formula_eval.specs.Likeness.{StopsBy, IsAlikeOut, IsJoined}
 use Rattle.formula_eval.proofs.Named.{may_needed}
 use Rattle.formula_eval.proofs.TextLaws.{text_named}
-use Rattle.recalc.specs.Sheet.{Sheet, Values, IsIn, IsListed, told_by, over, fit_in, finished, row_of, run_of, value_by, step, eval, evaluated}
+use Rattle.recalc.specs.Sheet.{Sheet, Values, told_by, over, fit_in, finished, row_of, run_of, value_by, eval, evaluated}
 use Rattle.recalc.specs.Cells.{same_cell}
-use Rattle.recalc.specs.Stack.{IsSheet, IsSound, Waits, IsChain, IsOpen}
+use Rattle.recalc.specs.Stack.{IsSheet, IsSound, Waits, IsOpen}
 use Rattle.recalc.proofs.Over.{same_out, IsAlikeCell, over_alike, finished_same, finished_stop}
 use Rattle.recalc.proofs.Fuel.{none_some}
 use Rattle.recalc.proofs.Settled.{value_law, fixed}

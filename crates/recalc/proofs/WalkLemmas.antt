@@ -1,15 +1,10 @@
 -- A walk over things by their places, and the greatest of rows that ascend.
-use Rattle.std.specs.Prelude.{ℤ, ◌==◌}
-use Rattle.std.proofs.Common.{ℕ, zero, suc, ◌+◌, ◌-◌, ◌<◌, false, List, [], ◌∷◌, ◌++◌, map, length, length-append, take, slice_get, get_or, ◌≡◌, refl, sym, ap, ◌∙◌, Some, None, arith, ltb}
+use Rattle.std.proofs.Common.{ℕ, zero, suc, ◌+◌, ◌-◌, ◌<◌, List, [], ◌∷◌, ◌++◌, map, length, length-append, take, slice_get, get_or, ◌≡◌, refl, sym, ap, ◌∙◌, Some, None, arith}
 use Rattle.std.proofs.lemmas.Option.{slice_get_within, get_or_from_slice_get}
 use Rattle.std.proofs.lemmas.List.{take_more, map-append, length-map}
-use Rattle.std.proofs.lemmas.Bool.{le-ltb, lt-ltb}
-use Rattle.std.specs.List.{AllByRecursion}
 use Rattle.std.specs.Option.{option_map}
 use Rattle.doc_model.specs.Document.{Table, Document, table_id}
 use Rattle.doc_model.specs.Readers.{table_at}
-use Rattle.doc_model.specs.Rows.{IsAscending}
-use Rattle.doc_model.proofs.Choices.{cond_true, cond_false}
 
 module _ {X Y : Type 0} (f : X → Y) (all : List X) (ys zs : List Y) (n : ℕ) (x : X) (y : Y) (counts : n ≡ length ys) (at : slice_get all n ≡ Some x) (is : y ≡ f x) (made : zs ≡ ys ++ y ∷ []) where
   longer : length zs ≡ n + 1

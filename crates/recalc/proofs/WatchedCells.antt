@@ -1,7 +1,6 @@
 -- What an action loses stands in formula columns or in rows that it touches.
-use Rattle.std.proofs.Common.{ℕ, Bool, true, false, cond, not, ◌||◌, ◌&&◌, List, [], ◌∷◌, ◌++◌, map, filter, ◌≡◌, refl, sym, ap, subst, ◌∙◌, Option, Some, None}
-use Rattle.std.proofs.lemmas.Bool.{false≢true, true≢false, or_parts}
-use Rattle.std.proofs.lemmas.Slice.Eq.{bytes_eq-Decides}
+use Rattle.std.proofs.Common.{ℕ, Bool, true, false, cond, not, ◌||◌, ◌&&◌, List, [], ◌∷◌, map, filter, ◌≡◌, refl, sym, ap, subst, ◌∙◌, Option, Some, None}
+use Rattle.std.proofs.lemmas.Bool.{false≢true, or_parts}
 use Rattle.std.specs.List.{AllByRecursion}
 use Rattle.std.specs.Option.{option_map, is_some}
 use Rattle.std.specs.Str.{bytes_eq}
@@ -15,11 +14,10 @@ use Rattle.doc_model.specs.ByIds.{find_id, has_id}
 use Rattle.doc_model.specs.Column.{column_id}
 use Rattle.doc_model.specs.Document.{Table, Document, table_id}
 use Rattle.doc_model.specs.DocumentLaws.{IsWhole}
-use Rattle.doc_model.specs.Grid.{Grid, cell, grid_of}
+use Rattle.doc_model.specs.Grid.{Grid, cell}
 use Rattle.doc_model.specs.Readers.{cell_at}
 use Rattle.doc_model.specs.Rows.{has}
-use Rattle.doc_model.specs.Same.{same_value}
-use Rattle.doc_model.specs.SameRows.{Both, SameRow}
+use Rattle.doc_model.specs.SameRows.{Both}
 use Rattle.doc_model.specs.Touched.{names_table, is_about, is_row_touched, tables_touched, columns_touched, AreSameTables}
 use Rattle.doc_model.specs.MetadataIds.{tables_id, columns_id}
 use Rattle.doc_model.specs.Valid.{valid}
@@ -33,9 +31,9 @@ use Rattle.doc_model.proofs.WholeLaws.{each_append}
 use Rattle.doc_model.specs.Schema.{no_grid}
 use Rattle.doc_readers.specs.Parts.{grid_at}
 use Rattle.recalc.specs.Cells.{cell_of}
-use Rattle.recalc.specs.Evaluated.{column_in, fill, filled_by, filled, value_of}
+use Rattle.recalc.specs.Evaluated.{filled_by, filled, value_of}
 use Rattle.recalc.specs.InOrder.{in_order, itself}
-use Rattle.recalc.specs.Lost.{all_cells, cells_at, columns_cells, table_cells, tables_cells, table_after, column_after, differs, is_lost, lost}
+use Rattle.recalc.specs.Lost.{all_cells, cells_at, columns_cells, table_cells, tables_cells, table_after, column_after, differs, is_lost}
 use Rattle.recalc.specs.Watched.{is_computed, is_watched, WatchedLaw}
 use Rattle.recalc.proofs.FilledLemmas.{filled_table, find_filled}
 
@@ -119,7 +117,7 @@ module _ (s : Document) (a : DocAction) (whole : IsWhole s) (v : valid s a ≡ t
   abbrev IsKept : CellOld → Type 0
   IsKept o = is_watched s a o ≡ false → is_lost (filled after) a o ≡ false
 
-  cell_kept : (t c : List ℕ) (r : ℕ) (x : Table) (d : ColDef) → find_id table_id t s ≡ Some x → find_id column_id c x.grid.columns ≡ Some d → has x.grid.rows r ≡ true → IsKept (cell_there t c r)
+  pub cell_kept : (t c : List ℕ) (r : ℕ) (x : Table) (d : ColDef) → find_id table_id t s ≡ Some x → find_id column_id c x.grid.columns ≡ Some d → has x.grid.rows r ≡ true → IsKept (cell_there t c r)
   cell_kept t c r x d at found here watched =
       by_table (find_id table_id t after) refl (subst (λ o. Both (AreSameTables r) o (find_id table_id t after)) at (untouched s a whole v t r two.1))
     where
@@ -150,43 +148,45 @@ module _ (s : Document) (a : DocAction) (whole : IsWhole s) (v : valid s a ≡ t
           ap (differs (cell column_id (grid_at (filled s) t) c r)) told
           ∙ ap not ((same_value-Decides (cell column_id (grid_at (filled s) t) c r) (cell column_id y.grid c r)).1 (old ∙ values))
 
-  -- ---- all cells
+-- ---- all cells
 
-  cells_kept : (t c : List ℕ) (x : Table) (d : ColDef) → find_id table_id t s ≡ Some x → find_id column_id c x.grid.columns ≡ Some d
-      → (rows : List ℕ) → AllByRecursion (λ r. has x.grid.rows r ≡ true) rows → AllByRecursion IsKept (cells_at t (grid_at (filled s) t) c rows)
-  cells_kept t c x d at found [] h = tt
-  cells_kept t c x d at found (r ∷ rows) h = (cell_kept t c r x d at found h.0, cells_kept t c x d at found rows h.1)
+module _ (s : Document) (P : CellOld → Type 0)
+    (each : (t c : List ℕ) (r : ℕ) (x : Table) (d : ColDef) → find_id table_id t s ≡ Some x → find_id column_id c x.grid.columns ≡ Some d → has x.grid.rows r ≡ true → P (record { cell = cell_of t c r; old = cell column_id (grid_at (filled s) t) c r })) where
+  each_cell : (t c : List ℕ) (x : Table) (d : ColDef) → find_id table_id t s ≡ Some x → find_id column_id c x.grid.columns ≡ Some d
+      → (rows : List ℕ) → AllByRecursion (λ r. has x.grid.rows r ≡ true) rows → AllByRecursion P (cells_at t (grid_at (filled s) t) c rows)
+  each_cell t c x d at found [] h = tt
+  each_cell t c x d at found (r ∷ rows) h = (each t c r x d at found h.0, each_cell t c x d at found rows h.1)
 
-  columns_left : (t : List ℕ) (x : Table) → find_id table_id t s ≡ Some x → (rows : List ℕ) → AllByRecursion (λ r. has x.grid.rows r ≡ true) rows → rows ≡ (grid_at (filled s) t).rows
-      → (cs : List (List ℕ)) → AllByRecursion (λ c. has_id column_id x.grid.columns c ≡ true) cs → AllByRecursion IsKept (columns_cells t (grid_at (filled s) t) cs)
-  columns_left t x at rows h e [] k = tt
-  columns_left t x at rows h e (c ∷ cs) k =
-      each_append IsKept (cells_at t (grid_at (filled s) t) c (grid_at (filled s) t).rows) (columns_cells t (grid_at (filled s) t) cs)
-      (subst (λ rs. AllByRecursion IsKept (cells_at t (grid_at (filled s) t) c rs)) e (by (find_id column_id c x.grid.columns) refl (sym (has_id-find column_id c x.grid.columns) ∙ k.0)))
-      (columns_left t x at rows h e cs k.1)
+  each_column : (t : List ℕ) (x : Table) → find_id table_id t s ≡ Some x → (rows : List ℕ) → AllByRecursion (λ r. has x.grid.rows r ≡ true) rows → rows ≡ (grid_at (filled s) t).rows
+      → (cs : List (List ℕ)) → AllByRecursion (λ c. has_id column_id x.grid.columns c ≡ true) cs → AllByRecursion P (columns_cells t (grid_at (filled s) t) cs)
+  each_column t x at rows h e [] k = tt
+  each_column t x at rows h e (c ∷ cs) k =
+      each_append P (cells_at t (grid_at (filled s) t) c (grid_at (filled s) t).rows) (columns_cells t (grid_at (filled s) t) cs)
+      (subst (λ rs. AllByRecursion P (cells_at t (grid_at (filled s) t) c rs)) e (by (find_id column_id c x.grid.columns) refl (sym (has_id-find column_id c x.grid.columns) ∙ k.0)))
+      (each_column t x at rows h e cs k.1)
     where
-      by : (o : Option ColDef) → find_id column_id c x.grid.columns ≡ o → is_some o ≡ true → AllByRecursion IsKept (cells_at t (grid_at (filled s) t) c rows)
+      by : (o : Option ColDef) → find_id column_id c x.grid.columns ≡ o → is_some o ≡ true → AllByRecursion P (cells_at t (grid_at (filled s) t) c rows)
       by None found there = absurd (false≢true there)
-      by (Some d) found there = cells_kept t c x d at found rows h
+      by (Some d) found there = each_cell t c x d at found rows h
 
-  table_kept : (t : List ℕ) → AllByRecursion IsKept (table_cells (filled s) t)
-  table_kept t = by (find_id table_id t s) refl
+  each_table : (t : List ℕ) → AllByRecursion P (table_cells (filled s) t)
+  each_table t = by (find_id table_id t s) refl
     where
-      by : (o : Option Table) → find_id table_id t s ≡ o → AllByRecursion IsKept (table_cells (filled s) t)
-      by None at = subst (λ g. AllByRecursion IsKept (columns_cells t g (in_order (map column_id g.columns)))) (sym (ap (λ (o : Option Table). elim o as (λ (o : Option Table). Grid ColDef) [ None ↦ no_grid | Some u ↦ u.grid ]) (find_filled (value_of s) t s ∙ ap (option_map (filled_table (value_of s))) at))) tt
+      by : (o : Option Table) → find_id table_id t s ≡ o → AllByRecursion P (table_cells (filled s) t)
+      by None at = subst (λ g. AllByRecursion P (columns_cells t g (in_order (map column_id g.columns)))) (sym (ap (λ (o : Option Table). elim o as (λ (o : Option Table). Grid ColDef) [ None ↦ no_grid | Some u ↦ u.grid ]) (find_filled (value_of s) t s ∙ ap (option_map (filled_table (value_of s))) at))) tt
       by (Some x) at =
           let g : grid_at (filled s) t ≡ (filled_table (value_of s) x).grid = grid_filled (value_of s) s x t at in
-          columns_left t x at x.grid.rows (each_has (λ r. has x.grid.rows r ≡ true) x.grid.rows (λ r h. h)) (sym (ap (λ (g : Grid ColDef). g.rows) g))
+          each_column t x at x.grid.rows (each_has (λ r. has x.grid.rows r ≡ true) x.grid.rows (λ r h. h)) (sym (ap (λ (g : Grid ColDef). g.rows) g))
           (in_order (map column_id (grid_at (filled s) t).columns))
           (subst (λ (g : Grid ColDef). AllByRecursion (λ c. has_id column_id x.grid.columns c ≡ true) (in_order (map column_id g.columns))) (sym g)
           (each_by_id itself (λ c. has_id column_id x.grid.columns c ≡ true) (map column_id x.grid.columns) (each_mapped (λ c. has_id column_id x.grid.columns c ≡ true) column_id x.grid.columns (each_there column_id x.grid.columns))))
 
-  tables_kept : (ts : List (List ℕ)) → AllByRecursion IsKept (tables_cells (filled s) ts)
-  tables_kept [] = tt
-  tables_kept (t ∷ ts) = each_append IsKept (table_cells (filled s) t) (tables_cells (filled s) ts) (table_kept t) (tables_kept ts)
+  pub each_cells : (ts : List (List ℕ)) → AllByRecursion P (tables_cells (filled s) ts)
+  each_cells [] = tt
+  each_cells (t ∷ ts) = each_append P (table_cells (filled s) t) (tables_cells (filled s) ts) (each_table t) (each_cells ts)
 
 -- what a weaker test keeps first
-filter_watched : {X : Type 0} (p q : X → Bool) (xs : List X) → AllByRecursion (λ x. q x ≡ false → p x ≡ false) xs → filter p xs ≡ filter p (filter q xs)
+pub filter_watched : {X : Type 0} (p q : X → Bool) (xs : List X) → AllByRecursion (λ x. q x ≡ false → p x ≡ false) xs → filter p xs ≡ filter p (filter q xs)
 filter_watched p q [] h = refl
 filter_watched p q (x ∷ xs) h =
     elim (q x) as (λ b. (b ≡ false → p x ≡ false) → filter p (x ∷ xs) ≡ filter p (cond b (x ∷ filter q xs) (filter q xs))) [
@@ -195,4 +195,4 @@ filter_watched p q (x ∷ xs) h =
     ] h.0
 
 pub watched : WatchedLaw
-watched s a whole v = filter_watched (is_lost (filled (apply s a)) a) (is_watched s a) (all_cells (filled s)) (tables_kept s a whole v (in_order (map table_id (filled s))))
+watched s a whole v = filter_watched (is_lost (filled (apply s a)) a) (is_watched s a) (all_cells (filled s)) (each_cells s (λ o. is_watched s a o ≡ false → is_lost (filled (apply s a)) a o ≡ false) (cell_kept s a whole v) (in_order (map table_id (filled s))))

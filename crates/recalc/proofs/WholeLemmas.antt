@@ -1,5 +1,5 @@
 -- Formula cells of tables, columns and rows by their indexes.
-use Rattle.std.proofs.Common.{ℕ, zero, suc, ◌+◌, ◌<◌, Bool, true, false, cond, ◌&&◌, ◌||◌, nat_eq, List, [], ◌∷◌, ◌++◌, map, take, length, get_or, slice_get, ◌≡◌, refl, sym, ap, ◌∙◌, subst, Option, Some, None, arith}
+use Rattle.std.proofs.Common.{ℕ, zero, suc, true, false, cond, ◌&&◌, ◌||◌, nat_eq, List, [], ◌∷◌, slice_get, ◌≡◌, refl, sym, ap, ◌∙◌, subst, Option, Some, None}
 use Rattle.std.proofs.lemmas.Bool.{true≢false, eq-eqb}
 use Rattle.std.proofs.lemmas.Slice.Eq.{bytes_eq-Decides}
 use Rattle.std.specs.List.{AllByRecursion}
@@ -14,7 +14,6 @@ use Rattle.doc_model.specs.Grid.{Grid}
 use Rattle.doc_model.specs.Column.{column_id}
 use Rattle.doc_model.specs.Document.{Table, Document, table_id}
 use Rattle.doc_model.specs.DocumentLaws.{IsWhole}
-use Rattle.doc_model.specs.Readers.{column_at}
 use Rattle.doc_model.specs.Schema.{no_grid}
 use Rattle.doc_model.specs.Sound.{IsSoundGrid}
 use Rattle.doc_model.proofs.ByIdsLaws.{found_all}

@@ -1,5 +1,5 @@
 -- The evaluated cells of a document.
-use Rattle.std.specs.Prelude.{ℕ, Bool, cond, ◌&&◌, List, [], ◌∷◌, ◌++◌, map, Option, Some, None}
+use Rattle.std.specs.Prelude.{ℕ, cond, ◌&&◌, List, [], ◌∷◌, ◌++◌, map, Option, Some, None}
 use Rattle.std.specs.Option.{option_map}
 use Rattle.cell_types.specs.declared.cell.CellId.{CellId}
 use Rattle.cell_types.specs.declared.value.CellValue.{CellValue}
@@ -8,7 +8,7 @@ use Rattle.doc_model.specs.ByIds.{find_id}
 use Rattle.doc_model.specs.Rows.{has}
 use Rattle.doc_model.specs.Grid.{Grid, grid_of, cell}
 use Rattle.doc_model.specs.Column.{column_id}
-use Rattle.doc_model.specs.Document.{Table, Document, table_id, on_grid}
+use Rattle.doc_model.specs.Document.{Document, table_id, on_grid}
 use Rattle.doc_model.specs.Readers.{of_table, rows_at}
 use Rattle.formula_eval.specs.Reader.{Told, known, no_table, no_column, no_row}
 use Rattle.recalc.specs.Cells.{cell_of}

@@ -7,9 +7,11 @@ pub mod Lost
 pub mod Stack
 pub mod Turn
 pub mod Kept
+pub mod Current
 pub mod Put
 pub mod Seen
 pub mod WayBack
 pub mod FilledLaws
 pub mod Watched
+pub mod MayLose
 pub mod Outside

@@ -1,6 +1,5 @@
 -- A value put at its place.
-use Rattle.std.specs.Prelude.{ℕ, ◌≡◌, ◌<◌, List, length, slice_get, slice_set, Option, Some}
-use Rattle.std.specs.List.{position}
+use Rattle.std.specs.Prelude.{ℕ, ◌≡◌, ◌<◌, List, length, slice_get, slice_set, Some}
 use Rattle.cell_types.specs.declared.value.CellValue.{CellValue}
 use Rattle.recalc.specs.declared.kept.KeptColumn.{KeptColumn}
 use Rattle.recalc.specs.declared.kept.KeptTable.{KeptTable}

@@ -1,5 +1,5 @@
 -- A document and what is kept of it, as a formula reads them.
-use Rattle.std.specs.Prelude.{List, Option, Some, None, slice_get}
+use Rattle.std.specs.Prelude.{List, Option, Some, None}
 use Rattle.cell_types.specs.declared.value.CellValue.{CellValue}
 use Rattle.formula_eval.specs.Reader.{Told, known, no_row, needed}
 use Rattle.recalc.specs.declared.kept.KeptTable.{KeptTable}

@@ -1,5 +1,5 @@
 -- The cells that an action may lose: those of formula columns, and those in rows that it touches.
-use Rattle.std.specs.Prelude.{Bool, true, false, ◌||◌, List, filter, Some, None, ◌≡◌}
+use Rattle.std.specs.Prelude.{Bool, true, false, ◌||◌, filter, Some, None, ◌≡◌}
 use Rattle.cell_types.specs.declared.cell.CellId.{CellId}
 use Rattle.cell_types.specs.declared.cell.CellOld.{CellOld}
 use Rattle.doc_model.specs.declared.action.DocAction.{DocAction}

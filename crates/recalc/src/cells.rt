@@ -1,4 +1,4 @@
-//! The cells of a document, and those that an action changed.
+//! Cells with what they hold, and those of them that an action changed.
 
 ghost use Rattle.std.specs.Prelude.{◌≡◌, ◌++◌, [], ◌∷◌, not, filter, IfOk, OnOk};
 ghost use Rattle.doc_model.specs.Column.{column_id};
@@ -6,13 +6,12 @@ ghost use Rattle.doc_model.specs.Grid.{cell};
 ghost use Rattle.doc_model.specs.Same.{same_value};
 ghost use Rattle.doc_readers.specs.Parts.{grid_at};
 ghost use Rattle.recalc.specs.Cells.{cell_of};
-ghost use Rattle.recalc.specs.Lost.{all_cells, cells_at, column_after, is_lost, table_after, table_cells};
+ghost use Rattle.recalc.specs.Lost.{cells_at, column_after, is_lost, table_after};
 
-use crate::names::{column_ids, sorted, table_ids};
 use cell_types::{CellId, CellOld, CellValue, Name, Same};
 use doc_model::{DocAction, DocReader};
-use doc_readers::{cell_in, rows_in};
-use std::alloc::{AllocError, Global};
+use doc_readers::cell_in;
+use std::alloc::AllocError;
 
 /// The cell of these names and this row.
 pub(crate) fn cell_id(table: &Name, column: &Name, row: u32) -> Result<CellId, AllocError>
@@ -42,50 +41,21 @@ fn cell_old<R: DocReader>(
     Ok(CellOld { cell, old })
 }
 
-fn push_column<R: DocReader>(
+/// The cells of a column in these rows.
+pub(crate) fn push_cells<R: DocReader>(
     doc: &R,
     table: &Name,
     column: &Name,
+    rows: &[u32],
     cells: &mut Vec<CellOld>,
 ) -> Result<(), AllocError>
     ensures { OnOk result (cells.new.items ≡ cells.old.items
-        ++ cells_at table.now (grid_at (R.document doc.now) table.now) column.now
-        (grid_at (R.document doc.now) table.now).rows) }
+        ++ cells_at table.now (grid_at (R.document doc.now) table.now) column.now rows.now) }
 {
-    for row in rows_in(doc, table) {
+    for row in rows {
         cells.push(cell_old(doc, table, column, *row)?)?;
     }
     Ok(())
-}
-
-fn push_table<R: DocReader>(
-    alloc: Global,
-    doc: &R,
-    table: &Name,
-    cells: &mut Vec<CellOld>,
-) -> Result<(), AllocError>
-    ensures { OnOk result (cells.new.items ≡ cells.old.items
-        ++ table_cells (R.document doc.now) table.now) }
-{
-    let ids = column_ids(alloc, doc, table)?;
-    let columns = sorted(alloc, &ids)?;
-    for column in &columns {
-        push_column(doc, table, column, cells)?;
-    }
-    Ok(())
-}
-
-/// All cells with what they hold, by table, column and row.
-pub(crate) fn all_cells<R: DocReader>(alloc: Global, doc: &R) -> Result<Vec<CellOld>, AllocError>
-    ensures { IfOk result (λ v. v.items ≡ all_cells (R.document doc.now)) }
-{
-    let ids = table_ids(alloc, doc)?;
-    let tables = sorted(alloc, &ids)?;
-    let mut cells = Vec::new(alloc);
-    for table in &tables {
-        push_table(alloc, doc, table, &mut cells)?;
-    }
-    Ok(cells)
 }
 
 fn table_after<'a>(action: &'a DocAction, table: &'a Name) -> &'a Name

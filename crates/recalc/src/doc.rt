@@ -14,11 +14,13 @@ ghost use Rattle.recalc.specs.Seen.{value_told};
 ghost use Rattle.recalc.specs.WayBack.{IsWayBack};
 ghost use Rattle.recalc.specs.declared.doc.ChangeFault.TheVariants.{Invalid};
 
-use crate::cells::{all_cells, keep_lost};
-use crate::evaluating::evaluate;
+use crate::cells::keep_lost;
+use crate::current::{brings_formula, keep_values, keep_values_after};
 use crate::kept::KeptTable;
+use crate::laws::{may_lose_law, stays_plain_law};
 use crate::reading::cell_told;
 use crate::trace::Trace;
+use crate::watched::watched_cells;
 use cell_types::{CellValue, Name};
 use doc_actions::is_valid;
 use doc_model::laws::kept_law;
@@ -29,22 +31,25 @@ use std::marker::Model;
 use std::mem;
 
 /// A document with its evaluated cells. It is seen as its tables.
+///
+/// Of a document without formula columns it may keep nothing.
 #[derive(Drop)]
 pub struct Doc<D: DocTables> {
     tables: D,
-    kept: Vec<KeptTable>,
+    kept: Option<Vec<KeptTable>>,
 }
 
 impl<D: DocTables> Model for Doc<D> {
     ghost use Rattle.doc_model.specs.DocumentLaws.{IsWhole};
-    ghost use Rattle.recalc.specs.Kept.{IsEvaluated};
+    ghost use Rattle.recalc.specs.Current.{IsCurrent};
+    ghost use Rattle.std.specs.Option.{option_map};
 
     ghost Value = { D };
 
     ghost view = { λ d. d.tables };
 
-    ghost invariant = { λ d.
-        IsWhole (D.document d.tables) × IsEvaluated (D.document d.tables) d.kept.items };
+    ghost invariant = { λ d. IsWhole (D.document d.tables)
+        × IsCurrent (D.document d.tables) (option_map (λ v. v.items) d.kept) };
 }
 
 /// Why a change was not made.
@@ -65,7 +70,7 @@ impl<D: DocTables> Doc<D> {
         requires { IsWhole (D.document tables) }
         ensures { IfOk result (λ doc. doc ≡ tables) }
     {
-        let kept = evaluate(alloc, &tables)?;
+        let kept = keep_values(alloc, &tables)?;
         Ok(Doc { tables, kept })
     }
 
@@ -97,9 +102,13 @@ impl<D: DocTables> Doc<D> {
         ensures whole { IsWhole (D.document self.new) }
     {
         kept_law();
-        let mut cells = all_cells(alloc, self)?;
+        stays_plain_law();
+        may_lose_law();
+        let is_plain = self.kept.is_none();
+        let stays_plain = is_plain && !brings_formula(action);
+        let mut cells = watched_cells(alloc, self, action, is_plain)?;
         let back = self.tables.put(action)?;
-        let Ok(fresh) = evaluate(alloc, &self.tables) else {
+        let Ok(fresh) = keep_values_after(alloc, &self.tables, stays_plain) else {
             self.tables.take_back(back);
             return Err(AllocError);
         };
@@ -143,7 +152,7 @@ impl<D: DocTables> Doc<D> {
     pub fn refresh_all(&mut self, alloc: Global) -> Result<(), AllocError>
         ensures { D.document self.new ≡ D.document self.old }
     {
-        self.kept = evaluate(alloc, &self.tables)?;
+        self.kept = keep_values(alloc, &self.tables)?;
         Ok(())
     }
 
@@ -206,6 +215,9 @@ impl<D: DocTables> DocReader for Doc<D> {
     }
 
     fn cell(&self, table: &Name, column: &Name, row: u32) -> Option<&CellValue> {
-        value_in(&self.tables, &self.kept, table, column, row)
+        match &self.kept {
+            Some(kept) => value_in(&self.tables, kept, table, column, row),
+            None => self.tables.cell(table, column, row),
+        }
     }
 }

@@ -1,6 +1,8 @@
 //! Laws of evaluated cells, each proved as the contract of a function that does nothing.
 
+ghost use Rattle.recalc.specs.Current.{StaysPlainLaw};
 ghost use Rattle.recalc.specs.FilledLaws.{LaidOutLaw, SamePartsLaw};
+ghost use Rattle.recalc.specs.MayLose.{MayLoseLaw};
 ghost use Rattle.recalc.specs.Outside.{OutsideLaw};
 ghost use Rattle.recalc.specs.SheetLaws.{CircularLaw, FuelLaw, SettledLaw, ValueLaw};
 ghost use Rattle.recalc.specs.Watched.{WatchedLaw};
@@ -35,9 +37,20 @@ pub fn same_parts_law()
     ensures { SamePartsLaw }
 {}
 
+/// A document without formula columns has none after an action that gives no column a formula.
+pub fn stays_plain_law()
+    ensures { StaysPlainLaw }
+{}
+
 /// What an action loses stands in formula columns or in rows that it touches.
 pub fn watched_law()
     ensures { WatchedLaw }
+{}
+
+/// What an action loses stands in formula columns, or in rows and columns of data that it writes or
+/// removes.
+pub fn may_lose_law()
+    ensures { MayLoseLaw }
 {}
 
 /// An action leaves each row of the evaluated document that it does not name, and in which it loses

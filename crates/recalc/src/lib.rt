@@ -16,6 +16,7 @@
 #![tactic(auto)]
 
 mod cells;
+mod current;
 mod doc;
 mod evaluating;
 mod kept;
@@ -23,8 +24,11 @@ pub mod laws;
 mod names;
 mod places;
 mod reading;
+mod rows;
 mod settling;
+mod touched;
 mod trace;
+mod watched;
 
 pub use doc::{ChangeFault, Doc};
 pub use trace::Trace;

@@ -1,14 +1,10 @@
 //! Names in the order of their bytes.
 
-ghost use Rattle.std.specs.Prelude.{◌≡◌, IfOk, MatchResult, OnOk, map};
+ghost use Rattle.std.specs.Prelude.{◌≡◌, ◌++◌, ◌∷◌, [], cond, IfOk, MatchResult, OnOk};
 ghost use Rattle.doc_model.specs.ByIds.{put_by_id};
-ghost use Rattle.doc_model.specs.Column.{column_id};
-ghost use Rattle.doc_model.specs.Document.{table_id};
-ghost use Rattle.doc_readers.specs.Parts.{grid_at};
 ghost use Rattle.recalc.specs.InOrder.{GoesBefore, GoesOver, in_order, itself};
 
 use cell_types::Name;
-use doc_model::DocReader;
 use std::alloc::{AllocError, Global};
 use std::cmp::Ordering;
 
@@ -48,29 +44,13 @@ pub(crate) fn sorted(alloc: Global, names: &[Name]) -> Result<Vec<Name>, AllocEr
     Ok(sorted)
 }
 
-/// The ids of all tables.
-pub(crate) fn table_ids<R: DocReader>(alloc: Global, doc: &R) -> Result<Vec<Name>, AllocError>
-    ensures { IfOk result (λ v. v.items ≡ map table_id (R.document doc.now)) }
+/// Puts a copy of the name last, where it is wanted.
+pub(crate) fn push_if(names: &mut Vec<Name>, name: &Name, wanted: bool) -> Result<(), AllocError>
+    ensures { OnOk result
+        (names.new.items ≡ names.old.items ++ cond wanted (name.now ∷ []) []) }
 {
-    let mut ids = Vec::new(alloc);
-    while let Some(id) = doc.table(ids.len()) {
-        ids.push(id.clone()?)?;
+    if wanted {
+        names.push(name.clone()?)?;
     }
-    Ok(ids)
-}
-
-/// The ids of a table's columns.
-pub(crate) fn column_ids<R: DocReader>(
-    alloc: Global,
-    doc: &R,
-    table: &Name,
-) -> Result<Vec<Name>, AllocError>
-    ensures { IfOk result
-        (λ v. v.items ≡ map column_id (grid_at (R.document doc.now) table.now).columns) }
-{
-    let mut ids = Vec::new(alloc);
-    while let Some(column) = doc.column(table, ids.len()) {
-        ids.push(column.id.clone()?)?;
-    }
-    Ok(ids)
+    Ok(())
 }

@@ -12,19 +12,24 @@ use std::marker::Model;
 pub struct Trace<D: DocTables> {
     pub(crate) cells: Vec<CellOld>,
     pub(crate) back: D::Back,
-    pub(crate) kept: Vec<KeptTable>,
+    pub(crate) kept: Option<Vec<KeptTable>>,
 }
 
 impl<D: DocTables> Model for Trace<D> {
     ghost use Rattle.formula_parse.specs.contracts.tree.Formula as formula;
     ghost use Rattle.recalc.specs.WayBack.{Changed};
     ghost use Rattle.std.specs.Coded.{codes};
+    ghost use Rattle.std.specs.Option.{option_map};
 
     ghost Value = { Changed D.Back };
 
     ghost coded = { Prim.hlevel (codes, formula.the_row.coded) };
 
-    ghost view = { λ t. record { cells = t.cells.items; back = t.back; kept = t.kept.items } };
+    ghost view = { λ t. record {
+      cells = t.cells.items;
+      back = t.back;
+      kept = option_map (λ v. v.items) t.kept;
+    } };
 }
 
 impl<D: DocTables> Trace<D> {

@@ -1,4 +1,4 @@
-use Rattle.std.proofs.Common.{◌≡◌, ◌∙◌, sym, ap, ◌++◌, [], ◌∷◌, map, None, length, ◌<◌, get_or, take, arith}
+use Rattle.std.proofs.Common.{◌∙◌, sym, ap, ◌++◌, [], ◌∷◌, map, None, length, ◌<◌, get_or, take, arith}
 use Rattle.std.proofs.lemmas.List.{take_more, map-append}
 use Rattle.recalc.proofs.KeptLemmas.{none_each}
 use Rattle.recalc.proofs.evaluating.blank_values.Goals as goal

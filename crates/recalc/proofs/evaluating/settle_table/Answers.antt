@@ -1,4 +1,4 @@
-use Rattle.std.proofs.Common.{◌≡◌, ◌≤◌, refl, length, subst, arith}
+use Rattle.std.proofs.Common.{◌≤◌, refl, subst, arith}
 use Rattle.doc_readers.specs.Parts.{grid_at}
 use Rattle.doc_readers.proofs.ColumnLemmas.{column_read}
 use Rattle.recalc.specs.Evaluated.{cells_of_column}

@@ -1,5 +1,4 @@
 use Rattle.std.proofs.Common.{◌≡◌, ◌∙◌, ◌≤◌, refl, length, subst, arith, rules}
-use Rattle.doc_readers.specs.Parts.{grid_at}
 use Rattle.recalc.specs.Kept.{AreKnown, held_at}
 use Rattle.recalc.proofs.Progress.{all_known, cells_of_table, counted_at, each_next, further_next, stays_known, table_known, tables_counted}
 use Rattle.recalc.proofs.WalkLemmas.{table_read}

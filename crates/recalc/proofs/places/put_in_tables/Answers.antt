@@ -1,7 +1,6 @@
-use Rattle.std.proofs.Common.{refl, subst, sym, rules, ◌∙◌}
+use Rattle.std.proofs.Common.{subst, sym, rules, ◌∙◌}
 use Rattle.std.proofs.lemmas.Option.{get_or_from_slice_get}
 use Rattle.recalc.specs.Put.{IsPutInTable, HasPlace}
-use Rattle.recalc.proofs.PlaceLemmas.{position_first}
 use Rattle.recalc.proofs.places.put_in_tables.Goals as goal
 
 pub put_in_table-requires : goal.put_in_table-requires

@@ -1,4 +1,4 @@
-use Rattle.std.proofs.Common.{sym, subst, ◌≡◌, Option, Some, None}
+use Rattle.std.proofs.Common.{sym, subst, ◌≡◌, Some, None}
 use Rattle.std.specs.Option.{MatchOption}
 use Rattle.doc_model.specs.Readers.{column_at}
 use Rattle.recalc.specs.Evaluated.{value_of}

@@ -1,18 +1,20 @@
 //! The core: a document, its open sessions, and what each entry of a history makes of them.
 //!
 //! Stands on `doc_model` (documents, changes, entries), `row_tables` (the document in memory),
-//! `user_actions` (refusals), `action_limits` (steps and limits), `view_parts` and `plain_view`
-//! (what users see and are told) and `grist_json` (the texts of lines). What an entry comes to is
-//! said in specs/State.antt, and what a bundle comes to in specs/Judgement.antt, over plain lists,
-//! for every document.
+//! `recalc` (its formula cells evaluated), `user_actions` (refusals), `action_limits` (steps and
+//! limits), `view_parts` and `plain_view` (what users see and are told) and `grist_json` (the texts
+//! of lines). What an entry comes to is said in specs/State.antt, and what a bundle comes to in
+//! specs/Judgement.antt, over plain lists, for every document; what users see is the document with
+//! the value of each formula cell in its place.
 //!
 //! Promises: `Core::step` gives the lines that the state after the history says, and adds the
 //! entry; a full history and running out of memory change nothing, and a session that goes away
 //! takes no memory. `isolation_law`: a session is given exactly what its own requests, verdicts and
 //! views tell; `equal_bytes_law`: histories that it observes alike give it equal bytes.
-//! Not built yet: undo and fetching a table, formulas, references, access rules.
-//! Costs: a bundle costs what its actions touch, and a line for each session; see bundle.rt. A
-//! session's index is found by a walk.
+//! Not built yet: undo and fetching a table, access rules.
+//! Costs: a bundle costs what its actions touch, where there are formulas the evaluation of the
+//! document after each action, all of it twice, and a line for each session. A session's index is
+//! found by a walk.
 //! Read first: specs/State.antt, specs/Judgement.antt, specs/Told.antt and specs/Core.antt, then
 //! history_core.rt, dispatch.rt, judging.rt and bundle.rt.
 #![tactic(auto)]

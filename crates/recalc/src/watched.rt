@@ -1,5 +1,5 @@
-//! The cells that an action may lose: of formula columns all, of data columns those in rows that the
-//! action writes or removes.
+//! The cells that an action may lose: of formula columns all, of data columns those in rows that
+//! the action writes or removes.
 
 ghost use Rattle.std.specs.Prelude.{◌≡◌, ◌++◌, true, false, filter, map, IfOk, OnOk};
 ghost use Rattle.doc_model.specs.Column.{column_id};

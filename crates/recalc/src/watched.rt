@@ -114,7 +114,7 @@ fn columns_to_lose<R: DocReader>(
     Ok(ids)
 }
 
-// Those cells of a column, in whose table these rows of data columns may lose some.
+// The cells of a column that may be lost: all of a formula column, and else those in these rows.
 fn push_column<R: DocReader>(
     doc: &R,
     action: &DocAction,

@@ -32,7 +32,7 @@ use std::mem;
 
 /// A document with its evaluated cells. It is seen as its tables.
 ///
-/// Of a document without formula columns it may keep nothing.
+/// Where no column has a formula, nothing is kept.
 #[derive(Drop)]
 pub struct Doc<D: DocTables> {
     tables: D,
@@ -87,7 +87,10 @@ impl<D: DocTables> Doc<D> {
     /// Does an action that is valid, and evaluates the document after it.
     ///
     /// Errors: out of memory; the document is then as it was.
-    /// Memory: as to start, and a copy of all cells.
+    /// Memory: the store's, and a copy of the cells that may be lost: those of formula columns, and
+    /// of data columns those that a record action writes or removes, or all of the table of a
+    /// schema action. Where a column has a formula or is given one, as to start.
+    /// Cost: where none has, a record action looks at its own table and rows alone.
     pub fn put(&mut self, alloc: Global, action: &DocAction) -> Result<Trace<D>, AllocError>
         requires { valid (D.document self.old) action.now ≡ true }
         ensures ok { OnOk result
@@ -121,7 +124,7 @@ impl<D: DocTables> Doc<D> {
     ///
     /// Errors: `Invalid`, exactly where the action is not valid, whatever memory there is; and out
     /// of memory. The document is then as it was.
-    /// Memory: as to start, and a copy of all cells.
+    /// Memory and cost: as to put, and those of the test.
     pub fn change(&mut self, alloc: Global, action: &DocAction) -> Result<Trace<D>, ChangeFault>
         ensures ok { OnOk result
             (D.document self.new ≡ apply (D.document self.old) action.now) }

@@ -10,9 +10,11 @@
 //! the way back takes no memory. laws.rt: more fuel changes no value, as much fuel as there are
 //! formula cells is enough, a cell is circular exactly where no fuel gives it a value, and a whole
 //! document with its values in place is laid out as views need it.
-//! Not promised: speed. A change evaluates the whole document again, and lists all its cells for
-//! the trace. Attempts are not counted.
-//! Read first: specs/Sheet.antt, specs/Evaluated.antt and specs/Lost.antt, then doc.rt.
+//! Not promised: speed. Where a column has a formula, a change evaluates the whole document again.
+//! Where none has, nothing is kept, and a record action looks at what it writes or removes alone.
+//! Attempts are not counted.
+//! Read first: specs/Sheet.antt, specs/Evaluated.antt and specs/Lost.antt, then doc.rt; for what a
+//! change looks at specs/MayLose.antt, then watched.rt.
 #![tactic(auto)]
 
 mod cells;

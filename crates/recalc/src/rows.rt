@@ -1,4 +1,4 @@
-//! Rows that are requested, among those that a table has.
+//! Rows that an action names, among those that a table has.
 
 ghost use Rattle.std.specs.Prelude.{◌≡◌, ℕ, filter, IfOk};
 ghost use Rattle.doc_model.specs.Rows.{IsAscending, has};
@@ -17,13 +17,13 @@ fn once_in_order(numbers: Vec<u32>) -> Result<Vec<u32>, AllocError>
     Ok(sorted)
 }
 
-// Those of the wanted rows that are there.
-fn rows_there(alloc: Global, wanted: &[u32], rows: &[u32]) -> Result<Vec<u32>, AllocError>
+// Those of the named rows that are there.
+fn rows_there(alloc: Global, named: &[u32], rows: &[u32]) -> Result<Vec<u32>, AllocError>
     requires { IsAscending rows.now }
-    ensures { IfOk result (λ l. l.items ≡ filter (has rows.now) wanted.now) }
+    ensures { IfOk result (λ l. l.items ≡ filter (has rows.now) named.now) }
 {
     let mut there = Vec::new(alloc);
-    for row in wanted {
+    for row in named {
         if holds_row(rows, *row) {
             there.push(*row)?;
         }
@@ -31,18 +31,18 @@ fn rows_there(alloc: Global, wanted: &[u32], rows: &[u32]) -> Result<Vec<u32>, A
     Ok(there)
 }
 
-/// The rows of a table that are wanted.
+/// The rows of a table that are named, in ascending order.
 ///
-/// Errors: out of memory. Cost: sorting the wanted rows, and for each the logarithm of the rows.
+/// Errors: out of memory. Cost: sorting the named rows, and for each the logarithm of the rows.
 pub(crate) fn rows_among(
     alloc: Global,
-    wanted: Vec<u32>,
+    named: Vec<u32>,
     rows: &[u32],
 ) -> Result<Vec<u32>, AllocError>
     requires { IsAscending rows.now }
-    ensures { IfOk result (λ l. l.items ≡ filter (has wanted.items) rows.now) }
+    ensures { IfOk result (λ l. l.items ≡ filter (has named.items) rows.now) }
 {
-    let sorted = once_in_order(wanted)?;
+    let sorted = once_in_order(named)?;
     let there = rows_there(alloc, sorted.as_slice(), rows)?;
     Ok(there)
 }

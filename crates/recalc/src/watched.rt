@@ -1,5 +1,5 @@
-//! The cells that an action may lose: of formula columns all, of data columns those in rows that the
-//! action writes or removes.
+//! The cells that an action may lose: of formula columns all, of data columns those in rows that
+//! the action writes or removes.
 
 ghost use Rattle.std.specs.Prelude.{◌≡◌, ◌++◌, true, false, filter, map, IfOk, OnOk};
 ghost use Rattle.doc_model.specs.Column.{column_id};
@@ -114,7 +114,7 @@ fn columns_to_lose<R: DocReader>(
     Ok(ids)
 }
 
-// Those cells of a column, in whose table these rows of data columns may lose some.
+// The cells of a column that may be lost: all of a formula column, and else those in these rows.
 fn push_column<R: DocReader>(
     doc: &R,
     action: &DocAction,

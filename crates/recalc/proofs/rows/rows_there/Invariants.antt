@@ -3,4 +3,4 @@ use Rattle.doc_model.specs.Rows.{has}
 use Rattle.recalc.proofs.rows.rows_there.Given as goal
 
 abbrev pub invariant-loop-row : goal.invariant-loop-row
-invariant-loop-row l = l.there.items ≡ filter (has l.rows) (take l.row-index l.wanted)
+invariant-loop-row l = l.there.items ≡ filter (has l.rows) (take l.row-index l.named)

@@ -80,8 +80,8 @@ pub noted_next : (cells : List CellOld) (i : ℕ) (o : CellOld) (old new : List 
 noted_next cells i o old new lt is more noted t r =
     let one : List CellOld → Bool = λ l. is_row_among l t r in
     rw (add-one i) (λ h.
-        more t r
-        ∙ either_noted (one (take i cells)) (has_changed_row old t r) (bytes_eq o.cell.table t && nat_eq o.cell.row r) (noted t r) (sym (any_suc (is_in_row t r) cells i o lt is) ∙ h))
+    more t r
+    ∙ either_noted (one (take i cells)) (has_changed_row old t r) (bytes_eq o.cell.table t && nat_eq o.cell.row r) (noted t r) (sym (any_suc (is_in_row t r) cells i o lt is) ∙ h))
 
 pub stay_next : (first old new : List ChangedRows) (table : List ℕ) (row : ℕ) → ((t : List ℕ) (r : ℕ) → has_changed_row new t r ≡ (has_changed_row old t r || (bytes_eq table t && nat_eq row r)))
     → StayNoted first old → StayNoted first new

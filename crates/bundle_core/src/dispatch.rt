@@ -190,7 +190,8 @@ fn open_for<D: DocTables>(
 fn show_all<D: DocReader>(alloc: Global, tables: &D, user: &User) -> Result<Vec<Line>, AllocError>
     requires { IsLaidOut (D.document tables.now) }
     ensures { IfOk result (λ v. v.items
-        ≡ reply_text (Verdict.Changes (changes [] (shown_to (viewer_of user.now) (D.document tables.now)))) ∷ []) }
+        ≡ reply_text (Verdict.Changes (changes []
+        (shown_to (viewer_of user.now) (D.document tables.now)))) ∷ []) }
 {
     let nothing = View {
         tables: ViewTableList::new(alloc),

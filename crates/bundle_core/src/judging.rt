@@ -18,7 +18,7 @@ ghost use Rattle.bundle_core.specs.View.{view};
 
 use crate::bare_verdict::BareVerdict;
 use crate::created::{Created, created_of};
-use crate::rollback::{do_all, go_back_all};
+use crate::rollback::{do_all, do_last, go_back_all};
 use action_limits::{Expansion, Tally, expand};
 use doc_model::{
     DocAction, DocTables, LimitKind, MAX_ACTIONS, Refusal, StepList, User, UserAction,
@@ -173,8 +173,8 @@ fn judge_action<D: DocTables>(
     }
 }
 
-// Judges one action after another, each where those before it are done, and does it. The traces
-// lead back.
+// Judges one action after another; those before it are done when an action is judged, and the
+// traces lead back.
 fn judge_each<D: DocTables>(
     alloc: Global,
     doc: &mut Doc<D>,
@@ -198,21 +198,24 @@ fn judge_each<D: DocTables>(
     let mut actions = Vec::new(alloc);
     let mut changed = Vec::new(alloc);
     let mut created = Vec::new(alloc);
+    let mut next = Vec::new(alloc);
     for index in 0..requested.len() {
+        do_all(alloc, doc, &next, traces, &mut changed)?;
+        actions.append(&mut next)?;
         match judge_action(alloc, doc, tally, user, &requested[index], index as u32)? {
             JudgedAction::Refused(verdict) => {
-                drop((actions, changed, created));
+                drop((actions, changed, created, next));
                 return Ok(JudgedBundle::Refused(verdict));
             }
             JudgedAction::Accepted(plan) => {
                 created.push(plan.created)?;
-                do_all(alloc, doc, &plan.actions, traces, &mut changed)?;
-                let mut next = plan.actions;
-                actions.append(&mut next)?;
+                next = plan.actions;
                 tally = plan.tally;
             }
         }
     }
+    do_last(alloc, doc, &next, traces, &mut changed)?;
+    actions.append(&mut next)?;
     Ok(JudgedBundle::Accepted(BundlePlan {
         actions,
         changed,

@@ -1,9 +1,11 @@
 //! Actions done one after another, and gone back over.
 
-ghost use Rattle.std.specs.Prelude.{◌≡◌, [], ◌∷◌, true, OnOk};
+ghost use Rattle.std.specs.Prelude.{◌≡◌, [], ◌∷◌, true, false, OnOk};
+ghost use Rattle.std.specs.List.{list_any};
 ghost use Rattle.doc_model.specs.Apply.{all_valid, apply, apply_all};
 ghost use Rattle.doc_model.specs.DocumentLaws.{IsWhole};
 ghost use Rattle.doc_model.specs.Valid.{valid};
+ghost use Rattle.recalc.specs.Current.{brings_formula, has_formulas};
 ghost use Rattle.recalc.specs.Evaluated.{filled};
 ghost use Rattle.view_parts.specs.PartLaws.{AreSameOutside};
 ghost use Rattle.bundle_core.specs.ChangedCells.{StayNoted};
@@ -11,8 +13,8 @@ ghost use Rattle.bundle_core.specs.Rollback.{AllLeadBack, gone_back};
 
 use crate::changed_rows::note_rows;
 use doc_model::{DocAction, DocTables};
-use recalc::laws::outside_law;
-use recalc::{Doc, Trace};
+use recalc::laws::{outside_law, plain_rows_law, stays_plain_law};
+use recalc::{Doc, Trace, brings_formula};
 use std::alloc::{AllocError, Global};
 use view_parts::ChangedRows;
 
@@ -69,6 +71,48 @@ pub(crate) fn do_all<D: DocTables>(
         do_one(alloc, doc, action, traces, changed)?;
     }
     Ok(())
+}
+
+// Whether the document has no formula column, and none after these actions.
+fn stays_plain<D: DocTables>(doc: &Doc<D>, actions: &[DocAction]) -> bool
+    ensures { result ≡ true → (has_formulas (D.document doc.now) ≡ false)
+        × (list_any brings_formula actions.now ≡ false) }
+{
+    doc.is_plain() && !bring_formula(actions)
+}
+
+fn bring_formula(actions: &[DocAction]) -> bool
+    ensures { result ≡ list_any brings_formula actions.now }
+{
+    actions.iter().any(|action| brings_formula(action))
+}
+
+/// Notes the rows in which valid actions change cells, the last ones of a bundle. They are done for
+/// it where formula cells may change, else they change what they are about alone.
+pub(crate) fn do_last<D: DocTables>(
+    alloc: Global,
+    doc: &mut Doc<D>,
+    actions: &[DocAction],
+    traces: &mut Vec<Trace<D>>,
+    changed: &mut Vec<ChangedRows>,
+) -> Result<(), AllocError>
+    requires whole { IsWhole (D.document doc.old) }
+    requires valid { all_valid (D.document doc.old) actions.now ≡ true }
+    requires led { AllLeadBack D.fits D.undone traces.old.items (D.document doc.old) }
+    ensures led { AllLeadBack D.fits D.undone traces.new.items (D.document doc.new) }
+    ensures back { gone_back D.fits D.undone traces.new.items (D.document doc.new)
+        ≡ gone_back D.fits D.undone traces.old.items (D.document doc.old) }
+    ensures outside { OnOk result (AreSameOutside actions.now changed.new.items
+        (filled (D.document doc.old)) (filled (apply_all (D.document doc.old) actions.now))) }
+    ensures stays { OnOk result (StayNoted changed.old.items changed.new.items) }
+{
+    if stays_plain(doc, actions) {
+        view_parts::outside_law();
+        plain_rows_law();
+        stays_plain_law();
+        return Ok(());
+    }
+    do_all(alloc, doc, actions, traces, changed)
 }
 
 /// Goes back over what was done, the last first.

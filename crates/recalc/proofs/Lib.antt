@@ -21,6 +21,7 @@ pub mod FilledCells
 pub mod FilledLaws
 pub mod WatchedCells
 pub mod OutsideRows
+pub mod PlainRows
 pub mod PlainLemmas
 pub mod SortedRows
 pub mod LosingCells

@@ -51,7 +51,7 @@ fn have_formula(columns: &[ColDef]) -> bool
 /// Whether an action gives a column a formula.
 ///
 /// Memory: none. Cost: linear in the columns of a new table.
-pub(crate) fn brings_formula(action: &DocAction) -> bool
+pub fn brings_formula(action: &DocAction) -> bool
     ensures { result ≡ brings_formula action.now }
 {
     match action {

@@ -7,6 +7,7 @@ ghost use Rattle.doc_model.specs.DocumentLaws.{IsWhole};
 ghost use Rattle.doc_model.specs.Readers.{cell_at};
 ghost use Rattle.doc_model.specs.Valid.{valid};
 ghost use Rattle.formula_eval.specs.Asked.{told_of};
+ghost use Rattle.recalc.specs.Current.{has_formulas};
 ghost use Rattle.recalc.specs.Evaluated.{filled};
 ghost use Rattle.recalc.specs.Kept.{IsEvaluated};
 ghost use Rattle.recalc.specs.Lost.{lost};
@@ -82,6 +83,15 @@ impl<D: DocTables> Doc<D> {
         ensures whole { IsWhole (D.document self.now) }
     {
         &self.tables
+    }
+
+    /// Whether nothing is kept, since no column has a formula.
+    ///
+    /// Memory: none.
+    pub fn is_plain(&self) -> bool
+        ensures { result ≡ true → has_formulas (D.document self.now) ≡ false }
+    {
+        self.kept.is_none()
     }
 
     /// Does an action that is valid, and evaluates the document after it.

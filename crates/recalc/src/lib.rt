@@ -32,5 +32,6 @@ mod touched;
 mod trace;
 mod watched;
 
+pub use current::brings_formula;
 pub use doc::{ChangeFault, Doc};
 pub use trace::Trace;

@@ -1,4 +1,3 @@
-use Rattle.std.proofs.Common.{◌≡◌}
 use Rattle.doc_model.specs.DocumentLaws.{IsWhole}
 use Rattle.recalc.specs.Evaluated.{filled}
 use Rattle.recalc.specs.WayBack.{IsWayBack}

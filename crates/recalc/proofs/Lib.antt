@@ -23,5 +23,7 @@ pub mod WatchedCells
 pub mod OutsideRows
 pub mod PlainLemmas
 pub mod SortedRows
+pub mod NarrowedRows
+pub mod FilledIndexes
 pub mod LosingCells
 pub mod MayLoseCells

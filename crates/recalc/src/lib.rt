@@ -15,10 +15,12 @@
 //! Read first: specs/Sheet.antt, specs/Evaluated.antt and specs/Lost.antt, then doc.rt.
 #![tactic(auto)]
 
+mod candidates;
 mod cells;
 mod current;
 mod doc;
 mod evaluating;
+mod indexes;
 mod kept;
 pub mod laws;
 mod names;

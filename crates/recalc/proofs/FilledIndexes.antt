@@ -2,7 +2,6 @@
 use Rattle.std.proofs.Common.{ℕ, Bool, true, false, cond, ◌&&◌, ◌||◌, eqb, List, [], ◌∷◌, ◌++◌, ◌≡◌, refl, sym, ap, ◌∙◌, subst, Option, Some, None, Vec}
 use Rattle.std.proofs.lemmas.Bool.{false≢true, eqb-true, or_left, or_right}
 use Rattle.std.specs.Global.{Global}
-use Rattle.std.specs.List.{AllByRecursion}
 use Rattle.std.specs.Option.{is_some, option_map}
 use Rattle.cell_types.specs.declared.column_type.ColType.{ColType}
 use Rattle.cell_types.specs.declared.value.CellValue.{CellValue}
@@ -17,7 +16,7 @@ use Rattle.doc_model.specs.Schema.{no_grid}
 use Rattle.doc_model.proofs.ByIdsLaws.{has_id-find}
 use Rattle.doc_model.proofs.RowsLaws.{has-insert_row, number_itself}
 use Rattle.doc_readers.specs.Parts.{grid_at}
-use Rattle.formula_eval.specs.Reader.{Told, known, no_table, no_column, no_row}
+use Rattle.formula_eval.specs.Reader.{Told, known, no_table, no_row}
 use Rattle.lookup_index.specs.Under.{IsInserted, under}
 use Rattle.recalc.specs.declared.indexes.ColumnIndex.{ColumnIndex}
 use Rattle.recalc.specs.Cells.{cell_of}

@@ -1,5 +1,5 @@
 -- Lookups that look at the rows of one key's bucket alone.
-use Rattle.std.proofs.Common.{ℕ, zero, suc, ◌+◌, ◌-◌, take, drop, slice_get, arith, pos, Bool, true, false, not, cond, ◌&&◌, ◌||◌, eqb, List, [], ◌∷◌, filter, ◌≡◌, refl, sym, ap, ◌∙◌, subst, Option, Some, None, Vec}
+use Rattle.std.proofs.Common.{ℕ, zero, suc, ◌+◌, ◌-◌, take, drop, slice_get, arith, pos, Bool, true, false, not, cond, ◌&&◌, ◌||◌, eqb, List, [], ◌∷◌, filter, ◌≡◌, refl, sym, ap, ◌∙◌, subst, Some, None, Vec}
 use Rattle.std.proofs.lemmas.Bool.{eqb-true, false≢true, and_parts, or_left, or_right}
 use Rattle.std.proofs.lemmas.Slice.Eq.{bytes_eq-Decides}
 use Rattle.std.specs.Global.{Global}

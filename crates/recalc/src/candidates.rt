@@ -92,7 +92,7 @@ fn rows_of_key<'a>(
     Some(found.index.rows_for(bucket))
 }
 
-/// The rows that a lookup has to look at, where its keys tell them: all others do not meet the keys,
+/// The rows that a lookup has to look at, where its keys tell them: no other row meets the keys,
 /// and none of the keys' cells is needed or circular.
 ///
 /// Memory: none.

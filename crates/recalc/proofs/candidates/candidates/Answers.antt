@@ -1,4 +1,4 @@
-use Rattle.std.proofs.Common.{◌≡◌, ◌∙◌, sym, ap, Some, None, true, Option, List, ℕ, Bor, IfSome}
+use Rattle.std.proofs.Common.{◌≡◌, ◌∙◌, sym, Some, None, Option, List, ℕ, Bor, IfSome}
 use Rattle.formula_eval.specs.Lookup.{matched, scan}
 use Rattle.recalc.specs.Evaluated.{sheet_of}
 use Rattle.recalc.specs.Indexes.{AreCandidates}

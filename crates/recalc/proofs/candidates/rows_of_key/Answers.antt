@@ -1,4 +1,4 @@
-use Rattle.std.proofs.Common.{◌≡◌, ◌∙◌, sym, ap, subst}
+use Rattle.std.proofs.Common.{◌∙◌, sym, ap, subst}
 use Rattle.lookup_index.specs.Under.{under}
 use Rattle.recalc.specs.Indexes.{IsRowAlone}
 use Rattle.recalc.specs.Sheet.{over}

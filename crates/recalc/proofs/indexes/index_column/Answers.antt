@@ -1,10 +1,10 @@
-use Rattle.std.proofs.Common.{◌≡◌, ◌∙◌, sym, ap, subst, Some, ◌++◌, ◌∷◌, []}
+use Rattle.std.proofs.Common.{◌∙◌, sym, ap, subst}
 use Rattle.doc_model.specs.ByIds.{find_id}
 use Rattle.doc_model.specs.Column.{column_id}
 use Rattle.doc_model.proofs.ByIdsLaws.{found_id}
 use Rattle.doc_readers.specs.Parts.{grid_at}
 use Rattle.recalc.specs.Evaluated.{sheet_of}
-use Rattle.recalc.specs.Indexes.{AreIndexes, IsIndex}
+use Rattle.recalc.specs.Indexes.{AreIndexes}
 use Rattle.recalc.proofs.FilledIndexes.{index_named, indexed_more}
 use Rattle.recalc.proofs.indexes.index_column.Goals as goal
 

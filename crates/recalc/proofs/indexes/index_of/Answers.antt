@@ -1,4 +1,4 @@
-use Rattle.std.proofs.Common.{◌<◌, ◌≤◌, ◌∙◌, sym, ap, subst, length, take, get_or, arith}
+use Rattle.std.proofs.Common.{◌<◌, ◌≤◌, ◌∙◌, sym, subst, length, take, get_or, arith}
 use Rattle.std.proofs.lemmas.List.{take_more, take_all}
 use Rattle.doc_readers.specs.Parts.{grid_at}
 use Rattle.recalc.specs.Evaluated.{sheet_of}

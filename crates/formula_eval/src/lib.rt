@@ -6,10 +6,11 @@
 //! Promises: `attempt` gives the value that specs/Eval.antt says for a formula in a row, with all
 //! that was read on the way, or a cell that is needed first, in one counted step. Beside the reads
 //! a run notes the keys of each lookup with their values. `scan` answers the lookups of every
-//! source of cells. Five laws hold by a formula's text: readers that tell the same at what a run
-//! notes make the same run; those that tell the same at what it reads do so at all that it notes;
-//! cells that are needed are named by a read; no error is given as a value, and none raised is that
-//! of a circular cell; a text without a formula raises a syntax error and reads nothing.
+//! source of cells, `scan_among` looks at given rows alone. Five laws hold by a formula's text:
+//! readers that tell the same at what a run notes make the same run; those that tell the same at
+//! what it reads do so at all that it notes; cells that are needed are named by a read; no error is
+//! given as a value, and none raised is that of a circular cell; a text without a formula raises a
+//! syntax error and reads nothing.
 //! Not promised: which of several needed key cells a lookup names. The value is not yet fitted to
 //! its column.
 //! Read first: reader.rt, then attempting.rt and evaluate.rt.
@@ -38,5 +39,6 @@ pub use laws::{alike_law, named_law, obeys_law, reads_law, text_law};
 pub use note::{Note, NoteList};
 pub use outcome::Attempt;
 pub use reader::{CellReader, CellSource, Matching, Reading};
-pub use scanning::scan;
+pub use reading::as_read;
+pub use scanning::{scan, scan_among};
 pub use steps::Steps;

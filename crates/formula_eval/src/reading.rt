@@ -77,11 +77,9 @@ fn default_read(alloc: Global, ty: &ColType) -> Result<CellValue, AllocError>
 }
 
 /// What a cell of a column of the type holds, as it is read: records in place of their numbers.
-pub(crate) fn as_read(
-    alloc: Global,
-    ty: &ColType,
-    value: &CellValue,
-) -> Result<CellValue, AllocError>
+///
+/// Memory: the value.
+pub fn as_read(alloc: Global, ty: &ColType, value: &CellValue) -> Result<CellValue, AllocError>
     ensures { IfOk result (λ v. v ≡ as_read ty.now value.now) }
 {
     match ty {

@@ -281,6 +281,25 @@ fn in_order(rows: Vec<u32>) -> RowList
     RowList::from(rows)
 }
 
+/// Which of the given rows of a table meet all the keys of a lookup.
+///
+/// Errors: want of memory.
+/// Memory: the rows that are found, and a copy of each cell that is compared.
+/// Cost: each key's cell in each of the rows.
+pub fn scan_among<S: CellSource>(
+    alloc: Global,
+    source: &S,
+    table: &Name,
+    keys: &KeyList,
+    rows: &[u32],
+) -> Result<Matching, AllocError>
+    ensures { IfOk result
+        (λ found. IsMatching found (scan (S.told source.now) table.now keys.now rows.now)) }
+{
+    let found = scan_rows(alloc, source, table, keys.as_slice(), rows)?;
+    Ok(as_matching(found))
+}
+
 /// The rows that meet all the keys of a lookup, for a source without an index.
 ///
 /// Errors: want of memory.
@@ -301,6 +320,5 @@ pub fn scan<S: CellSource>(
     if !has_key_columns(source, table, keys.as_slice()) {
         return Ok(Matching::NoColumn);
     }
-    let found = scan_rows(alloc, source, table, keys.as_slice(), rows)?;
-    Ok(as_matching(found))
+    scan_among(alloc, source, table, keys, rows)
 }

@@ -1,7 +1,7 @@
 //! An index of the cells of a column: which rows a looked-up value can be found in.
 //!
-//! Stands on `cell_types` (values), `doc_model` (rows that ascend) and `value_ops` (equality). No
-//! crate uses it yet; it is for the evaluation of lookups.
+//! Stands on `cell_types` (values), `doc_model` (rows that ascend) and `value_ops` (equality).
+//! Used by `recalc`, whose lookups look at the rows of one bucket.
 //!
 //! Promises: equal values, and a record and the number of its row, have one bucket (`bucket_law`);
 //! `LookupIndex` tells the rows that were put into a bucket, ascending. So the rows of a value's

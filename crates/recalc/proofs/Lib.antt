@@ -24,5 +24,7 @@ pub mod OutsideRows
 pub mod PlainRows
 pub mod PlainLemmas
 pub mod SortedRows
+pub mod NarrowedRows
+pub mod FilledIndexes
 pub mod LosingCells
 pub mod MayLoseCells

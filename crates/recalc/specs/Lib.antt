@@ -10,6 +10,7 @@ pub mod Kept
 pub mod Current
 pub mod Put
 pub mod Seen
+pub mod Indexes
 pub mod WayBack
 pub mod FilledLaws
 pub mod Watched

@@ -1,12 +1,14 @@
--- A document and what is kept of it, as a formula reads them.
+-- A document, what is kept of it and indexes of its data columns, as a formula reads them.
 use Rattle.std.specs.Prelude.{List, Option, Some, None}
 use Rattle.cell_types.specs.declared.value.CellValue.{CellValue}
 use Rattle.formula_eval.specs.Reader.{Told, known, no_row, needed}
+use Rattle.recalc.specs.declared.indexes.ColumnIndex.{ColumnIndex}
 use Rattle.recalc.specs.declared.kept.KeptTable.{KeptTable}
 
 pub record Seen (D : Type 0) : Type 0 where
   pub tables : D
   pub kept : List KeptTable
+  pub indexes : List ColumnIndex
 
 abbrev pub told_or_needed : Option CellValue → Told
 told_or_needed (Some v) = known v

@@ -8,11 +8,13 @@ ghost use Rattle.doc_model.specs.DocumentLaws.{IsWhole};
 ghost use Rattle.doc_readers.specs.Parts.{grid_at};
 ghost use Rattle.formula_parse.specs.FormulaOf.{formula_of};
 ghost use Rattle.recalc.specs.Cells.{cell_of};
-ghost use Rattle.recalc.specs.Evaluated.{cells_of_column, cells_of_columns, formula_at};
+ghost use Rattle.recalc.specs.Evaluated.{cells_of_column, cells_of_columns, formula_at, sheet_of};
+ghost use Rattle.recalc.specs.Indexes.{AreIndexes};
 ghost use Rattle.recalc.specs.Kept.{AreKnown, IsEvaluated, IsFurther, IsSettled};
 ghost use Rattle.recalc.specs.Kept.{blank_column, blank_of, blank_table, column_part, held_at, table_part};
 
 use crate::cells::cell_id;
+use crate::indexes::ColumnIndex;
 use crate::kept::{KeptColumn, KeptTable};
 use crate::reading::cell_told;
 use crate::settling::settle;
@@ -142,24 +144,28 @@ fn make_known<D: DocTables>(
     alloc: Global,
     tables: &D,
     kept: &mut Vec<KeptTable>,
+    indexes: &mut Vec<ColumnIndex>,
     table: &Name,
     column: &Name,
     row: u32,
 ) -> Result<(), AllocError>
     requires whole { IsWhole (D.document tables.now) }
     requires settled { IsSettled (D.document tables.now) kept.old.items }
+    requires indexed { AreIndexes (sheet_of (D.document tables.now)) indexes.old.items }
     requires there { is_some (formula_at (D.document tables.now)
         (cell_of table.now column.now row)) ≡ true }
     ensures further { OnOk result
         (IsFurther (D.document tables.now) kept.old.items kept.new.items) }
     ensures known { OnOk result (is_some (held_at (D.document tables.now) kept.new.items
         (cell_of table.now column.now row)) ≡ true) }
+    ensures indexed { OnOk result
+        (AreIndexes (sheet_of (D.document tables.now)) indexes.new.items) }
 {
     if is_known(tables, kept, table, column, row) {
         return Ok(());
     }
     let cell = cell_id(table, column, row)?;
-    settle(alloc, tables, kept, cell)
+    settle(alloc, tables, kept, indexes, cell)
 }
 
 // Makes the values of a column known, where it is a formula column.
@@ -167,23 +173,27 @@ fn settle_column<D: DocTables>(
     alloc: Global,
     tables: &D,
     kept: &mut Vec<KeptTable>,
+    indexes: &mut Vec<ColumnIndex>,
     table: &Name,
     column: &ColDef,
 ) -> Result<(), AllocError>
     requires whole { IsWhole (D.document tables.now) }
     requires settled { IsSettled (D.document tables.now) kept.old.items }
+    requires indexed { AreIndexes (sheet_of (D.document tables.now)) indexes.old.items }
     requires there { Some column.now
         ≡ find_id column_id column.now.id (grid_at (D.document tables.now) table.now).columns }
     ensures further { OnOk result
         (IsFurther (D.document tables.now) kept.old.items kept.new.items) }
     ensures known { OnOk result (AreKnown (held_at (D.document tables.now) kept.new.items)
         (cells_of_column table.now (grid_at (D.document tables.now) table.now) column.now)) }
+    ensures indexed { OnOk result
+        (AreIndexes (sheet_of (D.document tables.now)) indexes.new.items) }
 {
     if !column.info.is_formula {
         return Ok(());
     }
     for row in rows_in(tables, table) {
-        make_known(alloc, tables, kept, table, &column.id, *row)?;
+        make_known(alloc, tables, kept, indexes, table, &column.id, *row)?;
     }
     Ok(())
 }
@@ -193,23 +203,27 @@ fn settle_table<D: DocTables>(
     alloc: Global,
     tables: &D,
     kept: &mut Vec<KeptTable>,
+    indexes: &mut Vec<ColumnIndex>,
     table: &Name,
     columns: usize,
 ) -> Result<(), AllocError>
     requires whole { IsWhole (D.document tables.now) }
     requires settled { IsSettled (D.document tables.now) kept.old.items }
+    requires indexed { AreIndexes (sheet_of (D.document tables.now)) indexes.old.items }
     requires counted { columns ≡ length (grid_at (D.document tables.now) table.now).columns }
     ensures further { OnOk result
         (IsFurther (D.document tables.now) kept.old.items kept.new.items) }
     ensures known { OnOk result (AreKnown (held_at (D.document tables.now) kept.new.items)
         (cells_of_columns table.now (grid_at (D.document tables.now) table.now)
         (grid_at (D.document tables.now) table.now).columns)) }
+    ensures indexed { OnOk result
+        (AreIndexes (sheet_of (D.document tables.now)) indexes.new.items) }
 {
     for index in 0..columns {
         let Some(column) = tables.column(table, index) else {
             unreachable!();
         };
-        settle_column(alloc, tables, kept, table, column)?;
+        settle_column(alloc, tables, kept, indexes, table, column)?;
     }
     Ok(())
 }
@@ -219,9 +233,11 @@ fn settle_tables<D: DocTables>(
     alloc: Global,
     tables: &D,
     kept: &mut Vec<KeptTable>,
+    indexes: &mut Vec<ColumnIndex>,
 ) -> Result<(), AllocError>
     requires whole { IsWhole (D.document tables.now) }
     requires settled { IsSettled (D.document tables.now) kept.old.items }
+    requires indexed { AreIndexes (sheet_of (D.document tables.now)) indexes.old.items }
     ensures { OnOk result (IsEvaluated (D.document tables.now) kept.new.items) }
 {
     for index in 0..kept.len() {
@@ -229,15 +245,18 @@ fn settle_tables<D: DocTables>(
             unreachable!();
         };
         let columns = kept[index].columns.len();
-        settle_table(alloc, tables, kept, table, columns)?;
+        settle_table(alloc, tables, kept, indexes, table, columns)?;
     }
     Ok(())
 }
 
 /// The values of the formula cells of a document.
 ///
-/// Memory: the values, and a stack as deep as the chains of cells.
-/// Cost: linear in the formula cells and what they read; none for cells of data columns.
+/// Memory: the values, a stack as deep as the chains of cells, and while it runs an index of each
+/// data column by which lookups are made.
+/// Cost: linear in the formula cells and what they read; none for cells of data columns. A lookup
+/// whose keys are `id` and data columns reads the rows under the value of one key that is not
+/// CONTAINS, from the first on that was made by the columns; any other reads its whole table.
 pub(crate) fn evaluate<D: DocTables>(
     alloc: Global,
     tables: &D,
@@ -246,6 +265,7 @@ pub(crate) fn evaluate<D: DocTables>(
     ensures { IfOk result (λ v. IsEvaluated (D.document tables.now) v.items) }
 {
     let mut kept = blank_tables(alloc, tables)?;
-    settle_tables(alloc, tables, &mut kept)?;
+    let mut indexes = Vec::new(alloc);
+    settle_tables(alloc, tables, &mut kept, &mut indexes)?;
     Ok(kept)
 }

@@ -11,25 +11,30 @@ ghost use Rattle.recalc.specs.Kept.{IsKeptOf, held_at};
 ghost use Rattle.recalc.specs.Seen.{told_or_needed, told_or_no_row};
 ghost use Rattle.recalc.specs.Sheet.{over};
 
+use crate::candidates::candidates;
+use crate::indexes::ColumnIndex;
 use crate::kept::KeptTable;
 use crate::places::{find_column, find_table, row_index, value_at};
 use cell_types::{CellValue, ColType, KeyList, Name};
 use doc_model::DocTables;
 use doc_readers::rows_in;
-use formula_eval::{CellReader, CellSource, Matching, Reading, scan};
+use formula_eval::{CellReader, CellSource, Matching, Reading, scan, scan_among};
 use std::alloc::{AllocError, Global};
 use std::marker::Model;
 
-/// A whole document, and what is known of its formula cells.
+/// A whole document, what is known of its formula cells, and indexes of data columns.
 #[derive(Drop)]
 pub struct KnownReader<'a, D: DocTables> {
     pub tables: &'a D,
     pub kept: &'a [KeptTable],
+    pub indexes: &'a [ColumnIndex],
 }
 
 impl<'a, D: DocTables> Model for KnownReader<'a, D> {
     ghost use Rattle.doc_model.specs.DocumentLaws.{IsWhole};
     ghost use Rattle.formula_parse.specs.contracts.tree.Formula as formula;
+    ghost use Rattle.recalc.specs.Evaluated.{sheet_of};
+    ghost use Rattle.recalc.specs.Indexes.{AreIndexes};
     ghost use Rattle.recalc.specs.Kept.{IsKeptOf};
     ghost use Rattle.recalc.specs.Seen.{Seen};
     ghost use Rattle.std.specs.Coded.{codes};
@@ -38,10 +43,15 @@ impl<'a, D: DocTables> Model for KnownReader<'a, D> {
 
     ghost coded = { Prim.hlevel (codes, formula.the_row.coded) };
 
-    ghost view = { λ r. record { tables = r.tables.now; kept = r.kept.now } };
+    ghost view = { λ r. record {
+      tables = r.tables.now;
+      kept = r.kept.now;
+      indexes = r.indexes.now;
+    } };
 
     ghost invariant = { λ r.
-        IsWhole (D.document r.tables.now) × IsKeptOf (D.document r.tables.now) r.kept.now };
+        IsWhole (D.document r.tables.now) × IsKeptOf (D.document r.tables.now) r.kept.now
+        × AreIndexes (sheet_of (D.document r.tables.now)) r.indexes.now };
 }
 
 fn needed_or(value: Option<&CellValue>) -> Reading<'_>
@@ -124,7 +134,7 @@ impl<'a, D: DocTables> CellSource for KnownReader<'a, D> {
     }
 }
 
-/// Lookups look at every row of their table.
+/// Lookups look at the rows under one key's value alone, where each key is `id` or has an index.
 impl<'a, D: DocTables> CellReader for KnownReader<'a, D> {
     fn matching(
         &self,
@@ -132,6 +142,9 @@ impl<'a, D: DocTables> CellReader for KnownReader<'a, D> {
         table: &Name,
         keys: &KeyList,
     ) -> Result<Matching, AllocError> {
-        scan(alloc, self, table, keys)
+        match candidates(self.tables, self.indexes, table, keys.as_slice()) {
+            Some(rows) => scan_among(alloc, self, table, keys, rows),
+            None => scan(alloc, self, table, keys),
+        }
     }
 }

@@ -7,12 +7,14 @@ ghost use Rattle.recalc.specs.Evaluated.{sheet_of};
 ghost use Rattle.formula_eval.specs.Attempted.{IsAttempt};
 ghost use Rattle.formula_eval.specs.Eval.{evaluated};
 ghost use Rattle.formula_eval.specs.OfText.{evaluated_some};
+ghost use Rattle.recalc.specs.Indexes.{AreIndexes};
 ghost use Rattle.recalc.specs.Kept.{IsFurther, IsKeptOf, IsSettled, held_at, tree_at};
 ghost use Rattle.recalc.specs.Sheet.{row_of};
 ghost use Rattle.recalc.specs.Cells.{same_cell};
 ghost use Rattle.recalc.specs.Stack.{IsOpen, IsWorking, on};
 ghost use Rattle.recalc.specs.Turn.{Follows, IsFound, IsTurn};
 
+use crate::indexes::{ColumnIndex, index_lookups};
 use crate::kept::KeptTable;
 use crate::places::{self, find_table, put_value};
 use crate::reading::KnownReader;
@@ -35,9 +37,10 @@ pub enum Next {
 fn is_same(left: &CellId, right: &CellId) -> bool
     ensures { result ≡ same_cell left.now right.now }
 {
-    left.table.as_str() == right.table.as_str()
+    // Rows first: most cells differ in them, and they cost least.
+    left.row == right.row
         && left.column.as_str() == right.column.as_str()
-        && left.row == right.row
+        && left.table.as_str() == right.table.as_str()
 }
 
 fn holds(stack: &[CellId], cell: &CellId) -> bool
@@ -126,24 +129,49 @@ fn attempt_cell<R: CellReader>(
     attempt_tree(alloc, tree, &at, reader)
 }
 
+// Makes indexes for the lookups of an attempt, so that those of other cells need not scan.
+fn index_attempt<D: DocTables>(
+    alloc: Global,
+    tables: &D,
+    indexes: &mut Vec<ColumnIndex>,
+    attempted: &Attempt,
+) -> Result<(), AllocError>
+    requires { AreIndexes (sheet_of (D.document tables.now)) indexes.old.items }
+    ensures { OnOk result (AreIndexes (sheet_of (D.document tables.now)) indexes.new.items) }
+{
+    match attempted {
+        Attempt::Value { notes, .. } => index_lookups(alloc, tables, indexes, notes),
+        Attempt::Need(_) => Ok(()),
+    }
+}
+
 fn try_cell<D: DocTables>(
     alloc: Global,
     tables: &D,
     kept: &[KeptTable],
+    indexes: &mut Vec<ColumnIndex>,
     cell: &CellId,
 ) -> Result<Next, AllocError>
     requires whole { IsWhole (D.document tables.now) }
     requires settled { IsSettled (D.document tables.now) kept.now }
+    requires indexed { AreIndexes (sheet_of (D.document tables.now)) indexes.old.items }
     requires opened { IsOpen (sheet_of (D.document tables.now))
         (held_at (D.document tables.now) kept.now) cell.now }
-    ensures { IfOk result (IsFound (sheet_of (D.document tables.now))
+    ensures found { IfOk result (IsFound (sheet_of (D.document tables.now))
         (held_at (D.document tables.now) kept.now) cell.now) }
+    ensures indexed { OnOk result
+        (AreIndexes (sheet_of (D.document tables.now)) indexes.new.items) }
 {
     let Some(column) = find_column(tables, &cell.table, &cell.column) else {
         unreachable!();
     };
-    let reader = KnownReader { tables, kept };
+    let reader = KnownReader {
+        tables,
+        kept,
+        indexes: &*indexes,
+    };
     let attempted = attempt_cell(alloc, tree_at(kept, cell), cell, &reader)?;
+    index_attempt(alloc, tables, indexes, &attempted)?;
     Ok(next_of(alloc, &column.info.ty, attempted)?)
 }
 
@@ -151,14 +179,18 @@ fn turn<D: DocTables>(
     alloc: Global,
     tables: &D,
     kept: &mut Vec<KeptTable>,
+    indexes: &mut Vec<ColumnIndex>,
     stack: &mut Vec<CellId>,
 ) -> Result<(), AllocError>
     requires whole { IsWhole (D.document tables.now) }
+    requires indexed { AreIndexes (sheet_of (D.document tables.now)) indexes.old.items }
     requires of_document { IsKeptOf (D.document tables.now) kept.old.items }
     requires working { IsWorking (sheet_of (D.document tables.now))
         (held_at (D.document tables.now) kept.old.items) stack.old.items }
     requires some { 0 < vec_len stack.old }
     ensures of_document { OnOk result (IsKeptOf (D.document tables.now) kept.new.items) }
+    ensures indexed { OnOk result
+        (AreIndexes (sheet_of (D.document tables.now)) indexes.new.items) }
     ensures turn { OnOk result (IsTurn (sheet_of (D.document tables.now))
         (held_at (D.document tables.now) kept.old.items) stack.old.items
         (held_at (D.document tables.now) kept.new.items) stack.new.items) }
@@ -166,7 +198,7 @@ fn turn<D: DocTables>(
     let Some(top) = stack.pop() else {
         unreachable!();
     };
-    match try_cell(alloc, tables, kept, &top)? {
+    match try_cell(alloc, tables, kept, indexes, &top)? {
         Next::Value(value) => put_value(tables, kept, &top, value),
         Next::Need(cell) => {
             if is_on(&*stack, &top, &cell) {
@@ -187,9 +219,11 @@ pub(crate) fn settle<D: DocTables>(
     alloc: Global,
     tables: &D,
     kept: &mut Vec<KeptTable>,
+    indexes: &mut Vec<ColumnIndex>,
     cell: CellId,
 ) -> Result<(), AllocError>
     requires whole { IsWhole (D.document tables.now) }
+    requires indexed { AreIndexes (sheet_of (D.document tables.now)) indexes.old.items }
     requires settled { IsSettled (D.document tables.now) kept.old.items }
     requires opened { IsOpen (sheet_of (D.document tables.now))
         (held_at (D.document tables.now) kept.old.items) cell }
@@ -197,11 +231,13 @@ pub(crate) fn settle<D: DocTables>(
         (IsFurther (D.document tables.now) kept.old.items kept.new.items) }
     ensures known { OnOk result
         (is_some (held_at (D.document tables.now) kept.new.items cell) ≡ true) }
+    ensures indexed { OnOk result
+        (AreIndexes (sheet_of (D.document tables.now)) indexes.new.items) }
 {
     let mut stack = Vec::new(alloc);
     stack.push(cell)?;
     'settling: while !stack.is_empty() {
-        turn(alloc, tables, kept, &mut stack)?;
+        turn(alloc, tables, kept, indexes, &mut stack)?;
     }
     Ok(())
 }

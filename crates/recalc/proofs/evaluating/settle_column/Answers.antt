@@ -15,6 +15,7 @@ loop-row-preserved g c =
           (λ r. is_some (held_at s c.make_known.new.kept.items (cell_of c.args.table.now c.args.column.now.id r)) ≡ true)
           c.rows_in-row-items.result.now c.loop-row.row-index _ _
           (λ r h. c.in_ok-make_known.ensures.further.stays (cell_of c.args.table.now c.args.column.now.id r) h) refl c.in_ok-make_known.ensures.known c.loop-row.invariant.known;
+      indexed = c.in_ok-make_known.ensures.indexed;
     }
 
 pub returns-clause-known : goal.returns-clause-known

@@ -22,6 +22,7 @@ loop-index-preserved g c =
           (grid_at s t).columns c.loop-index.index _ c.in-Some.column.now
           (λ d h. stays_known (held_at s c.loop-index.kept.items) (held_at s c.settle_column.new.kept.items) (cells_of_column t (grid_at s t) d) c.in_ok-settle_column.ensures.further.stays h) refl
           (column_read s t c.loop-index.index c.in-Some.column.now c.in-Some.ensures.told) c.in_ok-settle_column.ensures.known c.loop-index.invariant.known;
+      indexed = c.in_ok-settle_column.ensures.indexed;
     }
 
 pub returns-clause-known : goal.returns-clause-known

@@ -20,6 +20,7 @@ loop-index-preserved g c =
       known = each_next (λ t. AreKnown (held_at s c.loop-index.kept.items) (cells_of_table t)) (λ t. AreKnown (held_at s c.settle_table.new.kept.items) (cells_of_table t)) s c.loop-index.index _ t.0
           (λ t h. stays_known (held_at s c.loop-index.kept.items) (held_at s c.settle_table.new.kept.items) (cells_of_table t) c.in_ok-settle_table.ensures.further.stays h) refl t.1
           (table_known s c.requires.whole (held_at s c.settle_table.new.kept.items) c.loop-index.index t.0 c.in-Some.table.now t.1 t.2 c.in_ok-settle_table.ensures.known) c.loop-index.invariant.known;
+      indexed = c.in_ok-settle_table.ensures.indexed;
     }
 
 pub returns : goal.returns

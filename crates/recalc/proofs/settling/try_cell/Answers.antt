@@ -6,8 +6,8 @@ use Rattle.recalc.proofs.Turns.{attempt_tells, of_tree}
 use Rattle.recalc.proofs.SheetLemmas.{is_sheet, formula_here}
 use Rattle.recalc.proofs.settling.try_cell.Goals as goal
 
-pub returns : goal.returns
-returns g c =
+pub returns-clause-found : goal.returns-clause-found
+returns-clause-found g c =
     let s = g.D.DocReader.document c.args.tables.now in
     let h = formula_here s c.args.cell.now c.requires.opened.0.0 c.in-Some.column.now c.requires.opened.0.1 c.in-Some.ensures in
     attempt_tells (sheet_of s) (is_sheet s) (held_at s c.args.kept.now) c.requires.settled.sound c.args.cell.now c.in-Some.column.now.info.formula c.in-Some.column.now.info.ty

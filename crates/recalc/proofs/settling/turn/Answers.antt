@@ -26,7 +26,7 @@ put_value-requires-then-is_on-clause-opened g c =
 pub returns-then-is_on-clause-turn : goal.returns-then-is_on-clause-turn
 returns-then-is_on-clause-turn g c =
     let s = g.D.DocReader.document c.args.tables.now in
-    let found = subst (λ l. IsFound (sheet_of s) (held_at s l) c.in-Some.top c.in_ok-value.field-0) c.deref.ensures.value c.in_ok-value.ensures in
+    let found = subst (λ l. IsFound (sheet_of s) (held_at s l) c.in-Some.top c.in_ok-value.field-0) c.deref.ensures.value c.in_ok-value.ensures.found in
     turn_circular (sheet_of s) (is_sheet s) (held_at s c.args.kept.now.items) c.args.stack.now.items c.pop.new.self.items c.in-Some.top c.in-Some.ensures.items c.requires.working
     c.in-Need.cell (held_at s c.put_value-then-is_on.new.kept.items) (rw c.in-Need.is at found).0 (sym (rw c.deref-in-Need.ensures.value at c.is_on.ensures) ∙ c.if-is_on.true)
     c.put_value-then-is_on.ensures.put
@@ -34,14 +34,14 @@ returns-then-is_on-clause-turn g c =
 pub returns-in-Value-clause-turn : goal.returns-in-Value-clause-turn
 returns-in-Value-clause-turn g c =
     let s = g.D.DocReader.document c.args.tables.now in
-    let found = subst (λ l. IsFound (sheet_of s) (held_at s l) c.in-Some.top c.in_ok-value.field-0) c.deref.ensures.value c.in_ok-value.ensures in
+    let found = subst (λ l. IsFound (sheet_of s) (held_at s l) c.in-Some.top c.in_ok-value.field-0) c.deref.ensures.value c.in_ok-value.ensures.found in
     turn_value (sheet_of s) (is_sheet s) (held_at s c.args.kept.now.items) c.args.stack.now.items c.pop.new.self.items c.in-Some.top c.in-Some.ensures.items c.requires.working
     c.in-Value.value (held_at s c.put_value.new.kept.items) (rw c.in-Value.is at found) c.put_value.ensures.put
 
 pub returns-in_ok-push-in-Need-2-clause-turn : goal.returns-in_ok-push-in-Need-2-clause-turn
 returns-in_ok-push-in-Need-2-clause-turn g c =
     let s = g.D.DocReader.document c.args.tables.now in
-    let found = subst (λ l. IsFound (sheet_of s) (held_at s l) c.in-Some.top c.in_ok-value.field-0) c.deref.ensures.value c.in_ok-value.ensures in
+    let found = subst (λ l. IsFound (sheet_of s) (held_at s l) c.in-Some.top c.in_ok-value.field-0) c.deref.ensures.value c.in_ok-value.ensures.found in
     turn_push (sheet_of s) (is_sheet s) (held_at s c.args.kept.now.items) c.args.stack.now.items c.pop.new.self.items c.in-Some.top c.in-Some.ensures.items c.requires.working
     c.in-Need.cell c.push.new.self.items c.push-in-Need.new.self.items (rw c.in-Need.is at found).0 (rw c.in-Need.is at found).1
     (sym (rw c.deref-in-Need.ensures.value at c.is_on.ensures) ∙ c.if-is_on.false) c.in_ok-push-in-Need.ensures.items c.in_ok-push-in-Need-2.ensures.items

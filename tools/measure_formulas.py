@@ -1,12 +1,12 @@
 #!/usr/bin/env python3
-"""Replays documents with and without a formula column that is added last, and prints what its cells cost.
+"""Replays documents with and without a formula column, and prints what its cells cost.
 
     python3 tools/measure_formulas.py [rows ..]      chains of 10,000, 20,000, 50,000 and 100,000 rows where they are left out
 
 It runs crates/grist_main/out/grist_main, which `rt run` in crates/grist_main makes. There are two documents:
 
 - a chain: table Run with A Int, and V Int with the formula `Run.lookupOne(id=$id - 1).V + $A`, so that each
-  cell reads the one before;
+  cell reads the one before; all its rows come in one action, as far as one line can hold them;
 - sums: table Tasks of 5,000 rows with Hours Int and Project, which names one of 100 rows of table Projects;
   each project adds up its tasks, and then each task all tasks of its project.
 
@@ -60,7 +60,7 @@ def last_cell(script, column):
         if "error" in told:
             raise SystemExit(f"the program answered {json.dumps(told)}")
         for action in told.get("actions", []):
-            if action[0] == "BulkUpdateRecord" and column in action[3]:
+            if action[0] in ("BulkAddRecord", "BulkUpdateRecord") and column in action[3]:
                 found = action[3][column][-1]
     return found
 
@@ -76,11 +76,16 @@ def cost_of(lines, column=None, wanted=None):
         return least_time(script, 3)
 
 
-def added(before, line, column, wanted):
-    """Seconds and bytes of peak memory that the formula column of the line adds."""
-    seconds, peak = cost_of(before)
-    with_cells, higher = cost_of([*before, line], column, wanted)
+def between(without, lines, column, wanted):
+    """Seconds and bytes of peak memory that a formula column adds to a script."""
+    seconds, peak = cost_of(without)
+    with_cells, higher = cost_of(lines, column, wanted)
     return with_cells - seconds, higher - peak
+
+
+def added(before, line, column, wanted):
+    """The same of a line that adds the column."""
+    return between(before, [*before, line], column, wanted)
 
 
 def show(what, cells, seconds, memory):
@@ -89,8 +94,10 @@ def show(what, cells, seconds, memory):
 
 def chain(count):
     """Seconds of a chain of so many rows, where each cell is its row's number."""
-    before = [table("Run", A="Int"), *rows("Run", A=[1] * count)]
-    seconds, memory = added(before, formula("Run", "V", CHAIN), "V", count)
+    filled = frame(["BulkAddRecord", "Run", [None] * count, {"A": [1] * count}])
+    columns = [{"id": "A", "type": "Int"}, {"formula": CHAIN, "id": "V", "type": "Int"}]
+    without, lines = [[frame(["AddTable", "Run", columns[:size]]), filled] for size in (1, 2)]
+    seconds, memory = between(without, lines, "V", count)
     show(f"chain of {count} rows", count, seconds, memory)
     return seconds
 

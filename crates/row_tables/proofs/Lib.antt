@@ -11,3 +11,4 @@ pub mod TakenLaws
 pub mod ChangeLaws
 pub mod BesideLaws
 pub mod SchemaLaws
+pub mod Ascending

@@ -119,7 +119,7 @@ fn changed(column: &ColDef, id: &Name, told: &Told) -> Result<ColDef, AllocError
 #[derive(Drop)]
 struct Widened<'a> {
     alloc: Global,
-    table: &'a RowTable,
+    old: Kept<'a>,
     new: &'a ColDef,
 }
 
@@ -131,13 +131,13 @@ impl CellSource for Widened<'_> {
 
     ghost value_at = { λ a d r.
         cond (bytes_eq d.id a.new.now.id) (start_of a.new.now)
-        (cell column_id a.table.now.grid d.id r) };
+        (cell column_id a.old.grid d.id r) };
 
     fn value(&self, column: &ColDef, row: u32) -> Result<CellValue, AllocError> {
         if column.id.as_str() == self.new.id.as_str() {
             Ok(start_of(self.alloc, self.new))
         } else {
-            self.table.stored(&column.id, row)
+            self.old.value(column, row)
         }
     }
 }
@@ -174,7 +174,7 @@ impl RowTable {
     {
         let source = Widened {
             alloc: self.alloc(),
-            table: self,
+            old: Kept::of(self),
             new,
         };
         let mut columns = self.columns_copy()?;
@@ -187,7 +187,7 @@ impl RowTable {
         ensures { IfOk result (λ t. t ≡ on_grid (remove_column id.now) self.now) }
     {
         let left = columns_without(self.alloc(), self.columns(), id)?;
-        self.refilled(left, self.rows_copy()?, &Kept { table: self })
+        self.refilled(left, self.rows_copy()?, &Kept::of(self))
     }
 
     // The table with the column of this id changed.

@@ -1,6 +1,6 @@
 //! One table.
 
-ghost use Rattle.std.specs.Prelude.{◌≡◌, IfOk};
+ghost use Rattle.std.specs.Prelude.{◌≡◌, true, IfOk};
 ghost use Rattle.std.specs.Option.{option_copied};
 ghost use Rattle.doc_model.specs.Column.{column_id};
 ghost use Rattle.doc_model.specs.Grid.{cell, grid_of};
@@ -65,13 +65,31 @@ impl RowTable {
         cell_in_row(&self.columns, cells, column)
     }
 
+    // The same, by search where the rows are known to ascend.
+    fn cell_by(&self, ascends: bool, column: &Name, row: u32) -> Option<&CellValue>
+        requires { ascends ≡ true → IsAscending self.now.grid.rows }
+        ensures { option_copied result ≡ kept self.now.grid column.now row }
+    {
+        if ascends {
+            return self.search_cell(column, row);
+        }
+        self.cell(column, row)
+    }
+
     /// A copy of the cell of a column in a row; null where there is none.
     ///
-    /// Cost: linear in the rows and the columns.
-    pub(crate) fn stored(&self, column: &Name, row: u32) -> Result<CellValue, AllocError>
+    /// Cost: the logarithm of the rows where they are known to ascend, else linear in them; and
+    /// linear in the columns.
+    pub(crate) fn stored(
+        &self,
+        ascends: bool,
+        column: &Name,
+        row: u32,
+    ) -> Result<CellValue, AllocError>
+        requires { ascends ≡ true → IsAscending self.now.grid.rows }
         ensures { IfOk result (λ v. v ≡ cell column_id self.now.grid column.now row) }
     {
-        match self.cell(column, row) {
+        match self.cell_by(ascends, column, row) {
             Some(value) => copy_of(value),
             None => Ok(CellValue::Null),
         }

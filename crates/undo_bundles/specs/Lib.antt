@@ -1,0 +1,2 @@
+pub mod BundleLog
+pub mod LogLaws

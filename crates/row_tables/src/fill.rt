@@ -65,8 +65,8 @@ fn ascend(rows: &[u32]) -> bool
     true
 }
 
-/// A table whose cells stay as they are, and whether its rows are known to ascend: they are found by
-/// search then.
+/// A table whose cells stay as they are, and whether its rows are known to ascend: then they are
+/// found by search.
 #[derive(Drop)]
 pub(crate) struct Kept<'a> {
     table: &'a RowTable,

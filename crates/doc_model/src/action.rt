@@ -4,7 +4,7 @@ use crate::{ColDef, ColDefList, ColInfo, ColumnList};
 use cell_types::{Name, RowList, Sequence};
 
 /// One change of a document. Rows are row ids; schema actions carry their metadata rows.
-#[derive(Drop)]
+#[derive(Clone, Drop)]
 pub enum DocAction {
     BulkAdd {
         table: Name,
@@ -54,7 +54,7 @@ pub enum DocAction {
 
 /// A document action of a bundle. A direct one is checked against the rules, an indirect one
 /// follows from it and is not.
-#[derive(Drop)]
+#[derive(Clone, Drop)]
 pub struct Step {
     pub action: DocAction,
     pub direct: bool,

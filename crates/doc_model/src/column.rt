@@ -20,7 +20,7 @@ pub struct ColDef {
 }
 
 /// Values for one column of a record action, in the order of the action's row ids.
-#[derive(Debug, Drop)]
+#[derive(Clone, Debug, Drop)]
 pub struct CellColumn {
     pub id: Name,
     pub values: ValueList,

@@ -9,6 +9,7 @@ use Rattle.doc_model.specs.Changes.{changes}
 use Rattle.doc_model.specs.Document.{Document}
 use Rattle.doc_model.specs.DocumentLaws.{IsWhole}
 use Rattle.doc_model.proofs.Choices.{each_mapped}
+use Rattle.undo_bundles.specs.BundleLog.{Log, empty_log}
 use Rattle.bundle_core.specs.BareVerdicts.{reply_of}
 use Rattle.bundle_core.specs.declared.bare_verdict.BareVerdict.{BareVerdict}
 use Rattle.bundle_core.specs.Dispatch.{state_of, IsSpot, Answers}
@@ -66,9 +67,9 @@ open_of-fields s x name h made waiting lagging a b c d e =
     ∙ ap (λ w. open_with s name h made w x.lagging) d
     ∙ ap (λ l. open_with s name h made waiting l) e
 
-pub holder_of-fields : (h : Holder) (user : User) (bundles : ℕ) → h.user ≡ user → h.bundles ≡ bundles → h ≡ record { user = user; bundles = bundles }
-holder_of-fields h user bundles a b =
-    ap (λ u. let x : Holder = record { user = u; bundles = h.bundles } in x) a ∙ ap (λ n. let x : Holder = record { user = user; bundles = n } in x) b
+pub holder_of-fields : (h : Holder) (user : User) (log : Log) → h.user ≡ user → h.log ≡ log → h ≡ record { user = user; log = log }
+holder_of-fields h user log a b =
+    ap (λ u. let x : Holder = record { user = u; log = h.log } in x) a ∙ ap (λ l. let x : Holder = record { user = user; log = l } in x) b
 
 module _ (users : List User) (doc : Document) (before behind : List SessionState) (e : Entry) (spot : IsSpot e.session before behind) where
   -- a session that is not open
@@ -115,13 +116,13 @@ module _ (users : List User) (doc : Document) (before behind : List SessionState
   }
 
   abbrev opened_by : User → Verdicts
-  opened_by user = record { outcome = shows_view; document = doc; is_bundle = false; holder = Some (record { user = user; bundles = 0 }) }
+  opened_by user = record { outcome = shows_view; document = doc; is_bundle = false; holder = Some (record { user = user; log = empty_log }) }
 
   pub answers_opened : (user : User) (x : SessionState) → from_closed users closed e.request ≡ opened_by user
-      → open_of doc x ≡ open_with doc e.session (record { user = user; bundles = 0 }) 0 [] false
+      → open_of doc x ≡ open_with doc e.session (record { user = user; log = empty_log }) 0 [] false
       → Answers users doc doc (before ++ behind) (before ++ x ∷ behind) e (replies e.request shows_view (view user doc))
   answers_opened user x p f =
-      let new : Open = open_with doc e.session (record { user = user; bundles = 0 }) 0 [] false in
+      let new : Open = open_with doc e.session (record { user = user; log = empty_log }) 0 [] false in
       let placed : put_by_id session_name new (opens doc (before ++ behind)) ≡ opens doc (before ++ x ∷ behind) =
       ap (put_by_id session_name new) (opens-append doc before behind)
       ∙ index_absent session_name e.session (opens doc before) (opens doc behind) new refl below above

@@ -4,7 +4,6 @@ use Rattle.std.proofs.lemmas.List.{map-append}
 use Rattle.std.specs.List.{AllByRecursion}
 use Rattle.doc_model.specs.declared.entry.Entry.{Entry}
 use Rattle.doc_model.specs.declared.user.User.{User}
-use Rattle.doc_model.specs.declared.verdict.RetValue.{RetValue}
 use Rattle.doc_model.specs.declared.view.ViewAction.{ViewAction}
 use Rattle.doc_model.specs.declared.view.ViewTable.{ViewTable}
 use Rattle.doc_model.specs.ByIds.{put_by_id, precedes}
@@ -14,7 +13,8 @@ use Rattle.doc_model.specs.DocumentLaws.{IsWhole}
 use Rattle.doc_model.proofs.Choices.{each_mapped}
 use Rattle.grist_json.specs.Lines.{stream_text}
 use Rattle.bundle_core.specs.BareVerdicts.{reply_of}
-use Rattle.bundle_core.specs.declared.bare_verdict.BareVerdict.TheVariants.{Bundle}
+use Rattle.undo_bundles.specs.BundleLog.{Log}
+use Rattle.bundle_core.specs.declared.bare_verdict.BareVerdict.{BareVerdict}
 use Rattle.bundle_core.specs.Dispatch.{state_of, IsSpot, Answers}
 use Rattle.bundle_core.specs.Mailbox.{Mailbox, says, emptied, posted_if_any, is_full}
 use Rattle.bundle_core.specs.SessionState.{SessionState, open_of, IsReady, after_post, line_for, posted_state}
@@ -52,8 +52,8 @@ posted-line s s' y (a ∷ as') same =
                 else record { view = w; made = y.made + 1; waiting = y.waiting ++ line ∷ []; lagging = false });
           } in o)
           ≡ open_of s' (if f
-          then record { session = y.session; holder = y.holder; made = y.made; waiting = y.waiting; lagging = true; ready = None; room = y.room }
-          else record { session = y.session; holder = y.holder; made = y.made + 1; waiting = y.waiting ++ line ∷ []; lagging = y.lagging; ready = None; room = y.room - 1 })) [
+          then record { session = y.session; holder = y.holder; made = y.made; waiting = y.waiting; lagging = true; ready = None; room = y.room; note_room = y.note_room }
+          else record { session = y.session; holder = y.holder; made = y.made + 1; waiting = y.waiting ++ line ∷ []; lagging = y.lagging; ready = None; room = y.room - 1; note_room = y.note_room })) [
             | true ↦ refl
             | false ↦ ap (λ l. open_with s' y.session y.holder (y.made + 1) (y.waiting ++ line ∷ []) l) (sym quick)
           ]
@@ -95,24 +95,24 @@ module _ (s s' : Document) (w : IsWhole s) (w' : IsWhole s') (told : User → Li
 module _ (users : List User) (s s' : Document) (before behind : List SessionState) (e : Entry) (spot : IsSpot e.session before behind) (w : IsWhole s) (w' : IsWhole s')
     (x : SessionState) (named : x.session ≡ e.session) (quick : x.lagging ≡ false) (told : User → List ViewAction) (shown : (user : User) → told user ≡ changes (view user s) (view user s')) where
   -- the session's own bundle was accepted
-  abbrev own_bundle : List RetValue → Verdicts
-  own_bundle values = record {
-    outcome = says (Bundle (x.holder.bundles + 1) values);
+  abbrev own_bundle : BareVerdict → Log → Verdicts
+  own_bundle v log = record {
+    outcome = says v;
     document = s';
     is_bundle = true;
-    holder = Some (record { user = x.holder.user; bundles = x.holder.bundles + 1 });
+    holder = Some (record { user = x.holder.user; log = log });
   }
 
-  pub answers_bundle : (values : List RetValue) (y : SessionState)
-      → ComesTo users s before behind e spot x named (own_bundle values)
+  pub answers_bundle : (v : BareVerdict) (log : Log) (y : SessionState)
+      → ComesTo users s before behind e spot x named (own_bundle v log)
       → AllByRecursion (IsReady told) before → AllByRecursion (IsReady told) behind → IsReady told x
-      → open_of s' y ≡ open_with s' e.session (record { user = x.holder.user; bundles = x.holder.bundles + 1 }) (x.made + length (option_to_list x.ready)) [] false
-      → Answers users s s' (before ++ x ∷ behind) (map posted_state before ++ y ∷ map posted_state behind) e (x.waiting ++ option_to_list x.ready ++ reply_of (Bundle (x.holder.bundles + 1) values) ∷ [])
-  answers_bundle values y p ready_before ready_behind ready f =
+      → open_of s' y ≡ open_with s' e.session (record { user = x.holder.user; log = log }) (x.made + length (option_to_list x.ready)) [] false
+      → Answers users s s' (before ++ x ∷ behind) (map posted_state before ++ y ∷ map posted_state behind) e (x.waiting ++ option_to_list x.ready ++ reply_of v ∷ [])
+  answers_bundle v log y p ready_before ready_behind ready f =
       let st : State = state_of s (before ++ x ∷ behind) in
       let m : Mailbox = (open_of s x).mailbox in
       let view' : List ViewTable = view x.holder.user s' in
-      let h : Holder = record { user = x.holder.user; bundles = x.holder.bundles + 1 } in
+      let h : Holder = record { user = x.holder.user; log = log } in
       let made : ℕ = x.made + length (option_to_list x.ready) in
       let new : Open = open_with s' e.session h made [] false in
       let posted_before : map (posted_to s') (opens s before) ≡ opens s' (map posted_state before) = all_posted s s' w w' told shown before ready_before in
@@ -135,9 +135,9 @@ module _ (users : List User) (s s' : Document) (before behind : List SessionStat
       ∙ own-line s s' x (told x.holder.user) quick (unchanged s s' w w' told shown x.holder.user)
       ∙ ap (λ line. let n : Mailbox = record { view = view'; made = x.made + length (option_to_list line); waiting = option_to_list line; lagging = false } in n) (sym ready.line) in
       record {
-        state = step_by users st e (own_bundle values) (Some m) (verdicts_open users s before behind e spot x named _ p) (mailbox_open users s before behind e spot x named)
+        state = step_by users st e (own_bundle v log) (Some m) (verdicts_open users s before behind e spot x named _ p) (mailbox_open users s before behind e spot x named)
             ∙ ap (λ k. with_opens s' (with_session e.session (Some h) (Some (emptied k)) (map (posted_to s') (opens s (before ++ x ∷ behind))))) open_line
             ∙ ap (with_opens s') placed;
-        lines_given = given_by users st e (own_bundle values) (Some m) (verdicts_open users s before behind e spot x named _ p) (mailbox_open users s before behind e spot x named)
-            ∙ ap (λ k. x.waiting ++ k.waiting ++ reply_of (Bundle (x.holder.bundles + 1) values) ∷ []) open_line;
+        lines_given = given_by users st e (own_bundle v log) (Some m) (verdicts_open users s before behind e spot x named _ p) (mailbox_open users s before behind e spot x named)
+            ∙ ap (λ k. x.waiting ++ k.waiting ++ reply_of v ∷ []) open_line;
       }

@@ -13,6 +13,7 @@ use Rattle.doc_model.specs.DocumentLaws.{IsWhole}
 use Rattle.doc_model.specs.SameRows.{Both}
 use Rattle.doc_model.specs.Touched.{AreSameTables, is_about, names_table}
 use Rattle.doc_model.specs.Valid.{valid}
+use Rattle.doc_model.proofs.Choices.{or_assoc, or_false}
 use Rattle.doc_model.proofs.SameRowLaws.{rows_itself}
 use Rattle.plain_view.proofs.PartLemmas.{SameRow-trans, both_trans}
 use Rattle.recalc.specs.Current.{PlainRowsLaw, StaysPlainLaw, brings_formula, has_formulas}
@@ -29,13 +30,6 @@ pub none_of : (b d : Bool) → (b ≡ true → d ≡ true) → d ≡ false → b
 none_of false d h none = refl
 none_of true d h none = absurd (true≢false (sym (h refl) ∙ none))
 
-or_none : (b : Bool) → (b || false) ≡ b
-or_none true = refl
-or_none false = refl
-
-or_apart : (a b d : Bool) → (a || (b || d)) ≡ ((a || b) || d)
-or_apart true b d = refl
-or_apart false b d = refl
 
 either_noted : (a b d : Bool) → (a ≡ true → b ≡ true) → (a || d) ≡ true → (b || d) ≡ true
 either_noted true b d h e = ap (λ x. x || d) (h refl)
@@ -71,8 +65,8 @@ within_at (x ∷ as') (suc i) a lt is p none = within_at as' i a (omega (arith, 
 -- one more of a list that is taken from the front
 any_suc : {X : Type 0} (p : X → Bool) (xs : List X) (i : ℕ) (x : X) → i < length xs → x ≡ get_or xs i x → list_any p (take (suc i) xs) ≡ (list_any p (take i xs) || p x)
 any_suc p [] i x lt is = absurd (omega (arith, lt))
-any_suc p (y ∷ xs) zero x lt is = or_none (p y) ∙ ap p (sym is)
-any_suc p (y ∷ xs) (suc i) x lt is = ap (λ b. p y || b) (any_suc p xs i x (omega (arith, lt)) is) ∙ or_apart (p y) (list_any p (take i xs)) (p x)
+any_suc p (y ∷ xs) zero x lt is = or_false (p y) ∙ ap p (sym is)
+any_suc p (y ∷ xs) (suc i) x lt is = ap (λ b. p y || b) (any_suc p xs i x (omega (arith, lt)) is) ∙ or_assoc (p y) (list_any p (take i xs)) (p x)
 
 -- the rows of one cell more are noted
 pub noted_next : (cells : List CellOld) (i : ℕ) (o : CellOld) (old new : List ChangedRows) → i < length cells → o ≡ get_or cells i o

@@ -12,6 +12,7 @@ use Rattle.doc_model.specs.Changes.{changes}
 use Rattle.doc_model.specs.Document.{Document}
 use Rattle.doc_model.proofs.Choices.{length_map}
 use Rattle.grist_json.specs.Lines.{reply_text}
+use Rattle.undo_bundles.specs.BundleLog.{empty_log}
 use Rattle.bundle_core.specs.BareVerdicts.{reply_of}
 use Rattle.bundle_core.specs.declared.bare_verdict.BareVerdict.TheVariants as verdict
 use Rattle.bundle_core.specs.Core.{is_gone}
@@ -62,24 +63,24 @@ module _ (users : List User) (s : Document) (xs : List SessionState) (index : �
         | None ↦ answered s None (refusal UnknownToken)
         | Some user ↦ if nat_le session_bound (length split.open_sessions)
             then answered s None (verdict.Limited limit.Sessions session_bound None)
-            else record { outcome = shows_view; document = s; is_bundle = false; holder = Some (record { user = user; bundles = 0 }) }
+            else record { outcome = shows_view; document = s; is_bundle = false; holder = Some (record { user = user; log = empty_log }) }
       ]) none))
 
   by_room : (token : List ℕ) (user : User) (full : Bool) → e.request ≡ request.Open token → user_of users token ≡ Some user → nat_le session_bound (length xs) ≡ full
       → from_closed users split e.request ≡ (if full
       then answered s None (verdict.Limited limit.Sessions session_bound None)
-      else record { outcome = shows_view; document = s; is_bundle = false; holder = Some (record { user = user; bundles = 0 }) })
+      else record { outcome = shows_view; document = s; is_bundle = false; holder = Some (record { user = user; log = empty_log }) })
   by_room token user full asks some count =
       ap (from_closed users split) asks
       ∙ ap (λ o. elim o as (λ _. Verdicts) [
         | None ↦ answered s None (refusal UnknownToken)
         | Some u ↦ if nat_le session_bound (length split.open_sessions)
             then answered s None (verdict.Limited limit.Sessions session_bound None)
-            else record { outcome = shows_view; document = s; is_bundle = false; holder = Some (record { user = u; bundles = 0 }) }
+            else record { outcome = shows_view; document = s; is_bundle = false; holder = Some (record { user = u; log = empty_log }) }
       ]) some
       ∙ ap (λ f. if f
       then answered s None (verdict.Limited limit.Sessions session_bound None)
-      else record { outcome = shows_view; document = s; is_bundle = false; holder = Some (record { user = user; bundles = 0 }) })
+      else record { outcome = shows_view; document = s; is_bundle = false; holder = Some (record { user = user; log = empty_log }) })
       (ap (nat_le session_bound) (length_map (open_of s) (take index xs ++ drop index xs) ∙ ap length (take-append-drop index xs)) ∙ count)
 
   pub miss_full : (token : List ℕ) (user : User) → e.request ≡ request.Open token → user_of users token ≡ Some user → nat_le session_bound (length xs) ≡ true
@@ -89,7 +90,7 @@ module _ (users : List User) (s : Document) (xs : List SessionState) (index : �
       subst P (take-append-drop index xs) (answers_closed users s (take index xs) (drop index xs) e m.spot (verdict.Limited limit.Sessions session_bound None) (by_room token user true asks some count))
 
   pub miss_opened : (token : List ℕ) (user : User) (x : SessionState) → e.request ≡ request.Open token → user_of users token ≡ Some user → nat_le session_bound (length xs) ≡ false
-      → open_of s x ≡ open_with s e.session (record { user = user; bundles = 0 }) 0 [] false
+      → open_of s x ≡ open_with s e.session (record { user = user; log = empty_log }) 0 [] false
       → Answers users s s xs (take index xs ++ x ∷ drop index xs) e (reply_text (Changes (changes [] (view user s))) ∷ [])
   miss_opened token user x asks some count f =
       let P : List SessionState → Type 0 = λ l. Answers users s s l (take index xs ++ x ∷ drop index xs) e (reply_text (Changes (changes [] (view user s))) ∷ []) in

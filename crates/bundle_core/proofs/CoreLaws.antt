@@ -13,6 +13,7 @@ use Rattle.doc_model.specs.Document.{Document}
 use Rattle.doc_model.specs.DocumentLaws.{IsWhole}
 use Rattle.doc_model.proofs.Choices.{each_weaker, each_mapped, each_unmapped, length_map}
 use Rattle.action_limits.specs.declared.tally.Tally.{Tally}
+use Rattle.undo_bundles.specs.BundleLog.{count}
 use Rattle.action_limits.specs.Tallies.{IsTally}
 use Rattle.bundle_core.specs.Core.{CoreState, state_after, entry_bound, entry_of, has_no_effect, history_bound, size_bound, size_of, is_gone, is_full, bytes_left, counted, IsCore, IsStep}
 use Rattle.bundle_core.specs.Dispatch.{AreSame, Answers, Finds, IsCounted, kept_name, Misses, state_of}
@@ -173,9 +174,9 @@ pub few_made : (users : List User) (start : Document) (es : List Entry) (s : Doc
 few_made users start es s tally xs bytes k =
     each_weaker (IsCounted (counted es)) (λ x. x.made < 2 ^ 62) (λ x c. omega (arith, c.made, min-le_right (length es) entry_bound)) xs k.few
 
-pub few_accepted : (users : List User) (start : Document) (es : List Entry) (s : Document) (tally : Tally) (xs : List SessionState) (bytes : Option ℕ) → IsCore users start es s tally xs bytes → AllByRecursion (λ x. x.holder.bundles < 2 ^ 62) xs
+pub few_accepted : (users : List User) (start : Document) (es : List Entry) (s : Document) (tally : Tally) (xs : List SessionState) (bytes : Option ℕ) → IsCore users start es s tally xs bytes → AllByRecursion (λ x. count x.holder.log < 2 ^ 62) xs
 few_accepted users start es s tally xs bytes k =
-    each_weaker (IsCounted (counted es)) (λ x. x.holder.bundles < 2 ^ 62) (λ x c. omega (arith, c.bundles, min-le_right (length es) entry_bound)) xs k.few
+    each_weaker (IsCounted (counted es)) (λ x. count x.holder.log < 2 ^ 62) (λ x c. omega (arith, c.bundles, min-le_right (length es) entry_bound)) xs k.few
 
 -- ---- sessions that are the same
 

@@ -1,6 +1,7 @@
 -- How a judgement goes on from one action to the next.
 use Rattle.std.proofs.Common.{◌≡◌, ℕ, suc, zero, ◌+◌, ◌<◌, ◌≤◌, Bool, true, cond, ◌&&◌, List, [], ◌∷◌, ◌++◌, map, drop, length, get_or, Some, None, refl, sym, ap, subst, ◌∙◌, arith}
 use Rattle.std.proofs.lemmas.Bool.{and_parts, le-ltb, lt-ltb}
+use Rattle.std.proofs.lemmas.List.{map-append, append_assoc, append-nil}
 use Rattle.std.specs.List.{list_all}
 use Rattle.doc_model.specs.declared.action.DocAction.{DocAction}
 use Rattle.doc_model.specs.declared.action.Step.{Step}
@@ -18,16 +19,17 @@ use Rattle.doc_model.proofs.InverseLaws.{IsWhole-apply_all}
 use Rattle.action_limits.specs.declared.tally.Tally.{Tally}
 use Rattle.user_actions.specs.Objections.{objection_to}
 use Rattle.user_actions.specs.StepLaws.{action_of}
+use Rattle.user_actions.specs.Steps.{steps_of}
 use Rattle.action_limits.specs.Tallies.{AreSteps, IsTally, after}
 use Rattle.bundle_core.specs.declared.bare_verdict.BareVerdict.TheVariants.{Limited, Refused}
 use Rattle.bundle_core.specs.declared.bare_verdict.BareVerdict.{BareVerdict}
 use Rattle.bundle_core.specs.declared.judging.ActionPlan.{ActionPlan}
 use Rattle.bundle_core.specs.declared.created.Created.{Created}
-use Rattle.bundle_core.specs.Judgement.{Judgement, accepted, refused, judge, judge_from, limited, created_at, opposed, refusal_at, with_created}
+use Rattle.bundle_core.specs.Judgement.{Judgement, accepted, refused, judge, judge_from, limited, created_at, opposed, refusal_at, with_before}
 use Rattle.bundle_core.specs.Created.{created_of}
 use Rattle.bundle_core.specs.declared.judging.BundlePlan.{BundlePlan}
-use Rattle.bundle_core.specs.JudgedBundles.{IsBundlePlan}
-use Rattle.bundle_core.specs.JudgedActions.{IsAt, IsActionPlan, with_all}
+use Rattle.bundle_core.specs.JudgedBundles.{IsBundlePlan, after_steps}
+use Rattle.bundle_core.specs.JudgedActions.{IsAt, IsActionPlan}
 use Rattle.recalc.specs.Evaluated.{filled}
 use Rattle.view_parts.specs.PartLaws.{AreSameOutside}
 use Rattle.bundle_core.specs.View.{view}
@@ -53,15 +55,15 @@ pub ruled_limit : (user : User) (s : Document) (i : ℕ) (a : UserAction) (kind 
 ruled_limit user s i a kind v none over_it e = ap (λ o. opposed i o (over (after s a))) none ∙ ap (limited i) over_it ∙ sym e
 
 -- nothing stands against it, and no limit is passed
-pub accepted_action : (user : User) (s : Document) (i : ℕ) (a : UserAction) (n : ActionPlan) (steps : List Step) → objection_to (view user s) a ≡ None → AreSteps s a steps n.tally → n.actions.items ≡ map action_of steps → n.created ≡ created_of a (map action_of steps) → IsActionPlan user s i a n
+pub accepted_action : (user : User) (s : Document) (i : ℕ) (a : UserAction) (n : ActionPlan) (steps : List Step) → objection_to (view user s) a ≡ None → AreSteps s a steps n.tally → n.steps ≡ steps → n.created ≡ created_of a (map action_of steps) → IsActionPlan user s i a n
 accepted_action user s i a n steps none x e f =
-    let leads : apply_all s n.actions.items ≡ after s a = ap (apply_all s) (e ∙ ap (map action_of) x.made) in
+    let leads : apply_all s (map action_of n.steps) ≡ after s a = ap (λ l. apply_all s (map action_of l)) (e ∙ x.made) in
     let P : Document → Type 0 = λ t. IsTally t n.tally in
     record {
       unopposed = ap (λ o. opposed i o (over (after s a))) none ∙ ap (limited i) x.room;
-      leads = leads;
+      steps = e ∙ x.made;
       created = f ∙ ap (λ l. created_of a (map action_of l)) x.made;
-      may = record { valid = ap (all_valid s) e ∙ x.valid; counts = subst P (sym leads) x.tally };
+      may = record { valid = ap (λ l. all_valid s (map action_of l)) e ∙ x.valid; counts = subst P (sym leads) x.tally };
     }
 
 pub apply_all-append : (s : Document) (as' bs : List DocAction) → apply_all s (as' ++ bs) ≡ apply_all (apply_all s as') bs
@@ -74,17 +76,15 @@ all_valid-append s (a ∷ as') bs h k =
     let p : (valid s a ≡ true) × (all_valid (apply s a) as' ≡ true) = and_parts (valid s a) (all_valid (apply s a) as') h in
     ap (λ b. b && all_valid (apply s a) (as' ++ bs)) p.0 ∙ all_valid-append (apply s a) as' bs p.1 k
 
-with_all-last : (ms : List Created) (m : Created) (j : Judgement) → with_all (ms ++ m ∷ []) j ≡ with_all ms (with_created m j)
-with_all-last [] m j = refl
-with_all-last (x ∷ ms) m j = ap (with_created x) (with_all-last ms m j)
+-- what stands before what stands before a judgement
+pub with_before-both : (xs ys : List Step) (ms ns : List Created) (j : Judgement) → with_before xs ms (with_before ys ns j) ≡ with_before (xs ++ ys) (ms ++ ns) j
+with_before-both xs ys ms ns (accepted s steps later) =
+    ap (λ l. accepted s l (ms ++ (ns ++ later))) (sym (append_assoc xs ys steps)) ∙ ap (accepted s (xs ++ ys ++ steps)) (sym (append_assoc ms ns later))
+with_before-both xs ys ms ns (refused v) = refl
 
-with_all-refused : (ms : List Created) (v : BareVerdict) → with_all ms (refused v) ≡ refused v
-with_all-refused [] v = refl
-with_all-refused (m ∷ ms) v = ap (with_created m) (with_all-refused ms v)
-
-with_all-accepted : (ms : List Created) (s : Document) → with_all ms (accepted s []) ≡ accepted s ms
-with_all-accepted [] s = refl
-with_all-accepted (m ∷ ms) s = ap (with_created m) (with_all-accepted ms s)
+-- nothing follows
+pub with_before-accepted : (xs : List Step) (ms : List Created) (s : Document) → with_before xs ms (accepted s [] []) ≡ accepted s xs ms
+with_before-accepted xs ms s = ap (λ l. accepted s l (ms ++ [])) (append-nil xs) ∙ ap (accepted s xs) (append-nil ms)
 
 -- a bundle of few enough actions is judged from its first action on
 pub judge-from : (user : User) (s : Document) (requested : List UserAction) → length requested ≤ 2000 → judge user s requested ≡ judge_from user s 0 requested
@@ -101,75 +101,81 @@ module _ (user : User) (start : Document) (requested : List UserAction) where
   pub at_start : (tally : Tally) → IsTally start tally → IsAt user start requested 0 start [] [] [] tally
   at_start tally is = record { done_so_far = refl; valid = refl; may = record { valid = refl; counts = is }; judged = refl }
 
-  module _ (i : ℕ) (s : Document) (done next : List DocAction) (created : List Created) (tally : Tally) (h : IsAt user start requested i s done next created tally) where
-    pub next_done : apply_all s next ≡ apply_all start (done ++ next)
-    next_done = ap (λ t. apply_all t next) h.done_so_far ∙ sym (apply_all-append start done next)
+  module _ (i : ℕ) (s : Document) (done next : List Step) (created : List Created) (tally : Tally) (h : IsAt user start requested i s done next created tally) where
+    actions_then : map action_of (done ++ next) ≡ map action_of done ++ map action_of next
+    actions_then = map-append action_of done next
 
-    pub next_valid : all_valid start (done ++ next) ≡ true
+    pub next_done : after_steps s next ≡ after_steps start (done ++ next)
+    next_done =
+        ap (λ t. after_steps t next) h.done_so_far ∙ sym (apply_all-append start (map action_of done) (map action_of next))
+        ∙ ap (apply_all start) (sym actions_then)
+
+    pub next_valid : all_valid start (map action_of (done ++ next)) ≡ true
     next_valid =
-        let P : Document → Type 0 = λ t. all_valid t next ≡ true in
-        all_valid-append start done next h.valid (subst P h.done_so_far h.may.valid)
+        let P : Document → Type 0 = λ t. all_valid t (map action_of next) ≡ true in
+        ap (all_valid start) actions_then ∙ all_valid-append start (map action_of done) (map action_of next) h.valid (subst P h.done_so_far h.may.valid)
 
     -- what followed is done
-    pub at_done : (t : Document) (all : List DocAction) → t ≡ apply_all s next → all ≡ done ++ next → IsAt user start requested i t all [] created tally
+    pub at_done : (t : Document) (all : List Step) → t ≡ after_steps s next → all ≡ done ++ next → IsAt user start requested i t all [] created tally
     at_done t all e same =
         let P : Document → Type 0 = λ u. IsTally u tally in
         record {
-          done_so_far = e ∙ next_done ∙ ap (apply_all start) (sym same);
-          valid = ap (all_valid start) same ∙ next_valid;
+          done_so_far = e ∙ next_done ∙ ap (after_steps start) (sym same);
+          valid = ap (λ l. all_valid start (map action_of l)) same ∙ next_valid;
           may = record { valid = refl; counts = subst P (sym e) h.may.counts };
-          judged = h.judged ∙ ap (λ u. with_all created (judge_from user u i (drop i requested))) (sym e);
+          judged = h.judged ∙ ap (λ u. with_before (done ++ next) created (judge_from user u i (drop i requested))) (sym e)
+              ∙ ap (λ l. with_before l created (judge_from user t i (drop i requested))) (sym same ∙ sym (append-nil all));
         }
 
     pub whole_at : IsWhole start → IsWhole s
     whole_at w =
         let P : Document → Type 0 = λ t. IsWhole t in
-        subst P (sym h.done_so_far) (IsWhole-apply_all start done w h.valid)
+        subst P (sym h.done_so_far) (IsWhole-apply_all start (map action_of done) w h.valid)
 
     -- all are judged, and the bundle is accepted
-    pub judged_all : length requested ≤ i → judge_from user start 0 requested ≡ accepted (apply_all start (done ++ next)) created
+    pub judged_all : length requested ≤ i → judge_from user start 0 requested ≡ accepted (after_steps start (done ++ next)) (done ++ next) created
     judged_all le =
         h.judged
-        ∙ ap (λ l. with_all created (judge_from user (apply_all s next) i l)) (nothing_left i requested le)
-        ∙ with_all-accepted created (apply_all s next)
-        ∙ ap (λ t. accepted t created) next_done
+        ∙ ap (λ l. with_before (done ++ next) created (judge_from user (after_steps s next) i l)) (nothing_left i requested le)
+        ∙ with_before-accepted (done ++ next) created (after_steps s next)
+        ∙ ap (λ t. accepted t (done ++ next) created) next_done
 
-    tally_then : IsTally (apply_all start (done ++ next)) tally
+    tally_then : IsTally (after_steps start (done ++ next)) tally
     tally_then = let P : Document → Type 0 = λ t. IsTally t tally in subst P next_done h.may.counts
 
     -- the plan of the bundle
-    pub planned : (p : BundlePlan) → length requested ≤ 2000 → length requested ≤ i → p.actions.items ≡ done ++ next → p.created.items ≡ created → p.tally ≡ tally → AreSameOutside p.actions.items p.changed.items (filled start) (filled (apply_all start p.actions.items)) → IsBundlePlan user start requested p
-    planned p few le same ms t outside =
-        let P : List DocAction → Type 0 = λ l. IsTally (apply_all start l) tally in
-        let Q : Tally → Type 0 = λ u. IsTally (apply_all start p.actions.items) u in
+    pub planned : (p : BundlePlan) → length requested ≤ 2000 → length requested ≤ i → p.undone ≡ None → p.steps ≡ done ++ next → p.created.items ≡ created → p.tally ≡ tally → AreSameOutside (map action_of p.steps) p.changed.items (filled start) (filled (after_steps start p.steps)) → IsBundlePlan (judge user start requested) None start p
+    planned p few le none same ms t outside =
+        let P : List Step → Type 0 = λ l. IsTally (after_steps start l) tally in
+        let Q : Tally → Type 0 = λ u. IsTally (after_steps start p.steps) u in
         record {
-          judged = judge-from user start requested few ∙ judged_all le ∙ ap (λ l. accepted (apply_all start l) created) (sym same) ∙ ap (accepted (apply_all start p.actions.items)) (sym ms);
-          may = record { valid = ap (all_valid start) same ∙ next_valid; counts = subst Q (sym t) (subst P (sym same) tally_then) };
+          undoes = none;
+          judged = judge-from user start requested few ∙ judged_all le ∙ ap (λ l. accepted (after_steps start l) l created) (sym same) ∙ ap (accepted (after_steps start p.steps) p.steps) (sym ms);
+          may = record { valid = ap (λ l. all_valid start (map action_of l)) same ∙ next_valid; counts = subst Q (sym t) (subst P (sym same) tally_then) };
           outside = outside;
         }
 
-  module _ (i : ℕ) (s : Document) (done : List DocAction) (created : List Created) (tally : Tally) (a : UserAction) (rest : List UserAction) (h : IsAt user start requested i s done [] created tally) (e : drop i requested ≡ a ∷ rest) where
-    here : judge_from user start 0 requested ≡ with_all created (judge_from user s i (a ∷ rest))
-    here = h.judged ∙ ap (λ l. with_all created (judge_from user s i l)) e
+  module _ (i : ℕ) (s : Document) (done : List Step) (created : List Created) (tally : Tally) (a : UserAction) (rest : List UserAction) (h : IsAt user start requested i s done [] created tally) (e : drop i requested ≡ a ∷ rest) where
+    here : judge_from user start 0 requested ≡ with_before done created (judge_from user s i (a ∷ rest))
+    here = h.judged ∙ ap (λ l. with_before (done ++ []) created (judge_from user s i l)) e ∙ ap (λ l. with_before l created (judge_from user s i (a ∷ rest))) (append-nil done)
 
     -- an action is refused, and so is the bundle
     pub refused_at : (v : BareVerdict) → refusal_at user s i a ≡ Some v → judge_from user start 0 requested ≡ refused v
     refused_at v r =
         here
-        ∙ ap (λ o. with_all created (elim o as (λ _. Judgement) [ Some w ↦ refused w | None ↦ with_created (created_at s a) (judge_from user (after s a) (i + 1) rest) ])) r
-        ∙ with_all-refused created v
+        ∙ ap (λ o. with_before done created (elim o as (λ _. Judgement) [ Some w ↦ refused w | None ↦ with_before (steps_of s a) (created_at s a ∷ []) (judge_from user (after s a) (i + 1) rest) ])) r
 
     -- nothing stands against it
-    pub at_next : (n : ActionPlan) (ms : List Created) → drop (i + 1) requested ≡ rest → IsActionPlan user s i a n → ms ≡ created ++ n.created ∷ [] → IsAt user start requested (i + 1) s done n.actions.items ms n.tally
+    pub at_next : (n : ActionPlan) (ms : List Created) → drop (i + 1) requested ≡ rest → IsActionPlan user s i a n → ms ≡ created ++ n.created ∷ [] → IsAt user start requested (i + 1) s done n.steps ms n.tally
     at_next n ms f x items = record {
       done_so_far = h.done_so_far;
       valid = h.valid;
       may = x.may;
       judged = here
-          ∙ ap (λ o. with_all created (elim o as (λ _. Judgement) [ Some w ↦ refused w | None ↦ with_created (created_at s a) (judge_from user (after s a) (i + 1) rest) ])) x.unopposed
-          ∙ ap (λ m. with_all created (with_created m (judge_from user (after s a) (i + 1) rest))) (sym x.created)
-          ∙ ap (λ t. with_all created (with_created n.created (judge_from user t (i + 1) rest))) (sym x.leads)
-          ∙ ap (λ l. with_all created (with_created n.created (judge_from user (apply_all s n.actions.items) (i + 1) l))) (sym f)
-          ∙ sym (with_all-last created n.created (judge_from user (apply_all s n.actions.items) (i + 1) (drop (i + 1) requested)))
-          ∙ ap (λ l. with_all l (judge_from user (apply_all s n.actions.items) (i + 1) (drop (i + 1) requested))) (sym items);
+          ∙ ap (λ o. with_before done created (elim o as (λ _. Judgement) [ Some w ↦ refused w | None ↦ with_before (steps_of s a) (created_at s a ∷ []) (judge_from user (after s a) (i + 1) rest) ])) x.unopposed
+          ∙ ap (λ m. with_before done created (with_before (steps_of s a) (m ∷ []) (judge_from user (after s a) (i + 1) rest))) (sym x.created)
+          ∙ ap (λ l. with_before done created (with_before l (n.created ∷ []) (judge_from user (after_steps s l) (i + 1) rest))) (sym x.steps)
+          ∙ ap (λ l. with_before done created (with_before n.steps (n.created ∷ []) (judge_from user (after_steps s n.steps) (i + 1) l))) (sym f)
+          ∙ with_before-both done n.steps created (n.created ∷ []) (judge_from user (after_steps s n.steps) (i + 1) (drop (i + 1) requested))
+          ∙ ap (λ l. with_before (done ++ n.steps) l (judge_from user (after_steps s n.steps) (i + 1) (drop (i + 1) requested))) (sym items);
     }

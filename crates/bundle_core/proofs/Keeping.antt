@@ -18,7 +18,11 @@ use Rattle.doc_model.proofs.Choices.{each_weaker, each_filter, each_mapped, leng
 use Rattle.doc_model.specs.declared.limit.LimitKind.TheVariants as limit
 use Rattle.grist_json.specs.Lines.{stream_text}
 use Rattle.bundle_core.specs.declared.bare_verdict.BareVerdict.TheVariants as verdict
+use Rattle.undo_bundles.specs.BundleLog.{count, empty_log, marked, undo_of}
+use Rattle.undo_bundles.specs.InverseSteps.{inverse_steps}
+use Rattle.undo_bundles.proofs.LogLaws.{marked_count, noted_count}
 use Rattle.bundle_core.specs.Judgement.{Judgement, accepted, refused, judge}
+use Rattle.bundle_core.specs.Undo.{judge_own_undo}
 use Rattle.bundle_core.specs.Mailbox.{Mailbox, Outcome, quiet, shows_view, says, own, due, posted, posted_if_any, emptied, is_full}
 use Rattle.bundle_core.specs.State.{State, Open, Holder, Verdicts, session_name, session_of, mailbox_of, posted_to, posted_all, with_session, turn_of, step, verdicts, from_closed, from_open, from_lagging, opened, bundle_of, user_of, answered, refusal, session_bound}
 use Rattle.bundle_core.specs.View.{view}
@@ -26,7 +30,7 @@ use Rattle.bundle_core.specs.View.{view}
 -- nothing of a session is counted past n
 pub record IsBelow (n : ℕ) (o : Open) : Type 0 where
   pub made : o.mailbox.made ≤ n
-  pub bundles : o.holder.bundles ≤ n
+  pub bundles : count o.holder.log ≤ n
 
 pub record IsGood (n : ℕ) (os : List Open) : Type 0 where
   pub by_name : IsByIds session_name os
@@ -65,19 +69,20 @@ posted_good n v os g =
 -- the holder of a session, where there is one, has at most n bundles
 abbrev pub HoldsFew : ℕ → Option Holder → Type 0
 HoldsFew n None = Unit {0}
-HoldsFew n (Some h) = h.bundles ≤ n
+HoldsFew n (Some h) = count h.log ≤ n
 
-bundle_few : (n : ℕ) (h : Holder) (s : Document) (kept : Bool) (j : Judgement) → h.bundles ≤ n → HoldsFew (n + 1) (bundle_of h s kept j).holder
-bundle_few n h s kept (refused v) le = omega (arith, le)
-bundle_few n h s true (accepted after values) le = omega (arith, le)
-bundle_few n h s false (accepted after values) le = omega (arith, le)
+bundle_few : (n : ℕ) (h : Holder) (undone : Option ℕ) (s : Document) (kept : Bool) (j : Judgement) → count h.log ≤ n → HoldsFew (n + 1) (bundle_of h undone s kept j).holder
+bundle_few n h undone s kept (refused v) le = omega (arith, le)
+bundle_few n h None s true (accepted after steps values) le = omega (arith, le, noted_count (inverse_steps s steps) h.log)
+bundle_few n h (Some number) s true (accepted after steps values) le = omega (arith, le, noted_count (inverse_steps s steps) (marked number h.log), marked_count number h.log)
+bundle_few n h undone s false (accepted after steps values) le = omega (arith, le)
 
-open_few : (n : ℕ) (st : State) (h : Holder) (kept : Bool) (r : Request) → h.bundles ≤ n → HoldsFew (n + 1) (from_open st h kept r).holder
+open_few : (n : ℕ) (st : State) (h : Holder) (kept : Bool) (r : Request) → count h.log ≤ n → HoldsFew (n + 1) (from_open st h kept r).holder
 open_few n st h kept request.Bad le = omega (arith, le)
 open_few n st h kept request.TooLong le = omega (arith, le)
 open_few n st h kept (request.Open token) le = omega (arith, le)
-open_few n st h kept (request.Apply actions) le = bundle_few n h st.document kept (judge h.user st.document actions) le
-open_few n st h kept (request.Undo bundle) le = omega (arith, le)
+open_few n st h kept (request.Apply actions) le = bundle_few n h None st.document kept (judge h.user st.document actions) le
+open_few n st h kept (request.Undo number) le = bundle_few n h (Some number) st.document kept (judge_own_undo (undo_of h.log number) st.document) le
 open_few n st h kept request.Sync le = omega (arith, le)
 open_few n st h kept (request.Fetch table) le = omega (arith, le)
 open_few n st h kept request.Close le = tt
@@ -100,12 +105,12 @@ opened_few n users st token =
       | None ↦ answered st.document None (refusal UnknownToken)
       | Some user ↦ if nat_le session_bound (length st.open_sessions)
           then answered st.document None (verdict.Limited limit.Sessions session_bound None)
-          else record { outcome = shows_view; document = st.document; is_bundle = false; holder = Some (record { user = user; bundles = 0 }) }
+          else record { outcome = shows_view; document = st.document; is_bundle = false; holder = Some (record { user = user; log = empty_log }) }
     ]).holder) [
       | None ↦ tt
       | Some user ↦ elim (nat_le session_bound (length st.open_sessions)) as (λ b. HoldsFew (n + 1) (if b
           then answered st.document None (verdict.Limited limit.Sessions session_bound None)
-          else record { outcome = shows_view; document = st.document; is_bundle = false; holder = Some (record { user = user; bundles = 0 }) }).holder) [ true ↦ tt | false ↦ omega arith ]
+          else record { outcome = shows_view; document = st.document; is_bundle = false; holder = Some (record { user = user; log = empty_log }) }).holder) [ true ↦ tt | false ↦ omega arith ]
     ]
 
 closed_few : (n : ℕ) (users : List User) (st : State) (r : Request) → HoldsFew (n + 1) (from_closed users st r).holder

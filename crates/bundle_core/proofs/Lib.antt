@@ -16,3 +16,4 @@ pub mod TakeLemmas
 pub mod ToldLaws
 pub mod ViewLaws
 pub mod RollbackLemmas
+pub mod StepLemmas

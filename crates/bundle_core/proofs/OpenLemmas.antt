@@ -2,6 +2,7 @@
 use Rattle.std.proofs.Common.{◌≡◌, ℕ, suc, zero, ◌+◌, ◌<◌, Bool, true, false, List, [], ◌∷◌, ◌++◌, map, take, drop, length, get_or, option_to_list, Option, Some, None, refl, sym, ap, subst, ◌∙◌, arith, pos, drop-cons, Result, Ok, Err, IfOk, if◌then◌else◌}
 use Rattle.std.proofs.lemmas.List.{take-append-drop}
 use Rattle.std.specs.List.{AllByRecursion}
+use Rattle.doc_model.specs.declared.action.Step.{Step}
 use Rattle.doc_model.specs.declared.entry.Entry.{Entry}
 use Rattle.doc_model.specs.declared.refusal.Refusal.{Refusal}
 use Rattle.doc_model.specs.declared.refusal.Refusal.TheVariants.{BadLine, LineTooLong, AlreadyOpen, Lagged}
@@ -23,12 +24,15 @@ use Rattle.bundle_core.specs.declared.bare_verdict.BareVerdict.{BareVerdict}
 use Rattle.bundle_core.specs.declared.created.Created.{Created}
 use Rattle.bundle_core.specs.Core.{is_gone}
 use Rattle.bundle_core.specs.Dispatch.{AreSame, state_of, IsSpot, Finds, Answers, Leaves, Stays, Bundles, bundle_number, bundle_reply, user_at, values_told}
-use Rattle.bundle_core.specs.Judgement.{accepted, refused, judge}
+use Rattle.undo_bundles.specs.BundleLog.{Log, count, empty_log, noted}
+use Rattle.undo_bundles.specs.InverseSteps.{inverse_steps}
+use Rattle.bundle_core.specs.Judged.{AsksFor}
+use Rattle.bundle_core.specs.Judgement.{Judgement, accepted, refused}
 use Rattle.bundle_core.specs.Created.{told_of}
 use Rattle.bundle_core.specs.Mailbox.{quiet}
 use Rattle.bundle_core.specs.Requests.{refusal_open}
 use Rattle.bundle_core.specs.SessionState.{SessionState, open_of, IsReady, posted_state}
-use Rattle.bundle_core.specs.State.{State, Open, Holder, Verdicts, answered, refusal, from_open, from_lagging, bundle_of, step, given}
+use Rattle.bundle_core.specs.State.{State, Open, Holder, Verdicts, answered, refusal, from_open, from_lagging, accepted_as, bundle_of, step, given, with_undone}
 use Rattle.bundle_core.specs.View.{view}
 use Rattle.bundle_core.proofs.Answering.{with_opens, answers_leaving, answers_parting, answers_staying, open_of-fields, holder_of-fields}
 use Rattle.bundle_core.proofs.Bundling.{answers_bundle}
@@ -43,7 +47,7 @@ code_open st h kept request.Bad n e = same_refusal BadLine n st h e
 code_open st h kept request.TooLong n e = same_refusal LineTooLong n st h e
 code_open st h kept (request.Open token) n e = same_refusal AlreadyOpen n st h e
 code_open st h kept (request.Apply actions) n e = absurd (cc)
-code_open st h kept (request.Undo bundle) n e = same_refusal BadLine n st h e
+code_open st h kept (request.Undo bundle) n e = absurd (cc)
 code_open st h kept request.Sync n e = absurd (cc)
 code_open st h kept (request.Fetch table) n e = same_refusal BadLine n st h e
 code_open st h kept request.Close n e = absurd (cc)
@@ -60,17 +64,17 @@ code_lagging st request.Sync other = refl
 code_lagging st (request.Fetch table) other = refl
 code_lagging st request.Close other = refl
 
-pub code_sync : (st : State) (h : Holder) (kept : Bool) (r : Request) → refusal_open r ≡ None → is_gone r ≡ false → ((actions : List UserAction) → r ≡ request.Apply actions → ⊥) → (r ≡ request.Close → ⊥)
+pub code_sync : (st : State) (h : Holder) (kept : Bool) (r : Request) → refusal_open r ≡ None → is_gone r ≡ false → ((actions : List UserAction) → r ≡ request.Apply actions → ⊥) → ((number : ℕ) → r ≡ request.Undo number → ⊥) → (r ≡ request.Close → ⊥)
     → from_open st h kept r ≡ answered st.document (Some h) verdict.Done
-code_sync st h kept request.Sync e g a k = refl
-code_sync st h kept request.Bad e g a k = absurd (cc)
-code_sync st h kept request.TooLong e g a k = absurd (cc)
-code_sync st h kept (request.Open token) e g a k = absurd (cc)
-code_sync st h kept (request.Apply actions) e g a k = absurd (a actions refl)
-code_sync st h kept (request.Undo bundle) e g a k = absurd (cc)
-code_sync st h kept (request.Fetch table) e g a k = absurd (cc)
-code_sync st h kept request.Close e g a k = absurd (k refl)
-code_sync st h kept request.Gone e g a k = absurd (cc)
+code_sync st h kept request.Sync e g a u k = refl
+code_sync st h kept request.Bad e g a u k = absurd (cc)
+code_sync st h kept request.TooLong e g a u k = absurd (cc)
+code_sync st h kept (request.Open token) e g a u k = absurd (cc)
+code_sync st h kept (request.Apply actions) e g a u k = absurd (a actions refl)
+code_sync st h kept (request.Undo number) e g a u k = absurd (u number refl)
+code_sync st h kept (request.Fetch table) e g a u k = absurd (cc)
+code_sync st h kept request.Close e g a u k = absurd (k refl)
+code_sync st h kept request.Gone e g a u k = absurd (cc)
 
 abbrev pub parted : Document → Verdicts
 parted s = record { outcome = quiet; document = s; is_bundle = false; holder = None }
@@ -118,14 +122,14 @@ module _ (users : List User) (s : Document) (xs : List SessionState) (p : ℕ) (
       let Q : List SessionState → Type 0 = λ ys. Answers users s s xs ys e (x.waiting ++ reply_of v ∷ []) in
       answers_by _ _ _ _ _ _ _ _ (b.given_lines d) (subst Q (sym b.stands) (subst P (around xs p d f.within)
       (answers_staying users s (take p xs) (drop (suc p) xs) e f.spot x (f.named d) v b.after w (q (take p xs ++ x ∷ drop (suc p) xs))
-      (open_of-fields s b.after e.session x.holder x.made [] x.lagging (k.session ∙ f.named d) (holder_of-fields b.after.holder x.holder.user x.holder.bundles k.user (b.bundles d)) (b.made d) k.waiting k.lagging))))
+      (open_of-fields s b.after e.session x.holder x.made [] x.lagging (k.session ∙ f.named d) (holder_of-fields b.after.holder x.holder.user x.holder.log k.user (b.log d)) (b.made d) k.waiting k.lagging))))
 
-  -- a bundle that is refused
-  pub find_refused : (actions : List UserAction) (v : BareVerdict) (new : List SessionState) (lines : List (List ℕ)) → IsWhole s → e.request ≡ request.Apply actions → x.lagging ≡ false
-      → judge x.holder.user s actions ≡ refused v → Stays xs new p (reply_of v) lines → Answers users s s xs new e lines
-  find_refused actions v new lines w asks quick judged b =
+  -- a bundle, or an undo, that is refused
+  pub find_refused : (undone : Option ℕ) (j : Judgement) (v : BareVerdict) (new : List SessionState) (lines : List (List ℕ)) → IsWhole s → AsksFor x.holder s e.request undone j → e.kept ≡ true → x.lagging ≡ false
+      → j ≡ refused v → Stays xs new p (reply_of v) lines → Answers users s s xs new e lines
+  find_refused undone j v new lines w asks kept quick judged b =
       find_stays v new lines w (comes_open (answered s (Some x.holder) v) quick
-      (λ l. ap (from_open (state_of s l) x.holder e.kept) asks ∙ ap (bundle_of x.holder s e.kept) judged)) b
+      (λ l. ap (λ k. from_open (state_of s l) x.holder k e.request) kept ∙ asks (map (open_of s) l) ∙ ap (bundle_of x.holder undone s true) judged)) b
 
 -- ---- bundles
 
@@ -173,14 +177,14 @@ spot_same name n xs qs h s = record {
 }
 
 module _ (users : List User) (s s' : Document) (xs : List SessionState) (p : ℕ) (e : Entry) (f : Finds e.session xs p) (d : SessionState) (w : IsWhole s) (w' : IsWhole s') where
-  -- an accepted bundle of the session of that index
-  pub find_bundle : (actions : List UserAction) (ms : List Created) (told : User → List ViewAction) (new : List SessionState) (lines : List (List ℕ))
-      → e.request ≡ request.Apply actions → e.kept ≡ true → (get_or xs p d).lagging ≡ false
-      → judge (get_or xs p d).holder.user s actions ≡ accepted s' ms
+  -- an accepted bundle of the session of that index, or an undo
+  pub find_bundle : (undone : Option ℕ) (j : Judgement) (steps : List Step) (ms : List Created) (told : User → List ViewAction) (new : List SessionState) (lines : List (List ℕ))
+      → AsksFor (get_or xs p d).holder s e.request undone j → e.kept ≡ true → (get_or xs p d).lagging ≡ false
+      → j ≡ accepted s' steps ms
       → ((user : User) → told user ≡ changes (view user s) (view user s'))
-      → Bundles xs new p told (bundle_reply xs p s' ms) lines
+      → Bundles xs new p told (record { inverse = inverse_steps s steps; undone = undone }) (bundle_reply xs p undone s' ms) lines
       → Answers users s s' xs new e lines
-  find_bundle actions ms told new lines asks kept quick judged shown b =
+  find_bundle undone j steps ms told new lines asks kept quick judged shown b =
       let qs = b.prepared in
       let o = b.posts in
       let y = get_or qs p d in
@@ -191,27 +195,28 @@ module _ (users : List User) (s s' : Document) (xs : List SessionState) (p : ℕ
       let named : y.session ≡ e.session = ap (λ (o : Open). o.session) one ∙ f.named d in
       let quick' : y.lagging ≡ false = ap (λ (o : Open). o.mailbox.lagging) one ∙ quick in
       let values : List RetValue = map (told_of (view y.holder.user s')) ms in
-      let reply : List ℕ = reply_of (verdict.Bundle (y.holder.bundles + 1) values) in
+      let v : BareVerdict = accepted_as undone (count y.holder.log + 1) values in
+      let log : Log = noted (inverse_steps s steps) (with_undone undone y.holder.log) in
       let whole : List SessionState = take p qs ++ y ∷ drop (suc p) qs in
-      let judged' : judge y.holder.user s actions ≡ accepted s' ms = ap (λ (h : Holder). judge h.user s actions) holders ∙ judged in
+      let asks' : AsksFor y.holder s e.request undone j = let P : Holder → Type 0 = λ h. AsksFor h s e.request undone j in subst P (sym holders) asks in
       let comes : (if y.lagging then from_lagging (state_of s whole) e.request else from_open (state_of s whole) y.holder e.kept e.request)
-      ≡ bundle_of y.holder s true (accepted s' ms) =
+      ≡ bundle_of y.holder undone s true (accepted s' steps ms) =
       ap (λ l. if l then from_lagging (state_of s whole) e.request else from_open (state_of s whole) y.holder e.kept e.request) quick'
-      ∙ ap (from_open (state_of s whole) y.holder e.kept) asks
-      ∙ ap (λ t. bundle_of y.holder s t (judge y.holder.user s actions)) kept
-      ∙ ap (bundle_of y.holder s true) judged' in
-      let number : bundle_number xs p ≡ y.holder.bundles + 1 = bundle_number-is xs p d f.within ∙ ap (λ (h : Holder). h.bundles + 1) (sym holders) in
-      let same_reply : bundle_reply xs p s' ms ≡ reply =
-      ap (λ n. reply_of (verdict.Bundle n (values_told (user_at xs p) s' ms))) number
-      ∙ ap (λ u. reply_of (verdict.Bundle (y.holder.bundles + 1) (values_told u s' ms))) (user_at-is xs p d f.within ∙ ap (λ (h : Holder). Some h.user) (sym holders)) in
+      ∙ ap (λ t. from_open (state_of s whole) y.holder t e.request) kept
+      ∙ asks' (map (open_of s) whole)
+      ∙ ap (bundle_of y.holder undone s true) judged in
+      let number : bundle_number xs p ≡ count y.holder.log + 1 = bundle_number-is xs p d f.within ∙ ap (λ (h : Holder). count h.log + 1) (sym holders) in
+      let same_reply : bundle_reply xs p undone s' ms ≡ reply_of v =
+      ap (λ n. reply_of (accepted_as undone n (values_told (user_at xs p) s' ms))) number
+      ∙ ap (λ u. reply_of (accepted_as undone (count y.holder.log + 1) (values_told u s' ms))) (user_at-is xs p d f.within ∙ ap (λ (h : Holder). Some h.user) (sym holders)) in
       let box = o.emptied_box d in
       let line : Option (List ℕ) = y.ready in
-      let fields = open_of-fields s' o.after e.session (record { user = y.holder.user; bundles = y.holder.bundles + 1 }) (y.made + length (option_to_list line)) [] false
-      (box.session ∙ named) (holder_of-fields o.after.holder y.holder.user (y.holder.bundles + 1) box.user (o.bundles d)) (o.made d) box.waiting (box.lagging ∙ quick') in
+      let fields = open_of-fields s' o.after e.session (record { user = y.holder.user; log = log }) (y.made + length (option_to_list line)) [] false
+      (box.session ∙ named) (holder_of-fields o.after.holder y.holder.user log box.user (o.log d)) (o.made d) box.waiting (box.lagging ∙ quick') in
       let h = answers_bundle users s s' (take p qs) (drop (suc p) qs) e (spot_same e.session p xs qs b.same f.spot) w w' y named quick' told shown
-      values o.after comes (ready_take (IsReady told) p qs b.ready) (ready_drop (IsReady told) (suc p) qs b.ready) (ready_at told qs p d within b.ready) fields in
-      let P : List SessionState → Type 0 = λ old. Answers users s s' old (map posted_state (take p qs) ++ o.after ∷ map posted_state (drop (suc p) qs)) e (y.waiting ++ option_to_list line ++ reply ∷ []) in
-      let Q : List SessionState → Type 0 = λ ys. Answers users s s' qs ys e (y.waiting ++ option_to_list line ++ reply ∷ []) in
+      v log o.after comes (ready_take (IsReady told) p qs b.ready) (ready_drop (IsReady told) (suc p) qs b.ready) (ready_at told qs p d within b.ready) fields in
+      let P : List SessionState → Type 0 = λ old. Answers users s s' old (map posted_state (take p qs) ++ o.after ∷ map posted_state (drop (suc p) qs)) e (y.waiting ++ option_to_list line ++ reply_of v ∷ []) in
+      let Q : List SessionState → Type 0 = λ ys. Answers users s s' qs ys e (y.waiting ++ option_to_list line ++ reply_of v ∷ []) in
       answers_same users s s' xs qs new e lines b.same
       (answers_by _ _ _ _ _ _ _ _ (o.given_lines d ∙ ap (λ r. y.waiting ++ option_to_list line ++ r ∷ []) same_reply)
       (subst Q (sym o.stands) (subst P (around qs p d within) h)))
@@ -225,10 +230,11 @@ ok_both (Err e) P Q R h p q = tt
 abbrev pub some_session : SessionState
 some_session = record {
   session = [];
-  holder = record { user = record { token = []; access = None; email = []; name = []; id = pos 0 }; bundles = 0 };
+  holder = record { user = record { token = []; access = None; email = []; name = []; id = pos 0 }; log = empty_log };
   made = 0;
   waiting = [];
   lagging = false;
   ready = None;
   room = 0;
+  note_room = 0;
 }

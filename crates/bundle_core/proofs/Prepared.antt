@@ -4,7 +4,9 @@ use Rattle.std.specs.List.{AllByRecursion, insert}
 use Rattle.doc_model.specs.declared.user.User.{User}
 use Rattle.doc_model.specs.declared.view.ViewAction.{ViewAction}
 use Rattle.doc_model.specs.Document.{Document}
+use Rattle.bundle_core.specs.declared.session.BundleNote.{BundleNote}
 use Rattle.bundle_core.specs.Dispatch.{AreSame, Posts, Stays}
+use Rattle.bundle_core.specs.Noting.{log_after}
 use Rattle.bundle_core.specs.SessionState.{SessionState, open_of, posted_state, IsPrepared, IsReady, IsEmptied}
 use Rattle.bundle_core.proofs.Answering.{open_of-fields}
 
@@ -88,8 +90,8 @@ unposted P f (z ∷ xs) (suc i) x h lt is = unposted P f xs i x h.1 (omega (arit
 
 -- the session stays, its lines given
 pub stays_after : (old : List SessionState) (index : ℕ) (x p y : SessionState) (reply : List ℕ) (lines : List (List ℕ)) → index < length old → x ≡ get_or old index x
-    → IsPrepared x p → IsEmptied p y → y.made ≡ p.made → y.holder.bundles ≡ p.holder.bundles → lines ≡ p.waiting ++ reply ∷ [] → Stays old (set old index y) index reply lines
-stays_after old index x p y reply lines lt is h k made bundles given =
+    → IsPrepared x p → IsEmptied p y → y.made ≡ p.made → y.holder.log ≡ p.holder.log → lines ≡ p.waiting ++ reply ∷ [] → Stays old (set old index y) index reply lines
+stays_after old index x p y reply lines lt is h k made log given =
     let at : (d : SessionState) → get_or old index d ≡ x = λ d. at_any old index x d lt is in
     record {
       after = y;
@@ -101,7 +103,7 @@ stays_after old index x p y reply lines lt is h k made bundles given =
         lagging = k.lagging ∙ h.lagging;
       });
       made = λ d. made ∙ h.made ∙ ap (λ (z : SessionState). z.made) (sym (at d));
-      bundles = λ d. bundles ∙ ap (λ o. o.bundles) h.holder ∙ ap (λ (z : SessionState). z.holder.bundles) (sym (at d));
+      log = λ d. log ∙ ap (λ o. o.log) h.holder ∙ ap (λ (z : SessionState). z.holder.log) (sym (at d));
       given_lines = λ d. given ∙ ap (λ w. w ++ reply ∷ []) (h.waiting ∙ ap (λ (z : SessionState). z.waiting) (sym (at d)));
     }
 
@@ -111,17 +113,17 @@ posts_stand f (x ∷ xs) zero y lt = refl
 posts_stand f (x ∷ xs) (suc i) y lt = ap (λ r. f x ∷ r) (posts_stand f xs i y (omega (arith, lt)))
 
 -- the session of a bundle was given its lines, and the others were posted theirs
-pub posts_after : (old new : List SessionState) (index : ℕ) (x y : SessionState) (reply : List ℕ) (lines : List (List ℕ)) → index < length old → x ≡ get_or old index x
+pub posts_after : (old new : List SessionState) (index : ℕ) (x y : SessionState) (note : BundleNote) (reply : List ℕ) (lines : List (List ℕ)) → index < length old → x ≡ get_or old index x
     → new ≡ insert (map posted_state (take index old ++ drop (suc index) old)) index y
-    → IsEmptied x y → y.made ≡ x.made + length (option_to_list x.ready) → y.holder.bundles ≡ x.holder.bundles + 1 → lines ≡ x.waiting ++ option_to_list x.ready ++ reply ∷ []
-    → Posts old new index reply lines
-posts_after old new index x y reply lines lt is stands emptied made bundles given =
+    → IsEmptied x y → y.made ≡ x.made + length (option_to_list x.ready) → y.holder.log ≡ log_after note x.holder.log → lines ≡ x.waiting ++ option_to_list x.ready ++ reply ∷ []
+    → Posts old new index note reply lines
+posts_after old new index x y note reply lines lt is stands emptied made log given =
     let at : (d : SessionState) → x ≡ get_or old index d = λ d. sym (at_any old index x d lt is) in
     record {
       after = y;
       stands = stands ∙ posts_stand posted_state old index y lt;
       emptied_box = λ d. let P : SessionState → Type 0 = λ z. IsEmptied z y in subst P (at d) emptied;
       made = λ d. made ∙ ap (λ (z : SessionState). z.made + length (option_to_list z.ready)) (at d);
-      bundles = λ d. bundles ∙ ap (λ (z : SessionState). z.holder.bundles + 1) (at d);
+      log = λ d. log ∙ ap (λ (z : SessionState). log_after note z.holder.log) (at d);
       given_lines = λ d. given ∙ ap (λ (z : SessionState). z.waiting ++ option_to_list z.ready ++ reply ∷ []) (at d);
     }

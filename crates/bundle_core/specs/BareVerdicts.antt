@@ -10,6 +10,7 @@ use Rattle.bundle_core.specs.declared.bare_verdict.BareVerdict.TheVariants as ba
 abbrev pub verdict_of : BareVerdict → Verdict
 verdict_of bare.Done = verdict.Done
 verdict_of (bare.Bundle number values) = verdict.Bundle number values
+verdict_of (bare.Undone number) = verdict.Undone number
 verdict_of (bare.Refused refusal index) = verdict.Refused refusal index
 verdict_of (bare.Limited what bound index) = verdict.Limited what bound index
 

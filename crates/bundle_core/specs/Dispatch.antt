@@ -8,11 +8,13 @@ use Rattle.doc_model.specs.declared.view.ViewAction.{ViewAction}
 use Rattle.doc_model.specs.Document.{Document}
 use Rattle.doc_model.specs.ByIds.{precedes}
 use Rattle.bundle_core.specs.BareVerdicts.{reply_of}
-use Rattle.bundle_core.specs.declared.bare_verdict.BareVerdict.TheVariants.{Bundle}
+use Rattle.undo_bundles.specs.BundleLog.{count}
+use Rattle.bundle_core.specs.declared.session.BundleNote.{BundleNote}
 use Rattle.bundle_core.specs.SessionState.{SessionState, open_of, IsEmptied, IsReady, posted_state}
 use Rattle.bundle_core.specs.declared.created.Created.{Created}
 use Rattle.bundle_core.specs.Created.{told_of}
-use Rattle.bundle_core.specs.State.{State, step, given}
+use Rattle.bundle_core.specs.State.{State, accepted_as, step, given}
+use Rattle.bundle_core.specs.Noting.{log_after}
 use Rattle.bundle_core.specs.View.{view}
 
 abbrev pub kept_name : SessionState → List ℕ
@@ -36,7 +38,7 @@ pub record Answers (users : List User) (s s' : Document) (sessions sessions' : L
 -- no session has been posted more lines, or had more bundles accepted, than there are entries
 pub record IsCounted (entries : ℕ) (x : SessionState) : Type 0 where
   pub made : x.made ≤ entries
-  pub bundles : x.holder.bundles ≤ entries
+  pub bundles : count x.holder.log ≤ entries
 
 -- the session of that name stands at that index
 pub record Finds (name : List ℕ) (sessions : List SessionState) (index : ℕ) : Type 0 where
@@ -66,13 +68,13 @@ pub record Stays (old new : List SessionState) (index : ℕ) (reply : List ℕ)
   pub stands : new ≡ take index old ++ after ∷ drop (suc index) old
   pub emptied_box : (d : SessionState) → IsEmptied (get_or old index d) after
   pub made : (d : SessionState) → after.made ≡ (get_or old index d).made
-  pub bundles : (d : SessionState) → after.holder.bundles ≡ (get_or old index d).holder.bundles
+  pub log : (d : SessionState) → after.holder.log ≡ (get_or old index d).holder.log
   pub given_lines : (d : SessionState) → lines ≡ (get_or old index d).waiting ++ reply ∷ []
 
 -- the number of the bundle that the session of that index has accepted next
 abbrev pub bundle_number : List SessionState → ℕ → ℕ
 bundle_number [] index = 0
-bundle_number (x ∷ xs) zero = x.holder.bundles + 1
+bundle_number (x ∷ xs) zero = count x.holder.log + 1
 bundle_number (x ∷ xs) (suc index) = bundle_number xs index
 
 -- the user of the session of that index
@@ -86,14 +88,15 @@ abbrev pub values_told : Option User → Document → List Created → List RetV
 values_told None s ms = []
 values_told (Some user) s ms = map (told_of (view user s)) ms
 
--- the reply to a bundle of the session of that index that leads to this document
-abbrev pub bundle_reply : List SessionState → ℕ → Document → List Created → List ℕ
-bundle_reply sessions index s ms =
-    reply_of (Bundle (bundle_number sessions index) (values_told (user_at sessions index) s ms))
+-- the reply to a bundle of the session of that index, or to an undo, that leads to this document
+abbrev pub bundle_reply : List SessionState → ℕ → Option ℕ → Document → List Created → List ℕ
+bundle_reply sessions index undone s ms =
+    reply_of (accepted_as undone (bundle_number sessions index)
+    (values_told (user_at sessions index) s ms))
 
--- the session of that index was given what waited, its ready line and the reply; the others were
--- posted theirs
-pub record Posts (old new : List SessionState) (index : ℕ) (reply : List ℕ)
+-- the session of that index was given what waited, its ready line and the reply, and its bundle was
+-- noted; the others were posted theirs
+pub record Posts (old new : List SessionState) (index : ℕ) (note : BundleNote) (reply : List ℕ)
     (lines : List (List ℕ)) : Type 0 where
   pub after : SessionState
   pub stands : new ≡ map posted_state (take index old)
@@ -101,15 +104,16 @@ pub record Posts (old new : List SessionState) (index : ℕ) (reply : List ℕ)
   pub emptied_box : (d : SessionState) → IsEmptied (get_or old index d) after
   pub made : (d : SessionState) → after.made ≡ (get_or old index d).made + length
       (option_to_list (get_or old index d).ready)
-  pub bundles : (d : SessionState) → after.holder.bundles ≡ (get_or old index d).holder.bundles + 1
+  pub log : (d : SessionState) → after.holder.log
+      ≡ log_after note (get_or old index d).holder.log
   pub given_lines : (d : SessionState) → lines ≡ (get_or old index d).waiting
       ++ option_to_list (get_or old index d).ready ++ reply ∷ []
 
 -- the session of that index had a bundle accepted, and each session was posted what its user is
 -- told
 pub record Bundles (old new : List SessionState) (index : ℕ) (told : User → List ViewAction)
-    (reply : List ℕ) (lines : List (List ℕ)) : Type 0 where
+    (note : BundleNote) (reply : List ℕ) (lines : List (List ℕ)) : Type 0 where
   pub prepared : List SessionState
   pub same : AreSame old prepared
   pub ready : AllByRecursion (IsReady told) prepared
-  pub posts : Posts prepared new index reply lines
+  pub posts : Posts prepared new index note reply lines

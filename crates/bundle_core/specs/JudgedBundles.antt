@@ -1,8 +1,8 @@
 -- Bundles that were judged.
-use Rattle.std.specs.Prelude.{true, List, ◌≡◌}
+use Rattle.std.specs.Prelude.{ℕ, true, List, map, Option, ◌≡◌}
 use Rattle.doc_model.specs.declared.action.DocAction.{DocAction}
+use Rattle.doc_model.specs.declared.action.Step.{Step}
 use Rattle.doc_model.specs.declared.user.User.{User}
-use Rattle.doc_model.specs.declared.user_action.UserAction.{UserAction}
 use Rattle.doc_model.specs.declared.view.ViewAction.{ViewAction}
 use Rattle.doc_model.specs.Apply.{apply_all, all_valid}
 use Rattle.doc_model.specs.Changes.{changes}
@@ -12,7 +12,8 @@ use Rattle.action_limits.specs.Tallies.{IsTally}
 use Rattle.bundle_core.specs.declared.judging.JudgedBundle.{JudgedBundle}
 use Rattle.bundle_core.specs.declared.judging.JudgedBundle.TheVariants as judged
 use Rattle.bundle_core.specs.declared.judging.BundlePlan.{BundlePlan}
-use Rattle.bundle_core.specs.Judgement.{judge, accepted, refused}
+use Rattle.bundle_core.specs.Judgement.{Judgement, accepted, refused}
+use Rattle.user_actions.specs.StepLaws.{action_of}
 use Rattle.bundle_core.specs.View.{view}
 use Rattle.recalc.specs.Evaluated.{filled}
 use Rattle.view_parts.specs.PartLaws.{AreSameOutside}
@@ -22,19 +23,24 @@ pub record MayBeDone (s : Document) (actions : List DocAction) (tally : Tally) :
   pub valid : all_valid s actions ≡ true
   pub counts : IsTally (apply_all s actions) tally
 
--- the bundle is accepted with what these actions make of the document, which stays the same outside
--- of what they and the changed cells are about
-pub record IsBundlePlan (user : User) (s : Document) (requested : List UserAction)
-    (p : BundlePlan) : Type 0 where
-  pub judged : judge user s requested ≡ accepted (apply_all s p.actions.items) p.created.items
-  pub may : MayBeDone s p.actions.items p.tally
-  pub outside : AreSameOutside p.actions.items p.changed.items (filled s)
-      (filled (apply_all s p.actions.items))
+-- the document after these steps
+abbrev pub after_steps : Document → List Step → Document
+after_steps s steps = apply_all s (map action_of steps)
 
--- the judgement of a bundle
-abbrev pub IsJudgedBundle : User → Document → List UserAction → JudgedBundle → Type 0
-IsJudgedBundle user s requested (judged.Accepted plan) = IsBundlePlan user s requested plan
-IsJudgedBundle user s requested (judged.Refused v) = judge user s requested ≡ refused v
+-- the judgement, of a bundle or of the undo of one, accepts with these steps and what they make of
+-- the document, which stays the same outside of what they and the changed cells are about
+pub record IsBundlePlan (judgement : Judgement) (undone : Option ℕ) (s : Document)
+    (p : BundlePlan) : Type 0 where
+  pub undoes : p.undone ≡ undone
+  pub judged : judgement ≡ accepted (after_steps s p.steps) p.steps p.created.items
+  pub may : MayBeDone s (map action_of p.steps) p.tally
+  pub outside : AreSameOutside (map action_of p.steps) p.changed.items (filled s)
+      (filled (after_steps s p.steps))
+
+-- what a judgement comes to
+abbrev pub IsJudgedBundle : Judgement → Option ℕ → Document → JudgedBundle → Type 0
+IsJudgedBundle judgement undone s (judged.Accepted plan) = IsBundlePlan judgement undone s plan
+IsJudgedBundle judgement undone s (judged.Refused v) = judgement ≡ refused v
 
 -- what a user is told of these actions
 abbrev pub told_changes : Document → List DocAction → User → List ViewAction

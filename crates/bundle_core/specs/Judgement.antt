@@ -1,5 +1,6 @@
 -- The judgement of a bundle: action by action, and the first refusal is that of all.
-use Rattle.std.specs.Prelude.{ℕ, ◌+◌, cond, nat_lt, List, [], ◌∷◌, map, length, Option, Some, None}
+use Rattle.std.specs.Prelude.{ℕ, ◌+◌, cond, nat_lt, List, [], ◌∷◌, ◌++◌, map, length, Option, Some, None}
+use Rattle.doc_model.specs.declared.action.Step.{Step}
 use Rattle.doc_model.specs.declared.limit.LimitKind.{LimitKind}
 use Rattle.doc_model.specs.declared.limit.LimitKind.TheVariants.{Actions}
 use Rattle.doc_model.specs.declared.refusal.Refusal.{Refusal}
@@ -17,9 +18,9 @@ use Rattle.bundle_core.specs.declared.created.Created.{Created}
 use Rattle.bundle_core.specs.Created.{created_of}
 use Rattle.bundle_core.specs.View.{view}
 
--- accepted with the document after it and what its actions created, or refused
+-- accepted with the document after it, its steps, and what its actions created, or refused
 pub data Judgement : Type 0 where
-  accepted : Document → List Created → Judgement
+  accepted : Document → List Step → List Created → Judgement
   refused : BareVerdict → Judgement
 
 -- the limit that the action at that index of its bundle would pass
@@ -37,10 +38,10 @@ opposed i None kind = limited i kind
 abbrev pub refusal_at : User → Document → ℕ → UserAction → Option BareVerdict
 refusal_at user s i a = opposed i (objection_to (view user s) a) (over (after s a))
 
--- one action before those that are judged
-abbrev pub with_created : Created → Judgement → Judgement
-with_created m (accepted s ms) = accepted s (m ∷ ms)
-with_created m (refused v) = refused v
+-- steps and what was created, before those that are judged
+abbrev pub with_before : List Step → List Created → Judgement → Judgement
+with_before xs ms (accepted s steps later) = accepted s (xs ++ steps) (ms ++ later)
+with_before xs ms (refused v) = refused v
 
 -- what an action created
 abbrev pub created_at : Document → UserAction → Created
@@ -48,11 +49,12 @@ created_at s a = created_of a (map action_of (steps_of s a))
 
 -- the judgement of actions from that index of their bundle on
 abbrev pub judge_from : User → Document → ℕ → List UserAction → Judgement
-judge_from user s i [] = accepted s []
+judge_from user s i [] = accepted s [] []
 judge_from user s i (a ∷ as') =
     elim (refusal_at user s i a) [
       | Some v ↦ refused v
-      | None ↦ with_created (created_at s a) (judge_from user (after s a) (i + 1) as')
+      | None ↦ with_before (steps_of s a) (created_at s a ∷ [])
+          (judge_from user (after s a) (i + 1) as')
     ]
 
 -- the judgement of a bundle: of too many actions the first one past the bound is named

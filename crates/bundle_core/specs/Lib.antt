@@ -5,6 +5,8 @@ pub mod Frames
 pub mod Judgement
 pub mod Created
 pub mod Mailbox
+pub mod Noting
+pub mod Judged
 pub mod JudgedBundles
 pub mod Requests
 pub mod JudgedActions
@@ -16,3 +18,7 @@ pub mod Told
 pub mod View
 pub mod Rollback
 pub mod ChangedCells
+pub mod SplitSteps
+pub mod Undo
+pub mod UndoneSteps
+pub mod UndoLaw

@@ -10,6 +10,7 @@ use Rattle.doc_model.specs.declared.request.Request.TheVariants as request
 abbrev pub refusal_closed : Request → Refusal
 refusal_closed request.TooLong = LineTooLong
 refusal_closed (request.Apply actions) = NotOpen
+refusal_closed (request.Undo bundle) = NotOpen
 refusal_closed request.Sync = NotOpen
 refusal_closed request.Close = NotOpen
 refusal_closed _ = BadLine
@@ -19,6 +20,5 @@ abbrev pub refusal_open : Request → Option Refusal
 refusal_open request.Bad = Some BadLine
 refusal_open request.TooLong = Some LineTooLong
 refusal_open (request.Open token) = Some AlreadyOpen
-refusal_open (request.Undo bundle) = Some BadLine
 refusal_open (request.Fetch table) = Some BadLine
 refusal_open _ = None

@@ -9,7 +9,7 @@ use Rattle.bundle_core.specs.State.{Holder, Open}
 use Rattle.bundle_core.specs.View.{view}
 
 -- a session without its view, which is the document's; a line that is ready to be posted, and for
--- how many lines there is room
+-- how many lines, and how many bundles, there is room
 pub record SessionState : Type 0 where
   pub session : List ℕ
   pub holder : Holder
@@ -18,6 +18,7 @@ pub record SessionState : Type 0 where
   pub lagging : Bool
   pub ready : Option (List ℕ)
   pub room : ℕ
+  pub note_room : ℕ
 
 -- the session with its view of a document
 abbrev pub open_of : Document → SessionState → Open
@@ -60,6 +61,7 @@ after_post x None = record {
   lagging = x.lagging;
   ready = None;
   room = x.room;
+  note_room = x.note_room;
 }
 after_post x (Some line) =
     if is_full x.waiting
@@ -71,6 +73,7 @@ after_post x (Some line) =
       lagging = true;
       ready = None;
       room = x.room;
+      note_room = x.note_room;
     }
     else record {
       session = x.session;
@@ -80,6 +83,7 @@ after_post x (Some line) =
       lagging = x.lagging;
       ready = None;
       room = x.room - 1;
+      note_room = x.note_room;
     }
 
 abbrev pub posted_state : SessionState → SessionState

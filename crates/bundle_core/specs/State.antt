@@ -12,17 +12,21 @@ use Rattle.doc_model.specs.declared.request.Request.TheVariants as request
 use Rattle.doc_model.specs.ByIds.{find_id, put_by_id, without_id}
 use Rattle.doc_model.specs.Counts.{bound_of}
 use Rattle.doc_model.specs.Document.{Document}
+use Rattle.doc_model.specs.declared.verdict.RetValue.{RetValue}
+use Rattle.undo_bundles.specs.BundleLog.{Log, count, empty_log, marked, noted, undo_of}
+use Rattle.undo_bundles.specs.InverseSteps.{inverse_steps}
 use Rattle.bundle_core.specs.declared.bare_verdict.BareVerdict.TheVariants as verdict
 use Rattle.bundle_core.specs.declared.bare_verdict.BareVerdict.{BareVerdict}
 use Rattle.bundle_core.specs.Judgement.{Judgement, accepted, refused, judge}
+use Rattle.bundle_core.specs.Undo.{judge_own_undo}
 use Rattle.bundle_core.specs.Created.{told_of}
 use Rattle.bundle_core.specs.Mailbox.{Mailbox, Outcome, quiet, shows_view, says, Turn, due, own}
 use Rattle.bundle_core.specs.View.{view}
 
--- who has a session open, and how many of its bundles were accepted
+-- who has a session open, and the bundles of it that were accepted
 pub record Holder : Type 0 where
   pub user : User
-  pub bundles : ℕ
+  pub log : Log
 
 -- a session that is open
 pub record Open : Type 0 where
@@ -77,7 +81,7 @@ opened users st token =
             outcome = shows_view;
             document = st.document;
             is_bundle = false;
-            holder = Some (record { user = user; bundles = 0 });
+            holder = Some (record { user = user; log = empty_log });
           }
     ]
 
@@ -90,19 +94,33 @@ from_closed users st request.Gone =
     record { outcome = quiet; document = st.document; is_bundle = false; holder = None }
 from_closed users st (request.Apply actions) = answered st.document None (refusal NotOpen)
 from_closed users st request.Sync = answered st.document None (refusal NotOpen)
-from_closed users st (request.Undo bundle) = answered st.document None (refusal BadLine)
+from_closed users st (request.Undo bundle) = answered st.document None (refusal NotOpen)
 from_closed users st (request.Fetch table) = answered st.document None (refusal BadLine)
 from_closed users st request.Close = answered st.document None (refusal NotOpen)
 
--- a bundle of an open session: accepted, it counts; the keeper's failure leaves everything
-abbrev pub bundle_of : Holder → Document → Bool → Judgement → Verdicts
-bundle_of h s kept (refused v) = answered s (Some h) v
-bundle_of h s false (accepted after ms) = answered s (Some h) (refusal StoreFault)
-bundle_of h s true (accepted after ms) = record {
-  outcome = says (verdict.Bundle (h.bundles + 1) (map (told_of (view h.user after)) ms));
+-- the verdict of an accepted bundle: where it is an undo, it has no values
+abbrev pub accepted_as : Option ℕ → ℕ → List RetValue → BareVerdict
+accepted_as None number values = verdict.Bundle number values
+accepted_as (Some undone) number values = verdict.Undone number
+
+-- the log, where the bundle that is undone is marked
+abbrev pub with_undone : Option ℕ → Log → Log
+with_undone None log = log
+with_undone (Some undone) log = marked undone log
+
+-- a bundle of an open session, or the undo of its bundle of that number: accepted, it is noted with
+-- its inverse; the keeper's failure leaves everything
+abbrev pub bundle_of : Holder → Option ℕ → Document → Bool → Judgement → Verdicts
+bundle_of h undone s kept (refused v) = answered s (Some h) v
+bundle_of h undone s false (accepted after steps ms) = answered s (Some h) (refusal StoreFault)
+bundle_of h undone s true (accepted after steps ms) = record {
+  outcome = says (accepted_as undone (count h.log + 1) (map (told_of (view h.user after)) ms));
   document = after;
   is_bundle = true;
-  holder = Some (record { user = h.user; bundles = h.bundles + 1 });
+  holder = Some (record {
+    user = h.user;
+    log = noted (inverse_steps s steps) (with_undone undone h.log);
+  });
 }
 
 -- a request of a session that is open and does not lag; what is not built yet is no request
@@ -111,8 +129,10 @@ from_open st h kept request.Bad = answered st.document (Some h) (refusal BadLine
 from_open st h kept request.TooLong = answered st.document (Some h) (refusal LineTooLong)
 from_open st h kept (request.Open token) = answered st.document (Some h) (refusal AlreadyOpen)
 from_open st h kept (request.Apply actions) =
-    bundle_of h st.document kept (judge h.user st.document actions)
-from_open st h kept (request.Undo bundle) = answered st.document (Some h) (refusal BadLine)
+    bundle_of h None st.document kept (judge h.user st.document actions)
+from_open st h kept (request.Undo number) =
+    bundle_of h (Some number) st.document kept
+    (judge_own_undo (undo_of h.log number) st.document)
 from_open st h kept request.Sync = answered st.document (Some h) verdict.Done
 from_open st h kept (request.Fetch table) = answered st.document (Some h) (refusal BadLine)
 from_open st h kept request.Close = answered st.document None verdict.Done

@@ -13,6 +13,9 @@ pub(crate) enum BareVerdict {
         number: u64,
         values: RetValueList,
     },
+    Undone {
+        number: u64,
+    },
     Refused {
         refusal: Refusal,
         action: Option<u32>,
@@ -32,6 +35,7 @@ impl BareVerdict {
         match self {
             BareVerdict::Done => Verdict::Done,
             BareVerdict::Bundle { number, values } => Verdict::Bundle { number, values },
+            BareVerdict::Undone { number } => Verdict::Undone { number },
             BareVerdict::Refused { refusal, action } => Verdict::Refused { refusal, action },
             BareVerdict::Limited {
                 what,

@@ -3,35 +3,54 @@
 ghost use Rattle.std.specs.Prelude.{true, ◌≡◌, ◌+◌, ◌<◌, ◌^◌, [], ◌∷◌, ◌++◌, ◌≤◌, length, map, get_or, IfOk, OnOk, OnErr, vec_len, vec_capacity};
 ghost use Rattle.std.specs.List.{AllByRecursion, insert};
 ghost use Rattle.doc_model.specs.Apply.{all_valid, apply_all};
+ghost use Rattle.user_actions.specs.StepLaws.{action_of};
+ghost use Rattle.undo_bundles.specs.BundleLog.{count};
+ghost use Rattle.undo_bundles.specs.InverseSteps.{inverse_steps};
 ghost use Rattle.doc_model.specs.DocumentLaws.{IsWhole};
 ghost use Rattle.doc_model.specs.declared.user.User.{User};
 ghost use Rattle.recalc.specs.Evaluated.{filled};
 ghost use Rattle.view_parts.specs.PartLaws.{AreSameOutside};
 ghost use Rattle.view_parts.specs.Viewers.{viewer_of};
 ghost use Rattle.bundle_core.specs.BareVerdicts.{reply_of};
-ghost use Rattle.bundle_core.specs.declared.bare_verdict.BareVerdict.TheVariants.{Bundle};
 ghost use Rattle.bundle_core.specs.Dispatch.{AreSame, Bundles, Posts, bundle_number, bundle_reply};
 ghost use Rattle.bundle_core.specs.Created.{told_of};
-ghost use Rattle.bundle_core.specs.JudgedBundles.{told_changes};
+ghost use Rattle.bundle_core.specs.JudgedBundles.{after_steps, told_changes};
+ghost use Rattle.bundle_core.specs.Noting.{HasBundleRoom, MayBeUndone, note_of};
+ghost use Rattle.bundle_core.specs.State.{accepted_as};
 ghost use Rattle.bundle_core.specs.SessionState.{SessionState, IsReady, MayPost, posted_state};
 ghost use Rattle.bundle_core.specs.ViewChanges.{is_among, told_by};
 ghost use Rattle.bundle_core.specs.View.{view};
 ghost use Rattle.bundle_core.specs.Rollback.{AllLeadBack, gone_back};
 
 use crate::bare_verdict::BareVerdict;
-use crate::created::{Created, all_told};
+use crate::created::all_told;
 use crate::judging::BundlePlan;
-use crate::rollback::{do_all, go_back_all};
-use crate::session::OpenSession;
+use crate::rollback::{do_for_good, go_back_all};
+use crate::session::{BundleNote, OpenSession};
+use crate::split_steps::SplitSteps;
 use crate::turns::{post_all, prepare_all, reply_with};
 use crate::view_changes::{ToldChanges, see_parts, tell_changes, viewers_of};
-use doc_model::{DocAction, DocTables};
+use doc_model::{DocTables, RetValueList, StepList};
 use grist_json::Line;
 use recalc::{Doc, Trace};
 use std::alloc::{AllocError, Global};
 use view_parts::{ChangedRows, Viewer, part_law};
 
-/// Does the actions of a bundle of the session of that index, and posts every other open session
+/// What is ready of an accepted bundle: its reply, and what is noted of it.
+#[derive(Drop)]
+pub(crate) struct ReadyBundle {
+    pub reply: Line,
+    pub note: BundleNote,
+}
+
+/// What was done and what is told of it.
+#[derive(Drop)]
+struct DoneSteps {
+    inverse: StepList,
+    told: Vec<ToldChanges>,
+}
+
+/// Does the steps of a bundle of the session of that index, and posts every other open session
 /// the line that tells them. All memory is taken before anything that can be seen changes.
 pub(crate) fn accept<D: DocTables>(
     alloc: Global,
@@ -42,25 +61,28 @@ pub(crate) fn accept<D: DocTables>(
 ) -> Result<Vec<Line>, AllocError>
     requires within { index < length sessions.old.items }
     requires whole { IsWhole (D.document doc.old) }
-    requires valid { all_valid (D.document doc.old) plan.now.actions.items ≡ true }
-    requires outside { AreSameOutside plan.now.actions.items plan.now.changed.items
+    requires valid { all_valid (D.document doc.old) (map action_of plan.now.steps) ≡ true }
+    requires outside { AreSameOutside (map action_of plan.now.steps) plan.now.changed.items
         (filled (D.document doc.old))
-        (filled (apply_all (D.document doc.old) plan.now.actions.items)) }
+        (filled (after_steps (D.document doc.old) plan.now.steps)) }
     requires few { AllByRecursion (λ x. x.made < 2 ^ 62) sessions.old.items }
-    requires few_bundles { AllByRecursion (λ x. x.holder.bundles < 2 ^ 62) sessions.old.items }
+    requires few_bundles { AllByRecursion (λ x. count x.holder.log < 2 ^ 62) sessions.old.items }
+    requires own { (d : SessionState)
+        → MayBeUndone plan.now.undone (get_or sessions.old.items index d).holder.log }
     ensures document { OnOk result
-        (D.document doc.new ≡ apply_all (D.document doc.old) plan.now.actions.items) }
+        (D.document doc.new ≡ after_steps (D.document doc.old) plan.now.steps) }
     ensures sessions { IfOk result (λ v. Bundles sessions.old.items sessions.new.items index
-        (told_changes (D.document doc.old) plan.now.actions.items)
-        (bundle_reply sessions.old.items index
-        (apply_all (D.document doc.old) plan.now.actions.items) plan.now.created.items)
+        (told_changes (D.document doc.old) (map action_of plan.now.steps))
+        (note_of (D.document doc.old) plan.now)
+        (bundle_reply sessions.old.items index plan.now.undone
+        (after_steps (D.document doc.old) plan.now.steps) plan.now.created.items)
         v.items) }
     ensures err_document { OnErr result (D.document doc.new ≡ D.document doc.old) }
     ensures err { OnErr result (AreSame sessions.old.items sessions.new.items) }
 {
     let mut traces = Vec::new(alloc);
     match ready_bundle(alloc, doc, sessions, index, plan, &mut traces) {
-        Ok(reply) => Ok(post(alloc, sessions, index, reply)),
+        Ok(ready) => Ok(post(alloc, sessions, index, ready)),
         Err(fault) => {
             go_back_all(doc, traces);
             Err(fault)
@@ -68,7 +90,7 @@ pub(crate) fn accept<D: DocTables>(
     }
 }
 
-// Does the actions, and makes ready the reply and each session's line.
+// Does the steps, and makes ready the reply, the note, and each session's line.
 fn ready_bundle<D: DocTables>(
     alloc: Global,
     doc: &mut Doc<D>,
@@ -76,87 +98,108 @@ fn ready_bundle<D: DocTables>(
     index: usize,
     plan: &BundlePlan,
     traces: &mut Vec<Trace<D>>,
-) -> Result<Line, AllocError>
+) -> Result<ReadyBundle, AllocError>
     requires within { index < length sessions.old.items }
     requires whole { IsWhole (D.document doc.old) }
-    requires valid { all_valid (D.document doc.old) plan.now.actions.items ≡ true }
-    requires outside { AreSameOutside plan.now.actions.items plan.now.changed.items
+    requires valid { all_valid (D.document doc.old) (map action_of plan.now.steps) ≡ true }
+    requires outside { AreSameOutside (map action_of plan.now.steps) plan.now.changed.items
         (filled (D.document doc.old))
-        (filled (apply_all (D.document doc.old) plan.now.actions.items)) }
+        (filled (after_steps (D.document doc.old) plan.now.steps)) }
     requires few { AllByRecursion (λ x. x.made < 2 ^ 63) sessions.old.items }
-    requires few_bundles { AllByRecursion (λ x. x.holder.bundles < 2 ^ 62) sessions.old.items }
+    requires few_bundles { AllByRecursion (λ x. count x.holder.log < 2 ^ 62) sessions.old.items }
     requires first { traces.old.items ≡ [] }
     ensures document { OnOk result
-        (D.document doc.new ≡ apply_all (D.document doc.old) plan.now.actions.items) }
+        (D.document doc.new ≡ after_steps (D.document doc.old) plan.now.steps) }
     ensures led { AllLeadBack D.fits D.undone traces.new.items (D.document doc.new) }
     ensures back { gone_back D.fits D.undone traces.new.items (D.document doc.new)
         ≡ D.document doc.old }
-    ensures reply { IfOk result (λ l. l ≡ bundle_reply sessions.old.items index
-        (apply_all (D.document doc.old) plan.now.actions.items) plan.now.created.items) }
+    ensures reply { IfOk result (λ r. r.reply ≡ bundle_reply sessions.old.items index
+        plan.now.undone (after_steps (D.document doc.old) plan.now.steps)
+        plan.now.created.items) }
+    ensures note { IfOk result (λ r. r.note ≡ note_of (D.document doc.old) plan.now) }
     ensures same { AreSame sessions.old.items sessions.new.items }
     ensures ready { OnOk result
-        (AllByRecursion (IsReady (told_changes (D.document doc.old) plan.now.actions.items))
+        (AllByRecursion (IsReady (told_changes (D.document doc.old) (map action_of plan.now.steps)))
         sessions.new.items) }
     ensures room { IfOk result (λ _. (d : SessionState)
-        → 1 < (get_or sessions.new.items index d).room) }
+        → HasBundleRoom (get_or sessions.new.items index d)) }
     ensures length { length sessions.new.items ≡ length sessions.old.items }
 {
     let viewers = viewers_of(alloc, sessions)?;
-    let told = done_and_told(alloc, doc, &plan.actions, &plan.changed, &viewers, traces)?;
-    let reply = reply_to(alloc, doc, &sessions[index], &plan.created)?;
-    ready_all(alloc, sessions, index, &told)?;
-    Ok(reply)
+    let done = done_and_told(alloc, doc, &plan.steps, &plan.changed, &viewers, traces)?;
+    let reply = reply_to(alloc, doc, &sessions[index], plan)?;
+    ready_all(alloc, sessions, index, &done.told)?;
+    Ok(ReadyBundle {
+        reply,
+        note: BundleNote {
+            inverse: done.inverse,
+            undone: plan.undone,
+        },
+    })
 }
 
-// Does the actions, and works out what these viewers are told of them.
+// Does the steps, and works out what these viewers are told of them.
 fn done_and_told<D: DocTables>(
     alloc: Global,
     doc: &mut Doc<D>,
-    actions: &[DocAction],
+    steps: &SplitSteps,
     changed: &[ChangedRows],
     viewers: &[Viewer],
     traces: &mut Vec<Trace<D>>,
-) -> Result<Vec<ToldChanges>, AllocError>
+) -> Result<DoneSteps, AllocError>
     requires whole { IsWhole (D.document doc.old) }
-    requires valid { all_valid (D.document doc.old) actions.now ≡ true }
-    requires outside { AreSameOutside actions.now changed.now (filled (D.document doc.old))
-        (filled (apply_all (D.document doc.old) actions.now)) }
+    requires valid { all_valid (D.document doc.old) (map action_of steps.now) ≡ true }
+    requires outside { AreSameOutside (map action_of steps.now) changed.now
+        (filled (D.document doc.old)) (filled (after_steps (D.document doc.old) steps.now)) }
     requires first { traces.old.items ≡ [] }
-    ensures document { OnOk result
-        (D.document doc.new ≡ apply_all (D.document doc.old) actions.now) }
+    ensures document { OnOk result (D.document doc.new ≡ after_steps (D.document doc.old) steps.now) }
     ensures led { AllLeadBack D.fits D.undone traces.new.items (D.document doc.new) }
     ensures back { gone_back D.fits D.undone traces.new.items (D.document doc.new)
         ≡ D.document doc.old }
-    ensures told { IfOk result (λ t. (user : User) → is_among viewers.now (viewer_of user) ≡ true
-        → told_by t.items user ≡ told_changes (D.document doc.old) actions.now user) }
+    ensures told { IfOk result (λ d. (user : User) → is_among viewers.now (viewer_of user) ≡ true
+        → told_by d.told.items user
+        ≡ told_changes (D.document doc.old) (map action_of steps.now) user) }
+    ensures inverse { IfOk result (λ d. d.inverse ≡ inverse_steps (D.document doc.old) steps.now) }
 {
-    let before = see_parts(alloc, doc, actions, changed, viewers)?;
-    do_all(alloc, doc, actions, traces, &mut Vec::new(alloc))?;
+    let before = see_parts(alloc, doc, steps.actions(), changed, viewers)?;
+    let inverse = do_for_good(alloc, doc, steps, traces)?;
     part_law();
-    tell_changes(alloc, doc, actions, changed, &before)
+    let told = tell_changes(alloc, doc, steps.actions(), changed, &before)?;
+    Ok(DoneSteps { inverse, told })
 }
 
-// The reply to a bundle of the session whose actions created this.
+// The verdict of an accepted bundle: where it is an undo, it has no values.
+fn accepted_as(undone: Option<u64>, number: u64, values: RetValueList) -> BareVerdict
+    ensures { result ≡ accepted_as undone number values }
+{
+    match undone {
+        Some(_) => BareVerdict::Undone { number },
+        None => BareVerdict::Bundle { number, values },
+    }
+}
+
+// The reply to a bundle of the session.
 #[tactic(auto, using(recalc::proofs::FilledLaws::laid_out_law))]
 fn reply_to<D: DocTables>(
     alloc: Global,
     doc: &Doc<D>,
     session: &OpenSession,
-    created: &[Created],
+    plan: &BundlePlan,
 ) -> Result<Line, AllocError>
     requires whole { IsWhole (D.document doc.now) }
-    requires few { session.now.holder.bundles < 2 ^ 62 }
+    requires few { count session.now.holder.log < 2 ^ 62 }
     ensures { IfOk result (λ l. l
-        ≡ reply_of
-        (Bundle (session.now.holder.bundles + 1)
-        (map (told_of (view session.now.holder.user (D.document doc.now))) created.now))) }
+        ≡ reply_of (accepted_as plan.now.undone (count session.now.holder.log + 1)
+        (map (told_of (view session.now.holder.user (D.document doc.now)))
+        plan.now.created.items))) }
 {
-    let values = all_told(alloc, doc, session.user(), created)?;
+    let values = all_told(alloc, doc, session.user(), &plan.created)?;
     let number = session.bundles() + 1;
-    reply_with(alloc, BareVerdict::Bundle { number, values })
+    reply_with(alloc, accepted_as(plan.undone, number, values))
 }
 
-// Makes ready each session's line, and room for the two that the session of the bundle is given.
+// Makes ready each session's line, and room for the two that the session of the bundle is given
+// and for the note of it.
 fn ready_all(
     alloc: Global,
     sessions: &mut Vec<OpenSession>,
@@ -168,12 +211,12 @@ fn ready_all(
     ensures same { AreSame sessions.old.items sessions.new.items }
     ensures ready { OnOk result (AllByRecursion (IsReady (told_by told.now)) sessions.new.items) }
     ensures room { IfOk result (λ _. (d : SessionState)
-        → 1 < (get_or sessions.new.items index d).room) }
+        → HasBundleRoom (get_or sessions.new.items index d)) }
     ensures length { length sessions.new.items ≡ length sessions.old.items }
 {
     prepare_vec(alloc, sessions, told)?;
     let session = &mut sessions[index];
-    session.make_room(2)
+    session.make_bundle_room()
 }
 
 fn prepare_vec(
@@ -189,17 +232,25 @@ fn prepare_vec(
     prepare_all(alloc, sessions.as_mut_slice(), told)
 }
 
-// Gives the session its own lines, and posts the others theirs.
-fn post(alloc: Global, sessions: &mut Vec<OpenSession>, index: usize, reply: Line) -> Vec<Line>
+// Gives the session its own lines and notes its bundle, and posts the others theirs.
+fn post(
+    alloc: Global,
+    sessions: &mut Vec<OpenSession>,
+    index: usize,
+    ready: ReadyBundle,
+) -> Vec<Line>
     requires within { index < length sessions.old.items }
-    requires room { (d : SessionState) → 1 < (get_or sessions.old.items index d).room }
+    requires room { (d : SessionState) → HasBundleRoom (get_or sessions.old.items index d) }
+    requires own { (d : SessionState)
+        → MayBeUndone ready.note.undone (get_or sessions.old.items index d).holder.log }
     requires may { AllByRecursion MayPost sessions.old.items }
-    requires few_bundles { AllByRecursion (λ x. x.holder.bundles < 2 ^ 63) sessions.old.items }
-    ensures { Posts sessions.old.items sessions.new.items index reply result.items }
+    requires few_bundles { AllByRecursion (λ x. count x.holder.log < 2 ^ 63) sessions.old.items }
+    ensures { Posts sessions.old.items sessions.new.items index ready.note ready.reply
+        result.items }
 {
     let mut own = sessions.remove(index);
     post_rest(sessions);
-    let lines = own.give_bundle(alloc, reply);
+    let lines = own.give_bundle(alloc, ready.reply, ready.note);
     put_back(sessions, index, own);
     lines
 }

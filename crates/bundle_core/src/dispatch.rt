@@ -10,11 +10,13 @@ ghost use Rattle.doc_model.specs.Changes.{changes};
 ghost use Rattle.doc_model.specs.DocumentLaws.{IsWhole};
 ghost use Rattle.doc_model.specs.LaidOut.{IsLaidOut};
 ghost use Rattle.doc_model.specs.WellFormed.{asks_well_formed, is_well_formed};
-ghost use Rattle.doc_model.specs.declared.request.Request.TheVariants.{Open, Apply};
+ghost use Rattle.doc_model.specs.declared.request.Request.TheVariants.{Open, Apply, Undo};
 ghost use Rattle.grist_json.specs.Lines.{reply_text};
 ghost use Rattle.action_limits.specs.Tallies.{IsTally};
+ghost use Rattle.undo_bundles.specs.BundleLog.{count};
 ghost use Rattle.bundle_core.specs.Core.{is_gone};
 ghost use Rattle.bundle_core.specs.Dispatch.{AreSame, Answers, Misses, Finds, kept_name};
+ghost use Rattle.bundle_core.specs.Judged.{IsJudgedFor};
 ghost use Rattle.bundle_core.specs.Requests.{refusal_closed, refusal_open};
 ghost use Rattle.bundle_core.specs.SessionState.{SessionState};
 ghost use Rattle.bundle_core.specs.State.{user_of};
@@ -27,6 +29,7 @@ use crate::judging::{JudgedBundle, judge};
 use crate::session::OpenSession;
 use crate::session_index::index_of;
 use crate::turns::{leave, line_alone, reply_alone, stay};
+use crate::undoing::judge_own_undo;
 use action_limits::Tally;
 use doc_model::{
     DocReader, DocTables, Entry, LimitKind, MAX_SESSIONS, Refusal, Request, User, UserActionList,
@@ -45,7 +48,9 @@ fn refusal_closed(request: &Request) -> Refusal
 {
     match request {
         Request::TooLong => Refusal::LineTooLong,
-        Request::Apply { .. } | Request::Sync | Request::Close => Refusal::NotOpen,
+        Request::Apply { .. } | Request::Undo { .. } | Request::Sync | Request::Close => {
+            Refusal::NotOpen
+        }
         _ => Refusal::BadLine,
     }
 }
@@ -55,10 +60,14 @@ fn refusal_open(request: &Request) -> Option<Refusal>
     ensures { result ≡ refusal_open request.now }
 {
     match request {
-        Request::Bad | Request::Undo { .. } | Request::Fetch { .. } => Some(Refusal::BadLine),
+        Request::Bad | Request::Fetch { .. } => Some(Refusal::BadLine),
         Request::TooLong => Some(Refusal::LineTooLong),
         Request::Open { .. } => Some(Refusal::AlreadyOpen),
-        Request::Apply { .. } | Request::Sync | Request::Close | Request::Gone => None,
+        Request::Apply { .. }
+        | Request::Undo { .. }
+        | Request::Sync
+        | Request::Close
+        | Request::Gone => None,
     }
 }
 
@@ -93,7 +102,7 @@ pub(crate) fn answer<D: DocTables>(
     requires by_name { IsByIds kept_name sessions.old.items }
     requires stays { is_gone entry.now.request ≡ false }
     requires few { AllByRecursion (λ x. x.made < 2 ^ 62) sessions.old.items }
-    requires few_bundles { AllByRecursion (λ x. x.holder.bundles < 2 ^ 62) sessions.old.items }
+    requires few_bundles { AllByRecursion (λ x. count x.holder.log < 2 ^ 62) sessions.old.items }
     requires kept { entry.now.kept ≡ true }
     requires well_formed { asks_well_formed entry.now.request ≡ true }
     ensures ok { IfOk result (λ v. Answers users.now (D.document doc.old)
@@ -226,7 +235,7 @@ fn answer_open<D: DocTables>(
     requires whole { IsWhole (D.document doc.old) }
     requires tally { IsTally (D.document doc.old) tally.old }
     requires few { AllByRecursion (λ x. x.made < 2 ^ 62) sessions.old.items }
-    requires few_bundles { AllByRecursion (λ x. x.holder.bundles < 2 ^ 62) sessions.old.items }
+    requires few_bundles { AllByRecursion (λ x. count x.holder.log < 2 ^ 62) sessions.old.items }
     requires kept { entry.now.kept ≡ true }
     requires well_formed { asks_well_formed entry.now.request ≡ true }
     ensures ok { IfOk result (λ v. Answers users.now (D.document doc.old)
@@ -245,6 +254,9 @@ fn answer_open<D: DocTables>(
     match &entry.request {
         Request::Apply { actions } => {
             answer_bundle(alloc, users, doc, tally, sessions, index, entry, actions)
+        }
+        Request::Undo { bundle } => {
+            answer_undo(alloc, users, doc, tally, sessions, index, entry, *bundle)
         }
         Request::Close => leave(alloc, sessions, index, BareVerdict::Done),
         _ => stay(alloc, sessions, index, BareVerdict::Done),
@@ -269,7 +281,7 @@ fn answer_bundle<D: DocTables>(
     requires whole { IsWhole (D.document doc.old) }
     requires tally { IsTally (D.document doc.old) tally.old }
     requires few { AllByRecursion (λ x. x.made < 2 ^ 62) sessions.old.items }
-    requires few_bundles { AllByRecursion (λ x. x.holder.bundles < 2 ^ 62) sessions.old.items }
+    requires few_bundles { AllByRecursion (λ x. count x.holder.log < 2 ^ 62) sessions.old.items }
     requires kept { entry.now.kept ≡ true }
     requires well_formed { list_all is_well_formed actions.now ≡ true }
     ensures ok { IfOk result (λ v. Answers users.now (D.document doc.old)
@@ -279,13 +291,75 @@ fn answer_bundle<D: DocTables>(
     ensures err_document { OnErr result (D.document doc.new ≡ D.document doc.old) }
     ensures err { OnErr result (AreSame sessions.old.items sessions.new.items) }
 {
-    match judge(
+    let judged = judge(
         alloc,
         doc,
         *tally,
         sessions[index].user(),
         actions.as_slice(),
-    )? {
+    )?;
+    answer_judged(alloc, users, doc, tally, sessions, index, entry, judged)
+}
+
+// Judges the undo of a bundle of the open session of that index, which does not lag, and does it
+// where it is accepted.
+fn answer_undo<D: DocTables>(
+    alloc: Global,
+    users: &[User],
+    doc: &mut Doc<D>,
+    tally: &mut Tally,
+    sessions: &mut Vec<OpenSession>,
+    index: usize,
+    entry: &Entry,
+    number: u64,
+) -> Result<Vec<Line>, AllocError>
+    requires finds { Finds entry.now.session sessions.old.items index }
+    requires quick { (d : SessionState) → (get_or sessions.old.items index d).lagging ≡ false }
+    requires asks { entry.now.request ≡ Undo number }
+    requires whole { IsWhole (D.document doc.old) }
+    requires tally { IsTally (D.document doc.old) tally.old }
+    requires few { AllByRecursion (λ x. x.made < 2 ^ 62) sessions.old.items }
+    requires few_bundles { AllByRecursion (λ x. count x.holder.log < 2 ^ 62) sessions.old.items }
+    requires kept { entry.now.kept ≡ true }
+    ensures ok { IfOk result (λ v. Answers users.now (D.document doc.old)
+        (D.document doc.new) sessions.old.items sessions.new.items entry.now v.items) }
+    ensures whole { IsWhole (D.document doc.new) }
+    ensures tally { IsTally (D.document doc.new) tally.new }
+    ensures err_document { OnErr result (D.document doc.new ≡ D.document doc.old) }
+    ensures err { OnErr result (AreSame sessions.old.items sessions.new.items) }
+{
+    let judged = judge_own_undo(alloc, doc, *tally, &sessions[index], number)?;
+    answer_judged(alloc, users, doc, tally, sessions, index, entry, judged)
+}
+
+// Does a bundle of the open session of that index, or an undo, where it was accepted.
+fn answer_judged<D: DocTables>(
+    alloc: Global,
+    users: &[User],
+    doc: &mut Doc<D>,
+    tally: &mut Tally,
+    sessions: &mut Vec<OpenSession>,
+    index: usize,
+    entry: &Entry,
+    judged: JudgedBundle,
+) -> Result<Vec<Line>, AllocError>
+    requires finds { Finds entry.now.session sessions.old.items index }
+    requires quick { (d : SessionState) → (get_or sessions.old.items index d).lagging ≡ false }
+    requires judged { (d : SessionState) → IsJudgedFor (get_or sessions.old.items index d).holder
+        (D.document doc.old) entry.now.request judged }
+    requires whole { IsWhole (D.document doc.old) }
+    requires tally { IsTally (D.document doc.old) tally.old }
+    requires few { AllByRecursion (λ x. x.made < 2 ^ 62) sessions.old.items }
+    requires few_bundles { AllByRecursion (λ x. count x.holder.log < 2 ^ 62) sessions.old.items }
+    requires kept { entry.now.kept ≡ true }
+    ensures ok { IfOk result (λ v. Answers users.now (D.document doc.old)
+        (D.document doc.new) sessions.old.items sessions.new.items entry.now v.items) }
+    ensures whole { IsWhole (D.document doc.new) }
+    ensures tally { IsTally (D.document doc.new) tally.new }
+    ensures err_document { OnErr result (D.document doc.new ≡ D.document doc.old) }
+    ensures err { OnErr result (AreSame sessions.old.items sessions.new.items) }
+{
+    match judged {
         JudgedBundle::Refused(verdict) => stay(alloc, sessions, index, verdict),
         JudgedBundle::Accepted(plan) => {
             let lines = accept(alloc, doc, sessions, index, &plan)?;

@@ -1,6 +1,6 @@
 //! The judgement of a bundle: each action is judged where those before it are done.
 
-ghost use Rattle.std.specs.Prelude.{ℕ, ◌≡◌, ◌∷◌, [], ◌++◌, ◌<◌, ◌≤◌, ◌^◌, true, map, length, IfOk, None, Some};
+ghost use Rattle.std.specs.Prelude.{◌≡◌, [], ◌≤◌, true, map, length, IfOk, None, Some};
 ghost use Rattle.std.specs.List.{list_all};
 ghost use Rattle.doc_model.specs.DocumentLaws.{IsWhole};
 ghost use Rattle.user_actions.specs.Allowed.{is_allowed};
@@ -9,7 +9,7 @@ ghost use Rattle.user_actions.specs.StepLaws.{action_of};
 ghost use Rattle.action_limits.specs.Tallies.{IsTally};
 ghost use Rattle.doc_model.specs.WellFormed.{is_well_formed};
 ghost use Rattle.bundle_core.specs.declared.bare_verdict.BareVerdict.TheVariants.{Limited, Refused};
-ghost use Rattle.bundle_core.specs.Judgement.{judge_from, limited};
+ghost use Rattle.bundle_core.specs.Judgement.{judge, limited};
 ghost use Rattle.bundle_core.specs.Created.{created_of};
 ghost use Rattle.bundle_core.specs.JudgedBundles.{IsJudgedBundle};
 ghost use Rattle.bundle_core.specs.JudgedActions.{IsJudgedAction};
@@ -19,23 +19,23 @@ ghost use Rattle.bundle_core.specs.View.{view};
 use crate::bare_verdict::BareVerdict;
 use crate::created::{Created, created_of};
 use crate::rollback::{do_all, do_last, go_back_all};
+use crate::split_steps::SplitSteps;
 use action_limits::{Expansion, Tally, expand};
-use doc_model::{
-    DocAction, DocTables, LimitKind, MAX_ACTIONS, Refusal, StepList, User, UserAction,
-};
+use doc_model::{DocTables, LimitKind, MAX_ACTIONS, Refusal, StepList, User, UserAction};
 use recalc::laws::{laid_out_law, same_parts_law};
 use recalc::{Doc, Trace};
 use std::alloc::{AllocError, Global};
 use user_actions::refuse;
 use view_parts::{ChangedRows, Viewer, allowed_law, requested_law, requested_view};
 
-/// A bundle that is accepted: its document actions, the rows in which they changed cells, what its
-/// user actions created, and the tally of the document after it.
+/// A bundle that is accepted: its steps, the rows in which they changed cells, what its user
+/// actions created, which bundle it undoes, and the tally of the document after it.
 #[derive(Drop)]
 pub(crate) struct BundlePlan {
-    pub actions: Vec<DocAction>,
+    pub steps: SplitSteps,
     pub changed: Vec<ChangedRows>,
     pub created: Vec<Created>,
+    pub undone: Option<u64>,
     pub tally: Tally,
 }
 
@@ -50,7 +50,7 @@ pub(crate) enum JudgedBundle {
 /// it.
 #[derive(Drop)]
 pub(crate) struct ActionPlan {
-    pub actions: Vec<DocAction>,
+    pub steps: StepList,
     pub created: Created,
     pub tally: Tally,
 }
@@ -71,7 +71,8 @@ fn refused(refusal: Refusal, index: u32) -> BareVerdict
     }
 }
 
-fn limited(kind: LimitKind, index: u32) -> BareVerdict
+/// The limit that what stands at that index would pass.
+pub(crate) fn limited(kind: LimitKind, index: u32) -> BareVerdict
     ensures { Some result ≡ limited index (Some kind) }
 {
     BareVerdict::Limited {
@@ -79,18 +80,6 @@ fn limited(kind: LimitKind, index: u32) -> BareVerdict
         bound: kind.bound(),
         action: Some(index),
     }
-}
-
-// The document actions of steps, of which there are few.
-fn actions_of(alloc: Global, steps: StepList) -> Result<Vec<DocAction>, AllocError>
-    ensures { IfOk result (λ v. v.items ≡ map action_of steps) }
-{
-    let mut steps = steps.into_vec();
-    let mut actions = Vec::new(alloc);
-    while let Some(step) = steps.pop() {
-        actions.insert(0, step.action)?;
-    }
-    Ok(actions)
 }
 
 // What an action of these steps stands for, with the tally of the document after it.
@@ -103,22 +92,16 @@ fn plan_action<D: DocTables>(
 ) -> Result<ActionPlan, AllocError>
     requires whole { IsWhole (D.document tables.now) }
     requires allowed { is_allowed (D.document tables.now) action.now ≡ true }
-    ensures actions { IfOk result (λ n. n.actions.items ≡ map action_of steps) }
+    ensures steps { IfOk result (λ n. n.steps ≡ steps) }
     ensures created { IfOk result (λ n. n.created ≡ created_of action.now (map action_of steps)) }
     ensures tally { IfOk result (λ n. n.tally ≡ tally) }
 {
     let created = created_of(alloc, tables, action, steps.as_slice())?;
-    match actions_of(alloc, steps) {
-        Ok(actions) => Ok(ActionPlan {
-            actions,
-            created,
-            tally,
-        }),
-        Err(fault) => {
-            drop(created);
-            Err(fault)
-        }
-    }
+    Ok(ActionPlan {
+        steps,
+        created,
+        tally,
+    })
 }
 
 // The steps of an action that nothing stands against, or the limit that they would pass.
@@ -188,38 +171,39 @@ fn judge_each<D: DocTables>(
     requires well_formed { list_all is_well_formed requested.now ≡ true }
     requires few { length requested.now ≤ 2000 }
     requires first { traces.old.items ≡ [] }
-    ensures judged { IfOk result (λ j. IsJudgedBundle user.now
-        (D.document doc.old) requested.now j) }
+    ensures judged { IfOk result (λ j. IsJudgedBundle
+        (judge user.now (D.document doc.old) requested.now) None (D.document doc.old) j) }
     ensures led { AllLeadBack D.fits D.undone traces.new.items (D.document doc.new) }
     ensures back { gone_back D.fits D.undone traces.new.items (D.document doc.new)
         ≡ D.document doc.old }
 {
     let mut tally = tally;
-    let mut actions = Vec::new(alloc);
+    let mut steps = Vec::new(alloc);
     let mut changed = Vec::new(alloc);
     let mut created = Vec::new(alloc);
     let mut next = Vec::new(alloc);
     for index in 0..requested.len() {
         do_all(alloc, doc, &next, traces, &mut changed)?;
-        actions.append(&mut next)?;
+        steps.append(&mut next)?;
         match judge_action(alloc, doc, tally, user, &requested[index], index as u32)? {
             JudgedAction::Refused(verdict) => {
-                drop((actions, changed, created, next));
+                drop((steps, changed, created, next));
                 return Ok(JudgedBundle::Refused(verdict));
             }
             JudgedAction::Accepted(plan) => {
                 created.push(plan.created)?;
-                next = plan.actions;
+                next = plan.steps.into_vec();
                 tally = plan.tally;
             }
         }
     }
     do_last(alloc, doc, &next, traces, &mut changed)?;
-    actions.append(&mut next)?;
+    steps.append(&mut next)?;
     Ok(JudgedBundle::Accepted(BundlePlan {
-        actions,
+        steps: SplitSteps::of(alloc, steps)?,
         changed,
         created,
+        undone: None,
         tally,
     }))
 }
@@ -236,8 +220,8 @@ pub(crate) fn judge<D: DocTables>(
     requires whole { IsWhole (D.document doc.old) }
     requires tally { IsTally (D.document doc.old) tally }
     requires well_formed { list_all is_well_formed requested.now ≡ true }
-    ensures judged { IfOk result (λ j. IsJudgedBundle user.now
-        (D.document doc.old) requested.now j) }
+    ensures judged { IfOk result (λ j. IsJudgedBundle
+        (judge user.now (D.document doc.old) requested.now) None (D.document doc.old) j) }
     ensures same { D.document doc.new ≡ D.document doc.old }
 {
     if requested.len() as u64 > MAX_ACTIONS {

@@ -30,7 +30,9 @@ mod laws;
 mod rollback;
 mod session;
 mod session_index;
+mod split_steps;
 mod turns;
+mod undoing;
 mod view_changes;
 
 pub use history_core::{Answer, Core, LineList, MAX_ENTRIES, MAX_HISTORY_BYTES};

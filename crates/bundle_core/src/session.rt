@@ -8,19 +8,22 @@
 //!
 //! A session that is closed has no value here.
 
-ghost use Rattle.std.specs.Prelude.{◌≡◌, ◌<◌, ◌≤◌, ◌+◌, ◌^◌, [], ◌∷◌, ◌++◌, length, option_to_list, None, false, IfOk, OnOk, IsTrue, ◌↔◌};
+ghost use Rattle.std.specs.Prelude.{◌≡◌, ◌<◌, ◌≤◌, ◌+◌, ◌^◌, [], ◌∷◌, ◌++◌, length, option_to_list, None, Ok, Err, false, IfOk, IfErr, OnOk};
 ghost use Rattle.bundle_core.specs.Mailbox.{is_full};
 ghost use Rattle.bundle_core.specs.ViewChanges.{told_by};
 ghost use Rattle.view_parts.specs.Viewers.{viewer_of};
 ghost use Rattle.bundle_core.specs.SessionState.{IsReady, IsPrepared, IsEmptied, MayPost, line_for, posted_state};
+ghost use Rattle.bundle_core.specs.Noting.{HasBundleRoom, MayBeUndone, log_after};
+ghost use Rattle.undo_bundles.specs.BundleLog.{count, empty_log, undo_of};
 
 use crate::view_changes::{ToldChanges, told_to};
 use cell_types::Name;
-use doc_model::{User, ViewActionList};
+use doc_model::{StepList, User, ViewActionList};
 use grist_json::{Line, write_stream};
 use std::alloc::{AllocError, Global};
 use std::marker::Model;
 use std::mem;
+use undo_bundles::{BundleLog, LogFault};
 use view_parts::Viewer;
 
 /// How many lines may wait for a session.
@@ -28,6 +31,13 @@ pub const MAX_WAITING_LINES: usize = 4_096;
 
 /// How many bytes may wait for a session.
 pub const MAX_WAITING_BYTES: u64 = 4_194_304;
+
+/// What is noted of an accepted bundle: its inverse, and which bundle it undoes.
+#[derive(Drop)]
+pub(crate) struct BundleNote {
+    pub inverse: StepList,
+    pub undone: Option<u64>,
+}
 
 /// A session that is open.
 ///
@@ -37,7 +47,7 @@ pub const MAX_WAITING_BYTES: u64 = 4_194_304;
 pub(crate) struct OpenSession {
     name: Name,
     user: User,
-    bundles: u64,
+    log: BundleLog,
     made: u64,
     waiting: Vec<Line>,
     bytes: u64,
@@ -53,12 +63,13 @@ impl Model for OpenSession {
 
     ghost view = { λ s. record {
       session = s.name;
-      holder = record { user = s.user; bundles = s.bundles };
+      holder = record { user = s.user; log = s.log.log };
       made = s.made;
       waiting = s.waiting.items;
       lagging = s.lagging;
       ready = s.ready;
       room = vec_capacity s.waiting - vec_len s.waiting;
+      note_room = s.log.room;
     } };
 
     ghost invariant = { λ s. s.bytes ≡ sum_by length s.waiting.items };
@@ -69,7 +80,7 @@ impl OpenSession {
     pub fn new(alloc: Global, name: Name, user: User) -> Self
         ensures session { result.session ≡ name }
         ensures user { result.holder.user ≡ user }
-        ensures bundles { result.holder.bundles ≡ 0 }
+        ensures log { result.holder.log ≡ empty_log }
         ensures made { result.made ≡ 0 }
         ensures waiting { result.waiting ≡ [] }
         ensures lagging { result.lagging ≡ false }
@@ -77,7 +88,7 @@ impl OpenSession {
         OpenSession {
             name,
             user,
-            bundles: 0,
+            log: BundleLog::new(alloc),
             made: 0,
             waiting: Vec::new(alloc),
             bytes: 0,
@@ -90,7 +101,7 @@ impl OpenSession {
     pub fn of(alloc: Global, name: &Name, user: &User) -> Result<Self, AllocError>
         ensures session { IfOk result (λ s. s.session ≡ name.now) }
         ensures user { IfOk result (λ s. s.holder.user ≡ user.now) }
-        ensures bundles { IfOk result (λ s. s.holder.bundles ≡ 0) }
+        ensures log { IfOk result (λ s. s.holder.log ≡ empty_log) }
         ensures made { IfOk result (λ s. s.made ≡ 0) }
         ensures waiting { IfOk result (λ s. s.waiting ≡ []) }
         ensures lagging { IfOk result (λ s. s.lagging ≡ false) }
@@ -126,9 +137,18 @@ impl OpenSession {
 
     /// How many of its bundles were accepted.
     pub fn bundles(&self) -> u64
-        ensures { result ≡ self.now.holder.bundles }
+        requires { count self.now.holder.log < 2 ^ 63 }
+        ensures { result ≡ count self.now.holder.log }
     {
-        self.bundles
+        self.log.count()
+    }
+
+    /// The steps that take back its bundle of that number.
+    pub fn undo_of(&self, number: u64) -> Result<&StepList, LogFault>
+        ensures ok { IfOk result (λ steps. undo_of self.now.holder.log number ≡ Ok steps.now) }
+        ensures err { IfErr result (λ fault. undo_of self.now.holder.log number ≡ Err fault) }
+    {
+        self.log.undo_of(number)
     }
 
     pub fn is_lagging(&self) -> bool
@@ -150,6 +170,17 @@ impl OpenSession {
         ensures ok { OnOk result (lines ≤ self.new.room) }
     {
         self.waiting.reserve(lines)
+    }
+
+    /// Makes room for the two lines of an own bundle, and for its note. Nothing else changes,
+    /// whatever the answer.
+    pub fn make_bundle_room(&mut self) -> Result<(), AllocError>
+        ensures prepared { IsPrepared self.old self.new }
+        ensures ready { self.new.ready ≡ self.old.ready }
+        ensures room { OnOk result (HasBundleRoom self.new) }
+    {
+        self.waiting.reserve(2)?;
+        self.log.reserve()
     }
 
     /// Makes ready the line that tells what its user is told, unless that is nothing or the session
@@ -202,7 +233,7 @@ impl OpenSession {
         ensures lines { result.items ≡ self.old.waiting ++ reply ∷ [] }
         ensures emptied { IsEmptied self.old self.new }
         ensures made { self.new.made ≡ self.old.made }
-        ensures bundles { self.new.holder.bundles ≡ self.old.holder.bundles }
+        ensures log { self.new.holder.log ≡ self.old.holder.log }
     {
         let mut lines = mem::replace(&mut self.waiting, Vec::new(alloc));
         self.bytes = 0;
@@ -211,16 +242,17 @@ impl OpenSession {
     }
 
     /// Gives the lines that wait, the line of the session's own bundle that was made ready, and
-    /// then the reply, and counts the bundle.
-    pub fn give_bundle(&mut self, alloc: Global, reply: Line) -> Vec<Line>
-        requires room { 1 < self.old.room }
+    /// then the reply, and notes the bundle.
+    pub fn give_bundle(&mut self, alloc: Global, reply: Line, note: BundleNote) -> Vec<Line>
+        requires room { HasBundleRoom self.old }
         requires few { self.old.made < 2 ^ 63 }
-        requires few_bundles { self.old.holder.bundles < 2 ^ 63 }
+        requires few_bundles { count self.old.holder.log < 2 ^ 63 }
+        requires own { MayBeUndone note.undone self.old.holder.log }
         ensures lines { result.items ≡ self.old.waiting ++ option_to_list self.old.ready
             ++ reply ∷ [] }
         ensures emptied { IsEmptied self.old self.new }
         ensures made { self.new.made ≡ self.old.made + length (option_to_list self.old.ready) }
-        ensures bundles { self.new.holder.bundles ≡ self.old.holder.bundles + 1 }
+        ensures log { self.new.holder.log ≡ log_after note self.old.holder.log }
     {
         let mut lines = mem::replace(&mut self.waiting, Vec::new(alloc));
         self.bytes = 0;
@@ -228,7 +260,10 @@ impl OpenSession {
             lines.push_reserved(line);
             self.made += 1;
         }
-        self.bundles += 1;
+        if let Some(number) = note.undone {
+            self.log.mark_undone(number);
+        }
+        self.log.note(note.inverse);
         lines.push_reserved(reply);
         lines
     }

@@ -1,5 +1,5 @@
 -- What a note and a mark change.
-use Rattle.std.proofs.Common.{ℕ, zero, suc, ◌+◌, ◌-◌, ◌<◌, ◌≤◌, ◌≡◌, ◌≢◌, true, false, cond, nat_lt, List, [], ◌∷◌, ◌++◌, length, drop, get_or, set, Option, Some, None, Err, IsOk, is_some, is_ok, slice_get, refl, sym, ap, ◌∙◌, arith, Bor}
+use Rattle.std.proofs.Common.{ℕ, zero, suc, ◌+◌, ◌-◌, ◌<◌, ◌≤◌, ◌≡◌, ◌≢◌, Bool, true, false, cond, nat_lt, List, [], ◌∷◌, ◌++◌, length, drop, get_or, set, Option, Some, None, Ok, Err, IsOk, is_some, is_ok, slice_get, refl, sym, ap, ◌∙◌, arith, Bor}
 use Rattle.std.proofs.lemmas.Bool.{ltb-true, ltb-false, false≢true}
 use Rattle.std.proofs.lemmas.List.{length_push}
 use Rattle.std.proofs.lemmas.Option.{slice_get_past, slice_get_read}
@@ -7,7 +7,7 @@ use Rattle.std.specs.Option.{option_copied, IfSome}
 use Rattle.doc_model.specs.declared.action.Step.{Step}
 use Rattle.undo_bundles.specs.declared.log.LogFault.TheVariants.{AlreadyUndone}
 use Rattle.undo_bundles.specs.declared.log.NotedBundle.{NotedBundle}
-use Rattle.undo_bundles.specs.BundleLog.{Log, IsLog, bundle_at, kept_at, undo_of, undo_of_bundle, undone_at, undone_bundle, with_bundle}
+use Rattle.undo_bundles.specs.BundleLog.{Log, IsLog, bundle_at, count, kept_at, marked, noted, undo_of, undo_of_bundle, undone_at, undone_bundle, with_bundle}
 use Rattle.undo_bundles.specs.LogLaws.{KeptLaw, IsNoted, NoteLaw, MarkLaw}
 
 -- ---- bundles at their places
@@ -104,6 +104,26 @@ note_law log inverse is =
       | false ↦ λ e. full log.dropped log.kept inverse (ltb-false (length log.kept) 100 e) is
     ] refl
 
+-- however many are kept, there is one more, and it is found
+counted_after : (d : ℕ) (ks : List NotedBundle) (b : NotedBundle) (few : Bool) → nat_lt (length ks) 100 ≡ few
+    → (let log : Log = record { dropped = d; kept = ks } in count (with_bundle b (cond few log (record { dropped = d + 1; kept = drop 1 ks })))) ≡ d + length ks + 1
+counted_after d ks b true e = omega (arith, length_push ks b)
+counted_after d [] b false e = absurd (omega (arith, ltb-false 0 100 e))
+counted_after d (x ∷ xs) b false e = omega (arith, length_push xs b)
+
+pub noted_count : (inverse : List Step) (log : Log) → count (noted inverse log) ≡ count log + 1
+noted_count inverse log = counted_after log.dropped log.kept (record { inverse = inverse; undone = false }) (nat_lt (length log.kept) 100) refl
+
+own_after : (d : ℕ) (ks : List NotedBundle) (b : NotedBundle) (few : Bool) → nat_lt (length ks) 100 ≡ few
+    → (let log : Log = record { dropped = d; kept = ks } in kept_at (with_bundle b (cond few log (record { dropped = d + 1; kept = drop 1 ks }))) (d + length ks + 1)) ≡ Some b
+own_after d ks b true e = let at : d + length ks + 1 - d ≡ suc (length ks) = omega arith in ap (bundle_at (ks ++ b ∷ [])) at ∙ last_there ks b
+own_after d [] b false e = absurd (omega (arith, ltb-false 0 100 e))
+own_after d (x ∷ xs) b false e = let at : d + suc (length xs) + 1 - (d + 1) ≡ suc (length xs) = omega arith in ap (bundle_at (xs ++ b ∷ [])) at ∙ last_there xs b
+
+pub noted_own : (inverse : List Step) (log : Log) → undo_of (noted inverse log) (count log + 1) ≡ Ok inverse
+noted_own inverse log =
+    ap undo_of_bundle (own_after log.dropped log.kept (record { inverse = inverse; undone = false }) (nat_lt (length log.kept) 100) refl)
+
 -- ---- a mark
 
 same_length : (i : ℕ) (bs : List NotedBundle) → length (undone_at i bs) ≡ length bs
@@ -137,6 +157,9 @@ place_of log number h =
     let at = placed log.kept (number - log.dropped) (there_from_ok (kept_at log number) h) in
     (omega (arith, at.0), omega (arith, at.0, at.1))
 
+pub marked_count : (number : ℕ) (log : Log) → count (marked number log) ≡ count log
+marked_count number log = ap (λ n. log.dropped + n) (same_length (number - log.dropped - 1) log.kept)
+
 pub mark_law : MarkLaw
 mark_law log number is ok =
     let at = place_of log number ok in
@@ -152,10 +175,10 @@ mark_law log number is ok =
 
 -- ---- the same by a list's own functions
 
-pub undone_as_set : (i : ℕ) (bs : List NotedBundle) (b : NotedBundle) → i < length bs → b ≡ get_or bs i b → undone_at i bs ≡ set bs i (undone_bundle b)
-undone_as_set i [] b h e = absurd (omega (arith, h))
-undone_as_set zero (x ∷ bs) b h e = ap (λ y. undone_bundle y ∷ bs) (sym e)
-undone_as_set (suc i) (x ∷ bs) b h e = ap (λ l. x ∷ l) (undone_as_set i bs b (omega (arith, h)) e)
+pub undone_as_set : (i : ℕ) (bs : List NotedBundle) → i < length bs → undone_at i bs ≡ set bs i undone_bundle
+undone_as_set i [] h = absurd (omega (arith, h))
+undone_as_set zero (x ∷ bs) h = refl
+undone_as_set (suc i) (x ∷ bs) h = ap (λ l. x ∷ l) (undone_as_set i bs (omega (arith, h)))
 
 -- the bundle that a vector tells at an index
 pub copied_at : (bs : List NotedBundle) (i : ℕ) (o : Option (Bor NotedBundle)) → is_some o ≡ nat_lt i (length bs) → IfSome o (λ x. x.now ≡ get_or bs i x.now) → option_copied o ≡ slice_get bs i

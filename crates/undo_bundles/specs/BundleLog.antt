@@ -58,13 +58,14 @@ undo_of_bundle (Some bundle) = cond bundle.undone (Err AlreadyUndone) (Ok bundle
 abbrev pub undo_of : Log → ℕ → Result (List Step) LogFault
 undo_of log number = undo_of_bundle (kept_at log number)
 
-abbrev pub undone_bundle : NotedBundle → NotedBundle
-undone_bundle bundle = record { inverse = bundle.inverse; undone = true }
+-- a bundle that was undone, of which no steps are kept
+abbrev pub undone_bundle : NotedBundle
+undone_bundle = record { inverse = []; undone = true }
 
 -- the bundles, where the one at an index is undone
 abbrev pub undone_at : ℕ → List NotedBundle → List NotedBundle
 undone_at i [] = []
-undone_at zero (bundle ∷ bundles) = undone_bundle bundle ∷ bundles
+undone_at zero (bundle ∷ bundles) = undone_bundle ∷ bundles
 undone_at (suc i) (bundle ∷ bundles) = bundle ∷ undone_at i bundles
 
 -- the log, where the bundle of a number that it keeps is undone

@@ -1,2 +1,3 @@
 pub mod BundleLog
+pub mod InverseSteps
 pub mod LogLaws

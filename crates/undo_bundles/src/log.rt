@@ -11,7 +11,7 @@ use std::marker::Model;
 /// So many bundles are kept at most.
 pub const MAX_KEPT: usize = 100;
 
-/// An accepted bundle: the steps that take it back, and whether that was done.
+/// An accepted bundle: the steps that take it back, none where that was done.
 #[derive(Drop)]
 pub struct NotedBundle {
     pub inverse: StepList,
@@ -33,6 +33,7 @@ pub enum LogFault {
 /// the room before the bundle is done, and `note`, which cannot fail, notes it after.
 #[derive(Drop)]
 pub struct BundleLog {
+    alloc: Global,
     dropped: u64,
     kept: Vec<NotedBundle>,
 }
@@ -59,6 +60,7 @@ impl BundleLog {
         ensures { result.log ≡ empty_log }
     {
         BundleLog {
+            alloc,
             dropped: 0,
             kept: Vec::new(alloc),
         }
@@ -69,6 +71,16 @@ impl BundleLog {
         ensures { IsLog self.now.log }
     {
         let _ = &self.dropped;
+    }
+
+    /// How many bundles were noted, which is the number of the last one.
+    ///
+    /// Memory: none.
+    pub fn count(&self) -> u64
+        requires { count self.now.log < 2 ^ 63 }
+        ensures { result ≡ count self.now.log }
+    {
+        self.dropped + self.kept.len() as u64
     }
 
     /// Makes the room for one note, which stays until that note.
@@ -128,7 +140,7 @@ impl BundleLog {
         Ok(&bundle.inverse)
     }
 
-    /// Marks the bundle of that number as undone. It stays so.
+    /// Marks the bundle of that number as undone. It stays so, and its steps are dropped.
     ///
     /// Memory: none.
     pub fn mark_undone(&mut self, number: u64)
@@ -137,6 +149,9 @@ impl BundleLog {
         ensures room { self.new.room ≡ self.old.room }
     {
         let index = (number - self.dropped - 1) as usize;
-        self.kept[index].undone = true;
+        self.kept[index] = NotedBundle {
+            inverse: StepList::new(self.alloc),
+            undone: true,
+        };
     }
 }

@@ -1,22 +1,40 @@
-use Rattle.std.proofs.Common.{ℕ, List, subst}
-use Rattle.bundle_core.specs.Dispatch.{Posts}
-use Rattle.bundle_core.specs.JudgedBundles.{told_changes}
-use Rattle.bundle_core.proofs.Readied.{all_may_post, few_bundles}
+use Rattle.std.proofs.Common.{ℕ, List, map, Option, ap, sym, subst}
+use Rattle.user_actions.specs.StepLaws.{action_of}
+use Rattle.undo_bundles.specs.BundleLog.{Log}
+use Rattle.bundle_core.specs.declared.session.BundleNote.{BundleNote}
+use Rattle.bundle_core.specs.Dispatch.{Posts, bundle_reply}
+use Rattle.bundle_core.specs.JudgedBundles.{after_steps, told_changes}
+use Rattle.bundle_core.specs.Noting.{MayBeUndone}
+use Rattle.bundle_core.specs.SessionState.{SessionState}
+use Rattle.bundle_core.proofs.Readied.{all_may_post, few_bundles, same_log}
 use Rattle.bundle_core.proofs.bundle.accept.Goals as goal
 
 pub post-requires-clause-may : goal.post-requires-clause-may
 post-requires-clause-may g c =
-    all_may_post (told_changes (g.D.DocReader.document c.args.doc.now) c.args.plan.now.actions.items) c.args.sessions.now.items c.ready_bundle.new.sessions.items c.in-Ok.ensures.same c.requires.few c.in-Ok.ensures.ready
+    all_may_post (told_changes (g.D.DocReader.document c.args.doc.now) (map action_of c.args.plan.now.steps)) c.args.sessions.now.items c.ready_bundle.new.sessions.items c.in-Ok.ensures.same c.requires.few c.in-Ok.ensures.ready
 
 pub post-requires-clause-few_bundles : goal.post-requires-clause-few_bundles
 post-requires-clause-few_bundles g c = few_bundles c.args.sessions.now.items c.ready_bundle.new.sessions.items c.in-Ok.ensures.same c.requires.few_bundles
 
+pub post-requires-clause-own : goal.post-requires-clause-own
+post-requires-clause-own g c =
+    λ d. let r = c.in-Ok.ready in
+    let P : Log → Type 0 = λ log. MayBeUndone c.args.plan.now.undone log in
+    let Q : Option ℕ → Type 0 = λ u. MayBeUndone u (_) in
+    subst Q (sym (ap (λ (n : BundleNote). n.undone) c.in-Ok.ensures.note))
+    (subst P (same_log c.args.sessions.now.items c.ready_bundle.new.sessions.items c.args.index d c.in-Ok.ensures.same) (c.requires.own d))
+
 pub returns-in-Ok-clause-sessions : goal.returns-in-Ok-clause-sessions
 returns-in-Ok-clause-sessions g c =
-    let P : List ℕ → Type 0 = λ reply. Posts c.ready_bundle.new.sessions.items c.post.new.sessions.items c.args.index reply c.post.result.items in
+    let s = g.D.DocReader.document c.args.doc.now in
+    let old = c.ready_bundle.new.sessions.items in
+    let new = c.post.new.sessions.items in
+    let r = c.in-Ok.ready in
+    let P : List ℕ → Type 0 = λ reply. Posts old new c.args.index r.note reply c.post.result.items in
+    let Q : BundleNote → Type 0 = λ note. Posts old new c.args.index note (bundle_reply c.args.sessions.now.items c.args.index c.args.plan.now.undone (after_steps s c.args.plan.now.steps) c.args.plan.now.created.items) c.post.result.items in
     record {
       prepared = c.ready_bundle.new.sessions.items;
       same = c.in-Ok.ensures.same;
       ready = c.in-Ok.ensures.ready;
-      posts = subst P c.in-Ok.ensures.reply c.post.ensures;
+      posts = subst Q c.in-Ok.ensures.note (subst P c.in-Ok.ensures.reply c.post.ensures);
     }

@@ -22,7 +22,7 @@ see_parts-requires g c = laid_out_law (g.D.DocReader.document c.args.doc.now) c.
 pub tell_changes-requires-clause-laid_out : goal.tell_changes-requires-clause-laid_out
 tell_changes-requires-clause-laid_out g c =
     let P : Document → Type 0 = λ s. IsWhole s in
-    laid_out_law _ (subst P (sym c.in_ok-do_all.ensures.done) (IsWhole-apply_all (g.D.DocReader.document c.args.doc.now) c.args.actions.now c.requires.whole c.requires.valid))
+    laid_out_law _ (subst P (sym c.in_ok-inverse.ensures.done) (IsWhole-apply_all (g.D.DocReader.document c.args.doc.now) c.args.actions.now c.requires.whole c.requires.valid))
 
 pub tell_changes-requires-clause-seen : goal.tell_changes-requires-clause-seen
 tell_changes-requires-clause-seen g c =
@@ -36,7 +36,7 @@ returns-clause-told g c =
     let actions = c.args.actions.now in
     let changed = c.args.changed.now in
     IfOk-weaker c.tell_changes.result _ _ (λ t told user among.
-    told_to-changes actions changed (filled s) (filled (g.D.DocReader.document c.do_all.new.doc)) c.args.viewers.now (viewer_of user) c.deref.result.now t.items among (c.deref.ensures.value ∙ c.in_ok-before.ensures) told
-    ∙ ap (λ d. changes (affected_part actions changed (shown_to (viewer_of user) (filled s))) (affected_part actions changed (shown_to (viewer_of user) (filled d)))) c.in_ok-do_all.ensures.done
+    told_to-changes actions changed (filled s) (filled (g.D.DocReader.document c.do_for_good.new.doc)) c.args.viewers.now (viewer_of user) c.deref.result.now t.items among (c.deref.ensures.value ∙ c.in_ok-before.ensures) told
+    ∙ ap (λ d. changes (affected_part actions changed (shown_to (viewer_of user) (filled s))) (affected_part actions changed (shown_to (viewer_of user) (filled d)))) c.in_ok-inverse.ensures.done
     ∙ c.part_law.ensures (viewer_of user) actions changed (filled s) (filled (apply_all s actions)) (laid_out_law s c.requires.whole)
     (laid_out_law (apply_all s actions) (IsWhole-apply_all s actions c.requires.whole c.requires.valid)) c.requires.outside) c.tell_changes.ensures

@@ -4,6 +4,7 @@ use Rattle.std.proofs.lemmas.Result.{IfOk-weaker}
 use Rattle.std.specs.List.{insert}
 use Rattle.doc_model.specs.declared.verdict.Verdict.TheVariants.{Changes}
 use Rattle.grist_json.specs.Lines.{reply_text}
+use Rattle.undo_bundles.specs.BundleLog.{empty_log}
 use Rattle.bundle_core.specs.BareVerdicts.{reply_of}
 use Rattle.bundle_core.specs.Dispatch.{Answers}
 use Rattle.bundle_core.specs.View.{view}
@@ -28,8 +29,8 @@ returns-clause-ok g c =
     let x = c.in_ok-session.session in
     let opened = c.in_ok-session.ensures in
     let stands : c.put_back.new.sessions.items ≡ insert xs c.args.index x = c.put_back.ensures ∙ ap (λ l. insert l c.args.index x) c.in_ok-reserve.ensures.items in
-    let fields = open_of-fields s x c.args.entry.now.session (record { user = c.args.user.now; bundles = 0 }) 0 [] false
-    opened.session (holder_of-fields x.holder c.args.user.now 0 opened.user opened.bundles) opened.made opened.waiting opened.lagging in
+    let fields = open_of-fields s x c.args.entry.now.session (record { user = c.args.user.now; log = empty_log }) 0 [] false
+    opened.session (holder_of-fields x.holder c.args.user.now empty_log opened.user opened.log) opened.made opened.waiting opened.lagging in
     let Q : List SessionState → Type 0 = λ ys. Answers c.args.users.now s s xs ys c.args.entry.now (reply_text (Changes (changes [] (view c.args.user.now s))) ∷ []) in
     answers_by _ _ _ _ _ _ _ _ c.in_ok-lines.ensures (subst Q (sym stands)
     (miss_opened c.args.users.now s xs c.args.index c.args.entry.now c.requires.misses c.args.token.now c.args.user.now x c.requires.asks c.requires.known free fields))

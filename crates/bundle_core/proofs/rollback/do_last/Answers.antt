@@ -1,3 +1,5 @@
+use Rattle.std.proofs.Common.{map}
+use Rattle.user_actions.specs.StepLaws.{action_of}
 use Rattle.bundle_core.proofs.ChangedLemmas.{outside_plain}
 use Rattle.bundle_core.proofs.rollback.do_last.Goals as goal
 
@@ -5,4 +7,4 @@ pub returns-then-stays_plain-clause-outside : goal.returns-then-stays_plain-clau
 returns-then-stays_plain-clause-outside g c =
     let s = g.D.DocReader.document c.args.doc.now in
     let plain = c.stays_plain.ensures c.if-stays_plain.true in
-    outside_plain c.stays_plain_law.ensures c.plain_rows_law.ensures s c.args.actions.now c.args.changed.now.items plain.0 plain.1 (c.outside_law.ensures s c.args.actions.now c.requires.whole c.requires.valid)
+    outside_plain c.stays_plain_law.ensures c.plain_rows_law.ensures s (map action_of c.args.steps.now) c.args.changed.now.items plain.0 plain.1 (c.outside_law.ensures s (map action_of c.args.steps.now) c.requires.whole c.requires.valid)

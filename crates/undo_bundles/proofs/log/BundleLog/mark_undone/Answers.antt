@@ -1,5 +1,6 @@
-use Rattle.std.proofs.Common.{◌-◌, ap, subst, sym, ◌∙◌, arith, IsOk}
-use Rattle.undo_bundles.specs.BundleLog.{LogState, marked, undo_of}
+use Rattle.std.proofs.Common.{◌-◌, true, List, set, ap, subst, sym, ◌∙◌, arith, IsOk}
+use Rattle.doc_model.specs.declared.action.Step.{Step}
+use Rattle.undo_bundles.specs.BundleLog.{Log, LogState, marked, undo_of}
 use Rattle.undo_bundles.proofs.LogLaws.{place_of, undone_as_set}
 use Rattle.undo_bundles.proofs.log.BundleLog.mark_undone.Goals as goal
 
@@ -21,5 +22,7 @@ index_mut-requires c =
 pub returns-clause-log : goal.returns-clause-log
 returns-clause-log c =
     let at = place_of (record { dropped = c.self.inside.dropped; kept = c.self.inside.kept.items }) c.args.number (subst (λ (s : LogState). IsOk (undo_of s.log c.args.number)) (sym c.self.view_is) c.requires) in
-    let set = undone_as_set (c.args.number - c.self.inside.dropped - 1) c.self.inside.kept.items c.index_mut.result.now at.1 c.index_mut.ensures.value in
-    ap (λ l. record { dropped = c.self.inside.dropped; kept = l }) (sym set) ∙ ap (λ (s : LogState). marked c.args.number s.log) c.self.view_is
+    let index = c.args.number - c.self.inside.dropped - 1 in
+    let stands = undone_as_set index c.self.inside.kept.items at.1 in
+    ap (λ (l : List Step). let log : Log = record { dropped = c.self.inside.dropped; kept = set c.self.inside.kept.items index (record { inverse = l; undone = true }) } in log) c.new.ensures
+    ∙ ap (λ l. let log : Log = record { dropped = c.self.inside.dropped; kept = l } in log) (sym stands) ∙ ap (λ (s : LogState). marked c.args.number s.log) c.self.view_is

@@ -1,0 +1,51 @@
+-- An undo that comes next takes its bundle back.
+use Rattle.std.specs.Prelude.{ℕ, ⊥, true, false, ◌≡◌, ◌++◌, List, [], ◌∷◌, Option, Some, None}
+use Rattle.std.specs.List.{list_all}
+use Rattle.doc_model.specs.declared.entry.Entry.{Entry}
+use Rattle.doc_model.specs.declared.refusal.Refusal.TheVariants.{UndoStale}
+use Rattle.doc_model.specs.declared.request.Request.TheVariants.{Undo}
+use Rattle.doc_model.specs.declared.user.User.{User}
+use Rattle.doc_model.specs.Document.{Document}
+use Rattle.doc_model.specs.DocumentLaws.{IsWhole}
+use Rattle.doc_model.specs.WellFormed.{asks_well_formed}
+use Rattle.bundle_core.specs.declared.bare_verdict.BareVerdict.TheVariants as verdict
+use Rattle.bundle_core.specs.Mailbox.{Outcome, says}
+use Rattle.bundle_core.specs.State.{State, opening, records_kept, run, step, verdicts}
+
+-- the number that a session is told of its accepted bundle
+abbrev pub number_told : Outcome → Option ℕ
+number_told (says (verdict.Bundle number values)) = Some number
+number_told (says (verdict.Undone number)) = Some number
+number_told _ = None
+
+-- after a state a bundle is accepted, no other one is for some entries, and then its session asks
+-- to undo it
+pub record IsUndoNext (users : List User) (st : State) (e : Entry) (between : List Entry)
+    (u : Entry) : Type 0 where
+  pub number : ℕ
+  pub told : number_told (verdicts users st e).outcome ≡ Some number
+  pub accepted : (verdicts users st e).is_bundle ≡ true
+  pub none_between : records_kept users (step users st e) between ≡ 0
+  pub own : u.session ≡ e.session
+  pub asks : u.request ≡ Undo number
+
+-- the document is that of the state before, its evaluated cells too, where the undo is accepted,
+-- and it is not refused as stale
+pub record UndoesNext (users : List User) (st : State) (e : Entry) (between : List Entry)
+    (u : Entry) : Type 0 where
+  pub restores : (verdicts users (run users (step users st e) between) u).is_bundle ≡ true
+      → (verdicts users (run users (step users st e) between) u).document ≡ st.document
+  pub not_stale : (at : Option ℕ)
+      → (verdicts users (run users (step users st e) between) u).outcome
+      ≡ says (verdict.Refused UndoStale at) → ⊥
+
+abbrev pub entry_is_well_formed : Entry → _
+entry_is_well_formed e = asks_well_formed e.request
+
+-- in every history from every whole document
+abbrev pub UndoLaw : Type 0
+UndoLaw =
+    (users : List User) (s : Document) (history : List Entry) (e : Entry) (between : List Entry)
+    (u : Entry) → IsWhole s → list_all entry_is_well_formed (history ++ e ∷ []) ≡ true
+    → IsUndoNext users (run users (opening s) history) e between u
+    → UndoesNext users (run users (opening s) history) e between u

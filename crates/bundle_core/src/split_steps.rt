@@ -1,0 +1,69 @@
+//! Steps, with their actions apart from their marks: what is told of a bundle is read off the
+//! actions alone.
+
+ghost use Rattle.std.specs.Prelude.{◌≡◌, ◌<◌, map, length, get_or, IfOk};
+ghost use Rattle.doc_model.specs.declared.action.Step.{Step};
+ghost use Rattle.user_actions.specs.StepLaws.{action_of};
+
+use doc_model::{DocAction, Step};
+use list_ops::all_copied;
+use std::alloc::{AllocError, Global};
+use std::marker::Model;
+
+/// Steps, seen as them.
+#[derive(Drop)]
+pub(crate) struct SplitSteps {
+    actions: Vec<DocAction>,
+    marks: Vec<bool>,
+}
+
+impl Model for SplitSteps {
+    ghost use Rattle.std.specs.Prelude.{◌≡◌, List, length};
+    ghost use Rattle.doc_model.specs.declared.action.Step.{Step};
+    ghost use Rattle.bundle_core.specs.SplitSteps.{joined};
+
+    ghost Value = { List Step };
+
+    ghost view = { λ s. joined s.actions.items s.marks.items };
+
+    ghost invariant = { λ s. length s.actions.items ≡ length s.marks.items };
+}
+
+impl SplitSteps {
+    /// These steps.
+    pub fn of(alloc: Global, steps: Vec<Step>) -> Result<Self, AllocError>
+        ensures { IfOk result (λ s. s ≡ steps.items) }
+    {
+        let mut left = steps;
+        let mut actions = Vec::with_capacity(alloc, left.len())?;
+        let mut marks = Vec::with_capacity(alloc, left.len())?;
+        left.reverse();
+        while let Some(step) = left.pop() {
+            actions.push(step.action)?;
+            marks.push(step.direct)?;
+        }
+        Ok(SplitSteps { actions, marks })
+    }
+
+    /// A copy of these steps.
+    pub fn copy_of(alloc: Global, steps: &[Step]) -> Result<Self, AllocError>
+        ensures { IfOk result (λ s. s ≡ steps.now) }
+    {
+        SplitSteps::of(alloc, all_copied(alloc, steps, |step| step.clone())?)
+    }
+
+    /// Their actions.
+    pub fn actions(&self) -> &[DocAction]
+        ensures { result.now ≡ map action_of self.now }
+    {
+        &self.actions
+    }
+
+    /// Whether the step of that index is direct.
+    pub fn is_direct(&self, index: usize) -> bool
+        requires { index < length self.now }
+        ensures { (d : Step) → result ≡ (get_or self.now index d).direct }
+    {
+        self.marks[index]
+    }
+}

@@ -1,0 +1,155 @@
+//! The judgement of an undo: each step is judged where those before it are done.
+
+ghost use Rattle.std.specs.Prelude.{◌≡◌, [], ◌<◌, ◌^◌, length, IfErr, IfOk, None, Some};
+ghost use Rattle.doc_model.specs.DocumentLaws.{IsWhole};
+ghost use Rattle.action_limits.specs.Tallies.{IsTally};
+ghost use Rattle.bundle_core.specs.declared.bare_verdict.BareVerdict.TheVariants.{Refused};
+ghost use Rattle.bundle_core.specs.JudgedBundles.{IsJudgedBundle};
+ghost use Rattle.bundle_core.specs.Rollback.{AllLeadBack, gone_back};
+ghost use Rattle.bundle_core.specs.Undo.{judge_own_undo, judge_undo, refusal_of, stale_at};
+ghost use Rattle.bundle_core.specs.UndoneSteps.{MayGoOn};
+ghost use Rattle.undo_bundles.specs.BundleLog.{undo_of};
+
+use crate::bare_verdict::BareVerdict;
+use crate::judging::{BundlePlan, JudgedBundle, limited};
+use crate::rollback::{do_one, go_back_all};
+use crate::session::OpenSession;
+use crate::split_steps::SplitSteps;
+use action_limits::Tally;
+use doc_actions::is_valid;
+use doc_model::{DocAction, DocTables, Refusal, Step, StepList};
+use recalc::{Doc, Trace};
+use std::alloc::{AllocError, Global};
+use undo_bundles::LogFault;
+
+// The tally after an action of an undo, or why the action is refused.
+fn judge_step<D: DocTables>(
+    alloc: Global,
+    tables: &D,
+    tally: Tally,
+    action: &DocAction,
+    index: u32,
+) -> Result<Tally, BareVerdict>
+    requires whole { IsWhole (D.document tables.now) }
+    requires tally { IsTally (D.document tables.now) tally }
+    ensures ok { IfOk result (λ t. MayGoOn (D.document tables.now) index action.now t) }
+    ensures err { IfErr result (λ v. stale_at (D.document tables.now) index action.now ≡ Some v) }
+{
+    if !is_valid(alloc, tables, action) {
+        return Err(BareVerdict::Refused {
+            refusal: Refusal::UndoStale,
+            action: Some(index),
+        });
+    }
+    match tally.after(tables, action) {
+        Ok(tally) => Ok(tally),
+        Err(kind) => Err(limited(kind, index)),
+    }
+}
+
+// Judges one step after another; those before it are done when a step is judged, and the traces
+// lead back.
+fn judge_each<D: DocTables>(
+    alloc: Global,
+    doc: &mut Doc<D>,
+    tally: Tally,
+    number: u64,
+    steps: &[Step],
+    traces: &mut Vec<Trace<D>>,
+) -> Result<JudgedBundle, AllocError>
+    requires whole { IsWhole (D.document doc.old) }
+    requires tally { IsTally (D.document doc.old) tally }
+    requires few { length steps.now < 2 ^ 32 }
+    requires first { traces.old.items ≡ [] }
+    ensures judged { IfOk result (λ j. IsJudgedBundle
+        (judge_undo (D.document doc.old) 0 steps.now) (Some number) (D.document doc.old) j) }
+    ensures led { AllLeadBack D.fits D.undone traces.new.items (D.document doc.new) }
+    ensures back { gone_back D.fits D.undone traces.new.items (D.document doc.new)
+        ≡ D.document doc.old }
+{
+    let mut tally = tally;
+    let mut changed = Vec::new(alloc);
+    for index in 0..steps.len() {
+        let action = &steps[index].action;
+        match judge_step(alloc, doc.tables(), tally, action, index as u32) {
+            Ok(next) => tally = next,
+            Err(verdict) => {
+                drop(changed);
+                return Ok(JudgedBundle::Refused(verdict));
+            }
+        }
+        do_one(alloc, doc, action, traces, &mut changed)?;
+    }
+    Ok(JudgedBundle::Accepted(BundlePlan {
+        steps: SplitSteps::copy_of(alloc, steps)?,
+        changed,
+        created: Vec::new(alloc),
+        undone: Some(number),
+        tally,
+    }))
+}
+
+// Judges the steps that undo the bundle of that number: they are done while they are judged, and
+// gone back over without memory. The document is as before, whatever the answer.
+fn judge_steps<D: DocTables>(
+    alloc: Global,
+    doc: &mut Doc<D>,
+    tally: Tally,
+    number: u64,
+    steps: &StepList,
+) -> Result<JudgedBundle, AllocError>
+    requires whole { IsWhole (D.document doc.old) }
+    requires tally { IsTally (D.document doc.old) tally }
+    ensures judged { IfOk result (λ j. IsJudgedBundle
+        (judge_undo (D.document doc.old) 0 steps.now) (Some number) (D.document doc.old) j) }
+    ensures same { D.document doc.new ≡ D.document doc.old }
+{
+    if steps.len() > u32::MAX as usize {
+        // Never taken: no memory holds so many steps.
+        return Err(AllocError);
+    }
+    let mut traces = Vec::new(alloc);
+    let judged = judge_each(alloc, doc, tally, number, steps.as_slice(), &mut traces);
+    go_back_all(doc, traces);
+    judged
+}
+
+fn refusal_of(fault: LogFault) -> Refusal
+    ensures { result ≡ refusal_of fault }
+{
+    match fault {
+        LogFault::NoSuchBundle => Refusal::NoSuchBundle,
+        LogFault::AlreadyUndone => Refusal::AlreadyUndone,
+    }
+}
+
+fn refused(refusal: Refusal) -> BareVerdict
+    ensures { result ≡ Refused refusal None }
+{
+    BareVerdict::Refused {
+        refusal,
+        action: None,
+    }
+}
+
+/// Judges the undo of the session's own bundle of that number. The document is as before, whatever
+/// the answer.
+pub(crate) fn judge_own_undo<D: DocTables>(
+    alloc: Global,
+    doc: &mut Doc<D>,
+    tally: Tally,
+    session: &OpenSession,
+    number: u64,
+) -> Result<JudgedBundle, AllocError>
+    requires whole { IsWhole (D.document doc.old) }
+    requires tally { IsTally (D.document doc.old) tally }
+    ensures judged { IfOk result (λ j. IsJudgedBundle
+        (judge_own_undo (undo_of session.now.holder.log number) (D.document doc.old))
+        (Some number) (D.document doc.old) j) }
+    ensures same { D.document doc.new ≡ D.document doc.old }
+{
+    match session.undo_of(number) {
+        Ok(steps) => judge_steps(alloc, doc, tally, number, steps),
+        Err(fault) => Ok(JudgedBundle::Refused(refused(refusal_of(fault)))),
+    }
+}

@@ -9,6 +9,7 @@ pub mod ClosedLemmas
 pub mod Indexes
 pub mod Prepared
 pub mod Readied
+pub mod JudgedLemmas
 pub mod JudgmentLemmas
 pub mod SessionLaws
 pub mod Spots
@@ -17,3 +18,4 @@ pub mod ToldLaws
 pub mod ViewLaws
 pub mod RollbackLemmas
 pub mod StepLemmas
+pub mod UndoneLemmas

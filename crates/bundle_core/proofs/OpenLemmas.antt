@@ -37,7 +37,8 @@ use Rattle.bundle_core.specs.View.{view}
 use Rattle.bundle_core.proofs.Answering.{with_opens, answers_leaving, answers_parting, answers_staying, open_of-fields, holder_of-fields}
 use Rattle.bundle_core.proofs.Bundling.{answers_bundle}
 use Rattle.bundle_core.proofs.ClosedLemmas.{answers_by}
-use Rattle.bundle_core.proofs.Readied.{each_same, same_at, bundle_number-is, ready_at, user_at-is}
+use Rattle.bundle_core.proofs.Readied.{each_same, same_at, bundle_number-is, user_at-is}
+use Rattle.bundle_core.proofs.Prepared.{ready_at}
 
 same_refusal : (m n : Refusal) (st : State) (h : Holder) → ◌≡◌ {A = Option Refusal} (Some m) (Some n) → answered st.document (Some h) (refusal m) ≡ answered st.document (Some h) (refusal n)
 same_refusal m n st h e = let same : m ≡ n = cc in ap (λ k. answered st.document (Some h) (refusal k)) same

@@ -1,5 +1,5 @@
 -- Sessions whose lines are made ready one after another, and are then posted.
-use Rattle.std.proofs.Common.{◌≡◌, ℕ, suc, zero, ◌+◌, ◌<◌, ◌^◌, List, [], ◌∷◌, ◌++◌, map, take, drop, length, get_or, set, option_to_list, Result, Ok, Err, OnErr, refl, sym, ap, subst, ◌∙◌, arith, add-one}
+use Rattle.std.proofs.Common.{◌≡◌, ℕ, suc, zero, ◌+◌, ◌<◌, ◌^◌, List, [], ◌∷◌, ◌++◌, map, take, drop, length, get_or, set, option_to_list, Some, None, if◌then◌else◌, Result, Ok, Err, OnErr, refl, sym, ap, subst, ◌∙◌, arith, add-one}
 use Rattle.std.specs.List.{AllByRecursion, insert}
 use Rattle.doc_model.specs.declared.user.User.{User}
 use Rattle.doc_model.specs.declared.view.ViewAction.{ViewAction}
@@ -7,7 +7,9 @@ use Rattle.doc_model.specs.Document.{Document}
 use Rattle.bundle_core.specs.declared.session.BundleNote.{BundleNote}
 use Rattle.bundle_core.specs.Dispatch.{AreSame, Posts, Stays}
 use Rattle.bundle_core.specs.Noting.{log_after}
-use Rattle.bundle_core.specs.SessionState.{SessionState, open_of, posted_state, IsPrepared, IsReady, IsEmptied}
+use Rattle.bundle_core.specs.SessionState.{SessionState, line_for, open_of, posted_state, IsPrepared, IsReady, IsEmptied}
+use Rattle.bundle_core.specs.State.{Holder}
+use Rattle.grist_json.specs.Lines.{stream_text}
 use Rattle.bundle_core.proofs.Answering.{open_of-fields}
 
 -- the first ones are ready
@@ -45,6 +47,11 @@ few_set [] i y h k = tt
 few_set (x ∷ xs) zero y h k = (h, k.1)
 few_set (x ∷ xs) (suc i) y h k = (k.0, few_set xs i y h k.1)
 
+pub ready_at : (told : User → List ViewAction) (xs : List SessionState) (i : ℕ) (d : SessionState) → i < length xs → AllByRecursion (IsReady told) xs → IsReady told (get_or xs i d)
+ready_at told [] i d lt h = absurd (omega (arith, lt))
+ready_at told (x ∷ xs) zero d lt h = h.0
+ready_at told (x ∷ xs) (suc i) d lt h = ready_at told xs i d (omega (arith, lt)) h.1
+
 few_at : (xs : List SessionState) (i : ℕ) (x : SessionState) → i < length xs → x ≡ get_or xs i x → AllByRecursion (λ x. x.made < 2 ^ 63) xs → x.made < 2 ^ 63
 few_at [] i x lt is k = absurd (omega (arith, lt))
 few_at (z ∷ xs) zero x lt is k = let P : SessionState → Type 0 = λ y. y.made < 2 ^ 63 in subst P (sym is) k.0
@@ -70,6 +77,27 @@ prepares_one told i old now x y h lt is p r = record {
   few = few_set now i y (let P : ℕ → Type 0 = λ n. n < 2 ^ 63 in subst P (sym p.made) (few_at now i x lt is h.few)) h.few;
   ready = rw (add-one i) (ready_set told now i y lt r h.ready);
 }
+
+each_set : {X : Type 0} (P : X → Type 0) (xs : List X) (i : ℕ) (y : X) → P y → AllByRecursion P xs → AllByRecursion P (set xs i y)
+each_set P [] i y h k = tt
+each_set P (x ∷ xs) zero y h k = (h, k.1)
+each_set P (x ∷ xs) (suc i) y h k = (k.0, each_set P xs i y h k.1)
+
+same_line : (as' : List ViewAction) (x y : SessionState) → x.made ≡ y.made → x.lagging ≡ y.lagging → line_for as' x ≡ line_for as' y
+same_line [] x y made lagging = refl
+same_line (a ∷ as') x y made lagging =
+    ap (λ l. if l then None else Some (stream_text (x.made + 1) (a ∷ as'))) lagging
+    ∙ ap (λ n. if y.lagging then None else Some (stream_text (n + 1) (a ∷ as'))) made
+
+-- more room was made in one session
+pub ready_more : (told : User → List ViewAction) (xs : List SessionState) (i : ℕ) (x y : SessionState) → i < length xs → x ≡ get_or xs i x → IsPrepared x y → y.ready ≡ x.ready → 0 < y.room
+    → AllByRecursion (IsReady told) xs → AllByRecursion (IsReady told) (set xs i y)
+ready_more told xs i x y lt is p same room all =
+    let r : IsReady told x = let P : SessionState → Type 0 = λ z. IsReady told z in subst P (sym is) (ready_at told xs i x lt all) in
+    each_set (IsReady told) xs i y (record {
+      line = same ∙ r.line ∙ same_line (told x.holder.user) x y (sym p.made) (sym p.lagging) ∙ ap (λ (h : Holder). line_for (told h.user) y) (sym p.holder);
+      room = room;
+    }) all
 
 -- one session posted its line
 posts : {X : Type 0} (f : X → X) (xs : List X) (i : ℕ) (x : X) → i < length xs → x ≡ get_or (map f (take i xs) ++ drop i xs) i x → set (map f (take i xs) ++ drop i xs) i (f x) ≡ map f (take (suc i) xs) ++ drop (suc i) xs

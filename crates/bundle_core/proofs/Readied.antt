@@ -57,11 +57,6 @@ bundle_number-is [] i d lt = absurd (omega (arith, lt))
 bundle_number-is (x ∷ xs) zero d lt = refl
 bundle_number-is (x ∷ xs) (suc i) d lt = bundle_number-is xs i d (omega (arith, lt))
 
-pub ready_at : (told : User → List ViewAction) (xs : List SessionState) (i : ℕ) (d : SessionState) → i < length xs → AllByRecursion (IsReady told) xs → IsReady told (get_or xs i d)
-ready_at told [] i d lt h = absurd (omega (arith, lt))
-ready_at told (x ∷ xs) zero d lt h = h.0
-ready_at told (x ∷ xs) (suc i) d lt h = ready_at told xs i d (omega (arith, lt)) h.1
-
 -- the user of an index
 pub user_at-is : (xs : List SessionState) (p : ℕ) (d : SessionState) → p < length xs → user_at xs p ≡ Some (get_or xs p d).holder.user
 user_at-is [] p d lt = absurd (omega (arith, lt))

@@ -39,8 +39,8 @@ pub record IsBundlePlan (judgement : Judgement) (undone : Option ℕ) (s : Docum
 
 -- what a judgement comes to
 abbrev pub IsJudgedBundle : Judgement → Option ℕ → Document → JudgedBundle → Type 0
-IsJudgedBundle judgement undone s (judged.Accepted plan) = IsBundlePlan judgement undone s plan
-IsJudgedBundle judgement undone s (judged.Refused v) = judgement ≡ refused v
+IsJudgedBundle judgement target s (judged.Accepted plan) = IsBundlePlan judgement target s plan
+IsJudgedBundle judgement target s (judged.Refused v) = judgement ≡ refused v
 
 -- what a user is told of these actions
 abbrev pub told_changes : Document → List DocAction → User → List ViewAction

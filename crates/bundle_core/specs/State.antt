@@ -111,15 +111,15 @@ with_undone (Some undone) log = marked undone log
 -- a bundle of an open session, or the undo of its bundle of that number: accepted, it is noted with
 -- its inverse; the keeper's failure leaves everything
 abbrev pub bundle_of : Holder → Option ℕ → Document → Bool → Judgement → Verdicts
-bundle_of h undone s kept (refused v) = answered s (Some h) v
-bundle_of h undone s false (accepted after steps ms) = answered s (Some h) (refusal StoreFault)
-bundle_of h undone s true (accepted after steps ms) = record {
-  outcome = says (accepted_as undone (count h.log + 1) (map (told_of (view h.user after)) ms));
+bundle_of h target s kept (refused v) = answered s (Some h) v
+bundle_of h target s false (accepted after steps ms) = answered s (Some h) (refusal StoreFault)
+bundle_of h target s true (accepted after steps ms) = record {
+  outcome = says (accepted_as target (count h.log + 1) (map (told_of (view h.user after)) ms));
   document = after;
   is_bundle = true;
   holder = Some (record {
     user = h.user;
-    log = noted (inverse_steps s steps) (with_undone undone h.log);
+    log = noted (inverse_steps s steps) (with_undone target h.log);
   });
 }
 

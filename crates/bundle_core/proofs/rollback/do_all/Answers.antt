@@ -9,6 +9,13 @@ use Rattle.bundle_core.proofs.RollbackLemmas.{doing_ends, doing_next, doing_vali
 use Rattle.bundle_core.proofs.StepLemmas.{actions_left, one_within}
 use Rattle.bundle_core.proofs.rollback.do_all.Goals as goal
 
+pub do_one-requires-clause-valid : goal.do_one-requires-clause-valid
+do_one-requires-clause-valid g c =
+    let l = c.loop-step in
+    let x = c.step-item.result in
+    doing_valid (led_back g.D.DocTables.fits g.D.DocTables.undone) (IsWayBack g.D.DocTables.fits g.D.DocTables.undone) (g.D.DocReader.document c.args.doc.now) (map action_of c.args.steps.now) c.args.traces.now.items l.step-index (g.D.DocReader.document l.doc) l.traces.items l.invariant.0
+    x.action (actions_left l.step-index c.args.steps.now x c.loop-step-test.true c.step-item.is)
+
 pub loop-step-preserved : goal.loop-step-preserved
 loop-step-preserved g c =
     let l = c.loop-step in

@@ -9,5 +9,5 @@ returns-in_err-make_room-clause-err c =
 pub returns-clause-ok : goal.returns-clause-ok
 returns-clause-ok c =
     stays_after c.args.sessions.now.items c.args.index c.index_mut-session.result.now c.make_room.new.self c.give.new.self _ _ c.requires c.index_mut-session.ensures.value
-    c.in_ok-make_room.ensures.prepared c.give.ensures.emptied c.give.ensures.made c.give.ensures.bundles
+    c.in_ok-make_room.ensures.prepared c.give.ensures.emptied c.give.ensures.made c.give.ensures.log
     (c.give.ensures.lines ∙ ap (λ l. c.make_room.new.self.waiting ++ l ∷ []) c.in_ok-reply.ensures)

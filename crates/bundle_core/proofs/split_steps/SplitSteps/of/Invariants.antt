@@ -4,7 +4,7 @@ use Rattle.bundle_core.proofs.split_steps.SplitSteps.of.Given as goal
 
 abbrev pub invariant-loop-step : goal.invariant-loop-step
 invariant-loop-step l =
-    (joined l.actions.items l.marks.items ++ reverse l.left.items ≡ l.initial.steps.items)
+    (joined l.actions.items l.marks.items ++ reverse l.left.items ≡ reverse l.initial.left.items)
     × (length l.actions.items ≡ length l.marks.items)
 
 abbrev pub decreases-loop-step : goal.decreases-loop-step

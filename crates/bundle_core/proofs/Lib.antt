@@ -17,3 +17,6 @@ pub mod ToldLaws
 pub mod ViewLaws
 pub mod RollbackLemmas
 pub mod StepLemmas
+pub mod DoneBundles
+pub mod TurnLaws
+pub mod UndoLaws

@@ -1,13 +1,18 @@
 -- An undo that comes next takes its bundle back.
-use Rattle.std.specs.Prelude.{ℕ, ⊥, true, false, ◌≡◌, ◌++◌, List, [], ◌∷◌, Option, Some, None}
+use Rattle.std.specs.Prelude.{ℕ, Bool, true, false, ◌&&◌, ◌^◌, ◌≡◌, ◌++◌, nat_le, List, [], ◌∷◌, Option, Some, None}
 use Rattle.std.specs.List.{list_all}
 use Rattle.doc_model.specs.declared.entry.Entry.{Entry}
 use Rattle.doc_model.specs.declared.refusal.Refusal.TheVariants.{UndoStale}
-use Rattle.doc_model.specs.declared.request.Request.TheVariants.{Undo}
+use Rattle.doc_model.specs.declared.request.Request.{Request}
+use Rattle.doc_model.specs.declared.request.Request.TheVariants.{Apply, Undo}
 use Rattle.doc_model.specs.declared.user.User.{User}
+use Rattle.doc_model.specs.declared.user_action.UserAction.{UserAction}
+use Rattle.doc_model.specs.Counts.{over}
 use Rattle.doc_model.specs.Document.{Document}
 use Rattle.doc_model.specs.DocumentLaws.{IsWhole}
-use Rattle.doc_model.specs.WellFormed.{asks_well_formed}
+use Rattle.doc_model.specs.NewDocument.{new_document}
+use Rattle.doc_model.specs.WellFormed.{is_well_formed}
+use Rattle.user_actions.specs.FreshIds.{new_columns_of}
 use Rattle.bundle_core.specs.declared.bare_verdict.BareVerdict.TheVariants as verdict
 use Rattle.bundle_core.specs.Mailbox.{Outcome, says}
 use Rattle.bundle_core.specs.State.{State, opening, records_kept, run, step, verdicts}
@@ -39,13 +44,26 @@ pub record UndoesNext (users : List User) (st : State) (e : Entry) (between : Li
       → (verdicts users (run users (step users st e) between) u).outcome
       ≡ says (verdict.Refused UndoStale at) → ⊥
 
-abbrev pub entry_is_well_formed : Entry → _
-entry_is_well_formed e = asks_well_formed e.request
+-- whether an action is well formed, and gives a table no more columns than there are names for
+abbrev pub may_be_asked : UserAction → Bool
+may_be_asked a = is_well_formed a && nat_le (new_columns_of a) (2 ^ 60)
 
--- in every history from every whole document
+-- whether an entry asks for such actions alone, as each line does
+abbrev pub asks_so : Request → Bool
+asks_so (Apply actions) = list_all may_be_asked actions
+asks_so _ = true
+
+abbrev pub entry_asks_so : Entry → Bool
+entry_asks_so e = asks_so e.request
+
+-- in every history from every whole document that passes no limit
 abbrev pub UndoLaw : Type 0
 UndoLaw =
     (users : List User) (s : Document) (history : List Entry) (e : Entry) (between : List Entry)
-    (u : Entry) → IsWhole s → list_all entry_is_well_formed (history ++ e ∷ []) ≡ true
+    (u : Entry) → IsWhole s → over s ≡ None → list_all entry_asks_so (history ++ e ∷ []) ≡ true
     → IsUndoNext users (run users (opening s) history) e between u
     → UndoesNext users (run users (opening s) history) e between u
+
+-- the new document is such a one
+abbrev pub NewDocumentLaw : Type 0
+NewDocumentLaw = over new_document ≡ None

@@ -36,5 +36,5 @@ mod undoing;
 mod view_changes;
 
 pub use history_core::{Answer, Core, LineList, MAX_ENTRIES, MAX_HISTORY_BYTES};
-pub use laws::{equal_bytes_law, isolation_law};
+pub use laws::{equal_bytes_law, isolation_law, undo_law};
 pub use session::{MAX_WAITING_BYTES, MAX_WAITING_LINES};

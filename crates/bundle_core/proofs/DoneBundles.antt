@@ -52,7 +52,7 @@ use Rattle.bundle_core.specs.declared.created.Created.{Created}
 use Rattle.bundle_core.specs.JudgedBundles.{after_steps}
 use Rattle.bundle_core.specs.Judgement.{Judgement, accepted, refused, created_at, judge, judge_from, limited, opposed, refusal_at, with_before}
 use Rattle.bundle_core.specs.Undo.{judge_own_undo, judge_undo, stale_at}
-use Rattle.bundle_core.specs.UndoLaw.{NewDocumentLaw, may_be_asked}
+use Rattle.bundle_core.specs.UndoLaw.{NewDocumentHasRoom, may_be_asked}
 use Rattle.bundle_core.specs.View.{view}
 use Rattle.bundle_core.proofs.JudgmentLemmas.{all_valid-append, apply_all-append}
 
@@ -62,7 +62,7 @@ pub record IsFine (s : Document) : Type 0 where
   pub whole : IsWhole s
   pub room : over s ≡ None
 
-pub new_room : NewDocumentLaw
+pub new_room : NewDocumentHasRoom
 unfolding tables_id columns_id resources_id rules_id
 new_room = refl
 

@@ -17,7 +17,6 @@ use Rattle.doc_model.proofs.ByIdsLaws.{bytes_itself, find-put_by_id, find-withou
 use Rattle.undo_bundles.specs.BundleLog.{Log, count, empty_log, marked, noted, undo_of}
 use Rattle.undo_bundles.specs.InverseSteps.{inverse_steps}
 use Rattle.undo_bundles.proofs.LogLaws.{marked_count}
-use Rattle.action_limits.specs.Tallies.{after}
 use Rattle.bundle_core.specs.declared.bare_verdict.BareVerdict.TheVariants as verdict
 use Rattle.bundle_core.specs.Judgement.{Judgement, accepted, refused, judge}
 use Rattle.bundle_core.specs.Mailbox.{Mailbox, Outcome, shows_view, says, own}
@@ -109,9 +108,9 @@ opened_turn users st token r =
       | Some user ↦ elim (nat_le session_bound (length st.open_sessions)) as (λ b. IsTurn st.document empty_log r (if b
           then answered st.document None (verdict.Limited limit.Sessions session_bound None)
           else record { outcome = shows_view; document = st.document; is_bundle = false; holder = Some (record { user = user; log = empty_log }) })) [
-        | true ↦ stays st.document empty_log r _ None (inr refl)
-        | false ↦ stays st.document empty_log r shows_view (Some (record { user = user; log = empty_log })) (inr refl)
-      ]
+            | true ↦ stays st.document empty_log r _ None (inr refl)
+            | false ↦ stays st.document empty_log r shows_view (Some (record { user = user; log = empty_log })) (inr refl)
+          ]
     ]
 
 closed_turn : (users : List User) (st : State) (r : Request) → IsTurn st.document empty_log r (from_closed users st r)

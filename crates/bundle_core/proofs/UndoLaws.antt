@@ -14,7 +14,7 @@ use Rattle.user_actions.specs.FreshIds.{StepsLaw}
 use Rattle.view_parts.specs.PartLaws.{AllowedLaw}
 use Rattle.bundle_core.specs.declared.bare_verdict.BareVerdict.TheVariants as verdict
 use Rattle.bundle_core.specs.Judgement.{Judgement, accepted, refused}
-use Rattle.bundle_core.specs.Mailbox.{says, own}
+use Rattle.bundle_core.specs.Mailbox.{says}
 use Rattle.bundle_core.specs.State.{Holder, Open, State, Verdicts, bundle_of, from_closed, from_lagging, from_open, opening, records_kept, run, session_of, step, verdicts}
 use Rattle.bundle_core.specs.Undo.{judge_own_undo}
 use Rattle.bundle_core.specs.UndoLaw.{IsUndoNext, UndoLaw, UndoesNext, entry_asks_so}

@@ -1,5 +1,5 @@
 -- An undo that comes next takes its bundle back.
-use Rattle.std.specs.Prelude.{ℕ, Bool, true, false, ◌&&◌, ◌^◌, ◌≡◌, ◌++◌, nat_le, List, [], ◌∷◌, Option, Some, None}
+use Rattle.std.specs.Prelude.{ℕ, Bool, true, ◌&&◌, ◌^◌, ◌≡◌, ◌++◌, nat_le, List, [], ◌∷◌, Option, Some, None}
 use Rattle.std.specs.List.{list_all}
 use Rattle.doc_model.specs.declared.entry.Entry.{Entry}
 use Rattle.doc_model.specs.declared.refusal.Refusal.TheVariants.{UndoStale}
@@ -44,11 +44,12 @@ pub record UndoesNext (users : List User) (st : State) (e : Entry) (between : Li
       → (verdicts users (run users (step users st e) between) u).outcome
       ≡ says (verdict.Refused UndoStale at) → ⊥
 
--- whether an action is well formed, and gives a table no more columns than there are names for
+-- whether an action is well formed, and a table that it makes has at most 2^60 columns: for more of
+-- them there may be no free names, and no line has room for so many
 abbrev pub may_be_asked : UserAction → Bool
 may_be_asked a = is_well_formed a && nat_le (new_columns_of a) (2 ^ 60)
 
--- whether an entry asks for such actions alone, as each line does
+-- whether a request asks for such actions alone
 abbrev pub asks_so : Request → Bool
 asks_so (Apply actions) = list_all may_be_asked actions
 asks_so _ = true
@@ -56,7 +57,7 @@ asks_so _ = true
 abbrev pub entry_asks_so : Entry → Bool
 entry_asks_so e = asks_so e.request
 
--- in every history from every whole document that passes no limit
+-- in every history from every whole document that passes no limit, so that there are free names
 abbrev pub UndoLaw : Type 0
 UndoLaw =
     (users : List User) (s : Document) (history : List Entry) (e : Entry) (between : List Entry)
@@ -65,5 +66,5 @@ UndoLaw =
     → UndoesNext users (run users (opening s) history) e between u
 
 -- the new document is such a one
-abbrev pub NewDocumentLaw : Type 0
-NewDocumentLaw = over new_document ≡ None
+abbrev pub NewDocumentHasRoom : Type 0
+NewDocumentHasRoom = over new_document ≡ None

@@ -1,7 +1,7 @@
 //! Laws of histories.
 
 ghost use Rattle.bundle_core.specs.Told.{EqualBytesLaw, IsolationLaw};
-ghost use Rattle.bundle_core.specs.UndoLaw.{NewDocumentLaw, UndoLaw};
+ghost use Rattle.bundle_core.specs.UndoLaw.{NewDocumentHasRoom, UndoLaw};
 
 use user_actions::steps_law;
 use view_parts::allowed_law;
@@ -21,7 +21,7 @@ pub fn equal_bytes_law()
 /// every whole document that passes no limit, as the new one does.
 pub fn undo_law()
     ensures undoes { UndoLaw }
-    ensures new { NewDocumentLaw }
+    ensures new { NewDocumentHasRoom }
 {
     allowed_law();
     steps_law();

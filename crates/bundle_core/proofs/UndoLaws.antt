@@ -1,10 +1,9 @@
 -- An undo that comes next takes its bundle back.
-use Rattle.std.proofs.Common.{ℕ, ◌+◌, ◌≡◌, Bool, true, false, List, [], ◌∷◌, Option, Some, None, inl, inr, ⊎_elim, refl, sym, ap, subst, ◌∙◌, arith, if◌then◌else◌}
+use Rattle.std.proofs.Common.{ℕ, ◌+◌, ◌≡◌, Bool, true, false, List, [], ◌∷◌, Some, None, inl, inr, ⊎_elim, refl, sym, ap, subst, ◌∙◌, arith, if◌then◌else◌}
 use Rattle.std.proofs.lemmas.Bool.{and_parts, false≢true}
 use Rattle.std.proofs.lemmas.List.Folds.{list_all-append}
 use Rattle.std.specs.List.{list_all}
 use Rattle.doc_model.specs.declared.entry.Entry.{Entry}
-use Rattle.doc_model.specs.declared.refusal.Refusal.TheVariants.{UndoStale}
 use Rattle.doc_model.specs.declared.request.Request.TheVariants as request
 use Rattle.doc_model.specs.declared.user.User.{User}
 use Rattle.doc_model.specs.Document.{Document}
@@ -12,12 +11,10 @@ use Rattle.undo_bundles.specs.BundleLog.{Log, count, noted, undo_of}
 use Rattle.undo_bundles.specs.InverseSteps.{inverse_steps}
 use Rattle.user_actions.specs.FreshIds.{StepsLaw}
 use Rattle.view_parts.specs.PartLaws.{AllowedLaw}
-use Rattle.bundle_core.specs.declared.bare_verdict.BareVerdict.TheVariants as verdict
 use Rattle.bundle_core.specs.Judgement.{Judgement, accepted, refused}
-use Rattle.bundle_core.specs.Mailbox.{says}
 use Rattle.bundle_core.specs.State.{Holder, Open, State, Verdicts, bundle_of, from_closed, from_lagging, from_open, opening, records_kept, run, session_of, step, verdicts}
 use Rattle.bundle_core.specs.Undo.{judge_own_undo}
-use Rattle.bundle_core.specs.UndoLaw.{IsUndoNext, UndoLaw, UndoesNext, entry_asks_so}
+use Rattle.bundle_core.specs.UndoLaw.{IsUndoNext, LeadsBackTo, UndoLaw, entry_asks_so}
 use Rattle.bundle_core.proofs.DoneBundles.{BundlesAreDone, IsFine, IsKept, TakesBack, back_own, done_judge}
 use Rattle.bundle_core.proofs.TurnLaws.{IsBundle, log_after, log_in, log_kept, log_of, turn}
 
@@ -56,26 +53,22 @@ module _ (are_done : BundlesAreDone) where
 
 -- ---- the entry that asks for it
 
-record IsBack (t : Document) (v : Verdicts) : Type 0 where
-  restores : v.is_bundle ≡ true → v.document ≡ t
-  not_stale_then : (at : Option ℕ) → v.outcome ≡ says (verdict.Refused UndoStale at) → ⊥
-
-bundle_back : (t : Document) (h : Holder) (n : ℕ) (s : Document) (kept : Bool) (j : Judgement) → TakesBack t j → IsBack t (bundle_of h (Some n) s kept j)
-bundle_back t h n s kept (refused v) b = record { restores = λ is. absurd (false≢true is); not_stale_then = λ at e. b at (cc) }
-bundle_back t h n s false (accepted u steps ms) b = record { restores = λ is. absurd (false≢true is); not_stale_then = λ at e. cc }
-bundle_back t h n s true (accepted u steps ms) b = record { restores = λ _. b; not_stale_then = λ at e. cc }
+bundle_back : (t : Document) (h : Holder) (n : ℕ) (s : Document) (kept : Bool) (j : Judgement) → TakesBack t j → LeadsBackTo t (bundle_of h (Some n) s kept j)
+bundle_back t h n s kept (refused v) b = record { restores = λ is. absurd (false≢true is); not_stale = λ at e. b at (cc) }
+bundle_back t h n s false (accepted u steps ms) b = record { restores = λ is. absurd (false≢true is); not_stale = λ at e. cc }
+bundle_back t h n s true (accepted u steps ms) b = record { restores = λ _. b; not_stale = λ at e. cc }
 
 asked_back : (t : Document) (users : List User) (st : State) (u : Entry) (n : ℕ) → u.request ≡ request.Undo n
-    → ((o : Open) → session_of u.session st ≡ Some o → TakesBack t (judge_own_undo (undo_of o.holder.log n) st.document)) → IsBack t (verdicts users st u)
+    → ((o : Open) → session_of u.session st ≡ Some o → TakesBack t (judge_own_undo (undo_of o.holder.log n) st.document)) → LeadsBackTo t (verdicts users st u)
 asked_back t users st u n asks back =
-    elim (session_of u.session st) as (λ o. session_of u.session st ≡ o → IsBack t (elim o as (λ _. Verdicts) [
+    elim (session_of u.session st) as (λ o. session_of u.session st ≡ o → LeadsBackTo t (elim o as (λ _. Verdicts) [
       | None ↦ from_closed users st u.request
       | Some x ↦ if x.mailbox.lagging then from_lagging st u.request else from_open st x.holder u.kept u.request
     ])) [
-      | None ↦ λ _. subst (λ r. IsBack t (from_closed users st r)) (sym asks) (record { restores = λ is. absurd (false≢true is); not_stale_then = λ at e. cc })
-      | Some x ↦ λ found. elim x.mailbox.lagging as (λ l. IsBack t (if l then from_lagging st u.request else from_open st x.holder u.kept u.request)) [
-        | true ↦ subst (λ r. IsBack t (from_lagging st r)) (sym asks) (record { restores = λ is. absurd (false≢true is); not_stale_then = λ at e. cc })
-        | false ↦ subst (λ r. IsBack t (from_open st x.holder u.kept r)) (sym asks) (bundle_back t x.holder n st.document u.kept (judge_own_undo (undo_of x.holder.log n) st.document) (back x found))
+      | None ↦ λ _. subst (λ r. LeadsBackTo t (from_closed users st r)) (sym asks) (record { restores = λ is. absurd (false≢true is); not_stale = λ at e. cc })
+      | Some x ↦ λ found. elim x.mailbox.lagging as (λ l. LeadsBackTo t (if l then from_lagging st u.request else from_open st x.holder u.kept u.request)) [
+        | true ↦ subst (λ r. LeadsBackTo t (from_lagging st r)) (sym asks) (record { restores = λ is. absurd (false≢true is); not_stale = λ at e. cc })
+        | false ↦ subst (λ r. LeadsBackTo t (from_open st x.holder u.kept r)) (sym asks) (bundle_back t x.holder n st.document u.kept (judge_own_undo (undo_of x.holder.log n) st.document) (back x found))
       ]
     ] refl
 
@@ -98,15 +91,12 @@ module _ (are_done : BundlesAreDone) (users : List User) (st : State) (e : Entry
   counted : h.number ≡ count made.before + 1
   counted = let same : Some h.number ≡ Some (count made.before + 1) = sym h.told ∙ made.told in cc
 
-  undoes_next : UndoesNext users st e between u
+  undoes_next : LeadsBackTo st.document (verdicts users last u)
   undoes_next =
-      let P : Document → Log → Type 0 = λ t log. TakesBack st.document (judge_own_undo (undo_of log h.number) t) in
-      let back = asked_back st.document users last u h.number h.asks (λ o found.
-      let own : log_of u.session last ≡ o.holder.log = ap log_in found in
-      subst (λ t. P t o.holder.log) (sym left.0)
-      (back_own st.document made.steps (verdicts users st e).document made.before o.holder.log h.number fine made.done counted
-      (subst (IsKept (noted (inverse_steps st.document made.steps) made.before)) own log_left))) in
-      record { restores = back.restores; not_stale = back.not_stale_then }
+      asked_back st.document users last u h.number h.asks (λ o found.
+      let kept : IsKept (noted (inverse_steps st.document made.steps) made.before) o.holder.log = subst (IsKept (noted (inverse_steps st.document made.steps) made.before)) (ap log_in found) log_left in
+      subst (λ t. TakesBack st.document (judge_own_undo (undo_of o.holder.log h.number) t)) (sym left.0)
+      (back_own st.document made.steps (verdicts users st e).document made.before o.holder.log h.number fine made.done counted kept))
 
 pub undo_law : AllowedLaw → StepsLaw → UndoLaw
 undo_law allowed_law steps_law users s history e between u whole room asked h =

@@ -9,6 +9,7 @@ pub mod ClosedLemmas
 pub mod Indexes
 pub mod Prepared
 pub mod Readied
+pub mod JudgedLemmas
 pub mod JudgmentLemmas
 pub mod SessionLaws
 pub mod Spots
@@ -20,3 +21,4 @@ pub mod StepLemmas
 pub mod DoneBundles
 pub mod TurnLaws
 pub mod UndoLaws
+pub mod UndoneLemmas

@@ -1,8 +1,8 @@
 //! Plan: whole runs of `replay`, each a script: a line behind `> ` comes, a line behind `< ` is
 //! given. What a run answers where it finds memory, which no clause says
-//! (`answers_as_the_protocol_says`), bundles that are done and refused among them, and formula
-//! cells that change; and how it ends at its words, its users and the faults of what it was handed
-//! (`ends_at_the_first_event`). The lines are those of the protocol, worked out by hand.
+//! (`answers_as_the_protocol_says`), bundles that are done, refused and undone among them, and
+//! formula cells that change; and how it ends at its words, its users and the faults of what it was
+//! handed (`ends_at_the_first_event`). The lines are those of the protocol, worked out by hand.
 
 use grist_run::{Status, run};
 use io_edges::{MemSink, MemSource};
@@ -52,7 +52,7 @@ fn ends_as_told(alloc: Global, case: &Case) -> bool {
     end == case.end && written.as_slice() == want.as_slice()
 }
 
-static ANSWERED: [&str; 4] = [
+static ANSWERED: [&str; 3] = [
     "",
     r#"> {"user":{"access":"owners","email":"a","id":1,"name":"Ann","token":"ta"}}
 >    
@@ -86,35 +86,39 @@ static ANSWERED: [&str; 4] = [
 < {"line":{"ok":{"bundle":6,"retValues":["T",1]}},"session":"s1"}
 > {"line":{"actions":[],"method":"applyUserActions"},"session":"s1"}
 < {"line":{"ok":{"bundle":7,"retValues":[]}},"session":"s1"}
+> {"line":{"actions":[["AddTable","P",[{"id":"N","type":"Int"}]],["BulkAddRecord","P",[null,null],{"N":[7,2]}]],"method":"applyUserActions"},"session":"s1"}
+< {"line":{"actions":[["AddTable","P",[{"formula":"","id":"N","isFormula":false,"type":"Int"}]],["BulkAddRecord","P",[1,2],{"N":[7,2]}]],"seq":6},"session":"s1"}
+< {"line":{"ok":{"bundle":8,"retValues":["P",[1,2]]}},"session":"s1"}
+> {"line":{"actions":[["AddTable","V",[{"id":"R","type":"Ref:P"},{"formula":"$R.N * 2","id":"D","type":"Int"}]],["BulkAddRecord","V",[null,null],{"R":[1,2]}]],"method":"applyUserActions"},"session":"s1"}
+< {"line":{"actions":[["AddTable","V",[{"formula":"$R.N * 2","id":"D","isFormula":true,"type":"Int"},{"formula":"","id":"R","isFormula":false,"type":"Ref:P"}]],["BulkAddRecord","V",[1,2],{"D":[14,4],"R":[1,2]}]],"seq":7},"session":"s1"}
+< {"line":{"ok":{"bundle":9,"retValues":["V",[1,2]]}},"session":"s1"}
+> {"line":{"actions":[["UpdateRecord","P",2,{"N":3}]],"method":"applyUserActions"},"session":"s1"}
+< {"line":{"actions":[["BulkUpdateRecord","P",[2],{"N":[3]}],["BulkUpdateRecord","V",[2],{"D":[6]}]],"seq":8},"session":"s1"}
+< {"line":{"ok":{"bundle":10,"retValues":[null]}},"session":"s1"}
+> {"line":{"actions":[["RemoveRecord","P",1],["UpdateRecord","V",1,{"D":1}]],"method":"applyUserActions"},"session":"s1"}
+< {"line":{"error":{"action":1,"code":11,"name":"FormulaColumn"}},"session":"s1"}
+> {"line":{"actions":[["UpdateRecord","P",1,{"N":8}]],"method":"applyUserActions"},"session":"s1"}
+< {"line":{"actions":[["BulkUpdateRecord","P",[1],{"N":[8]}],["BulkUpdateRecord","V",[1],{"D":[16]}]],"seq":9},"session":"s1"}
+< {"line":{"ok":{"bundle":11,"retValues":[null]}},"session":"s1"}
+> {"line":{"actions":[["RemoveRecord","P",1]],"method":"applyUserActions"},"session":"s1"}
+< {"line":{"actions":[["BulkRemoveRecord","P",[1]],["BulkUpdateRecord","V",[1],{"D":[0]}],["BulkUpdateRecord","V",[1],{"R":[0]}]],"seq":10},"session":"s1"}
+< {"line":{"ok":{"bundle":12,"retValues":[null]}},"session":"s1"}
+> {"line":{"bundle":12,"method":"undo"},"session":"s1"}
+< {"line":{"actions":[["BulkAddRecord","P",[1],{"N":[8]}],["BulkUpdateRecord","V",[1],{"D":[16]}],["BulkUpdateRecord","V",[1],{"R":[1]}]],"seq":11},"session":"s1"}
+< {"line":{"ok":{"bundle":13}},"session":"s1"}
+> {"line":{"bundle":12,"method":"undo"},"session":"s1"}
+< {"line":{"error":{"code":17,"name":"AlreadyUndone"}},"session":"s1"}
+> {"line":{"bundle":14,"method":"undo"},"session":"s1"}
+< {"line":{"error":{"code":16,"name":"NoSuchBundle"}},"session":"s1"}
+> {"line":{"actions":[["AddColumn","V","L",{"formula":"$L"}]],"method":"applyUserActions"},"session":"s1"}
+< {"line":{"actions":[["AddColumn","V","L",{"formula":"$L","isFormula":true,"type":"Any"}],["BulkUpdateRecord","V",[1,2],{"L":[["E","CircularRefError"],["E","CircularRefError"]]}]],"seq":12},"session":"s1"}
+< {"line":{"ok":{"bundle":14,"retValues":["L"]}},"session":"s1"}
 > {"line":{"method":"closeDoc"},"session":"s1"}
 < {"line":{"ok":null},"session":"s1"}
 > {"line":{"method":"closeDoc"},"session":"s1"}
 < {"line":{"error":{"code":3,"name":"NotOpen"}},"session":"s1"}
 > {"line":{"method":"fetchTable","table":"Table1"},"session":"s1"}
 < {"line":{"error":{"code":1,"name":"BadLine"}},"session":"s1"}"#,
-    r#"> {"user":{"access":"owners","email":"a","id":1,"name":"Ann","token":"ta"}}
-> {"line":{"method":"openDoc","token":"ta"},"session":"s1"}
-< {"line":{"ok":{"actions":[["AddTable","Table1",[{"formula":"","id":"A","isFormula":false,"type":"Any"},{"formula":"","id":"B","isFormula":false,"type":"Any"},{"formula":"","id":"C","isFormula":false,"type":"Any"}]],["AddTable","_grist_ACLResources",[{"formula":"","id":"colIds","isFormula":false,"type":"Text"},{"formula":"","id":"tableId","isFormula":false,"type":"Text"}]],["AddTable","_grist_ACLRules",[{"formula":"","id":"aclFormula","isFormula":false,"type":"Text"},{"formula":"","id":"memo","isFormula":false,"type":"Text"},{"formula":"","id":"permissionsText","isFormula":false,"type":"Text"},{"formula":"","id":"resource","isFormula":false,"type":"Ref:_grist_ACLResources"},{"formula":"","id":"rulePos","isFormula":false,"type":"Int"},{"formula":"","id":"userAttributes","isFormula":false,"type":"Text"}]]]}},"session":"s1"}
-> {"line":{"actions":[["AddTable","P",[{"id":"N","type":"Int"}]],["BulkAddRecord","P",[null,null],{"N":[7,2]}]],"method":"applyUserActions"},"session":"s1"}
-< {"line":{"actions":[["AddTable","P",[{"formula":"","id":"N","isFormula":false,"type":"Int"}]],["BulkAddRecord","P",[1,2],{"N":[7,2]}]],"seq":1},"session":"s1"}
-< {"line":{"ok":{"bundle":1,"retValues":["P",[1,2]]}},"session":"s1"}
-> {"line":{"actions":[["AddTable","V",[{"id":"R","type":"Ref:P"},{"formula":"$R.N * 2","id":"D","type":"Int"}]],["BulkAddRecord","V",[null,null],{"R":[1,2]}]],"method":"applyUserActions"},"session":"s1"}
-< {"line":{"actions":[["AddTable","V",[{"formula":"$R.N * 2","id":"D","isFormula":true,"type":"Int"},{"formula":"","id":"R","isFormula":false,"type":"Ref:P"}]],["BulkAddRecord","V",[1,2],{"D":[14,4],"R":[1,2]}]],"seq":2},"session":"s1"}
-< {"line":{"ok":{"bundle":2,"retValues":["V",[1,2]]}},"session":"s1"}
-> {"line":{"actions":[["UpdateRecord","P",2,{"N":3}]],"method":"applyUserActions"},"session":"s1"}
-< {"line":{"actions":[["BulkUpdateRecord","P",[2],{"N":[3]}],["BulkUpdateRecord","V",[2],{"D":[6]}]],"seq":3},"session":"s1"}
-< {"line":{"ok":{"bundle":3,"retValues":[null]}},"session":"s1"}
-> {"line":{"actions":[["RemoveRecord","P",1],["UpdateRecord","V",1,{"D":1}]],"method":"applyUserActions"},"session":"s1"}
-< {"line":{"error":{"action":1,"code":11,"name":"FormulaColumn"}},"session":"s1"}
-> {"line":{"actions":[["UpdateRecord","P",1,{"N":8}]],"method":"applyUserActions"},"session":"s1"}
-< {"line":{"actions":[["BulkUpdateRecord","P",[1],{"N":[8]}],["BulkUpdateRecord","V",[1],{"D":[16]}]],"seq":4},"session":"s1"}
-< {"line":{"ok":{"bundle":4,"retValues":[null]}},"session":"s1"}
-> {"line":{"actions":[["RemoveRecord","P",1]],"method":"applyUserActions"},"session":"s1"}
-< {"line":{"actions":[["BulkRemoveRecord","P",[1]],["BulkUpdateRecord","V",[1],{"D":[0]}],["BulkUpdateRecord","V",[1],{"R":[0]}]],"seq":5},"session":"s1"}
-< {"line":{"ok":{"bundle":5,"retValues":[null]}},"session":"s1"}
-> {"line":{"actions":[["AddColumn","V","L",{"formula":"$L"}]],"method":"applyUserActions"},"session":"s1"}
-< {"line":{"actions":[["AddColumn","V","L",{"formula":"$L","isFormula":true,"type":"Any"}],["BulkUpdateRecord","V",[1,2],{"L":[["E","CircularRefError"],["E","CircularRefError"]]}]],"seq":6},"session":"s1"}
-< {"line":{"ok":{"bundle":6,"retValues":["L"]}},"session":"s1"}"#,
 ];
 
 #[test]

@@ -1,7 +1,7 @@
 -- A request is read exactly from the JSON that spells it.
 use Rattle.std.proofs.Common.{◌≡◌, ℕ, List, codes, true, subst, ◌⊎◌, inl, inr, Some, None, sym, ap, ◌∙◌, refl}
 use Rattle.std.specs.Str.{bytes_eq}
-use Rattle.serde_json.specs.Data.{Data, string, object, member}
+use Rattle.serde_json.specs.Data.{Num, unsigned, negative, float, Data, null, boolean, number, string, array, object, member}
 use Rattle.serde_json.specs.Find.{as_object}
 use Rattle.doc_model.specs.declared.request.Request.{Request}
 use Rattle.doc_model.specs.declared.request.Request.TheVariants.{Bad, TooLong, Open, Apply, Undo, Sync, Fetch, Close, Gone}
@@ -12,20 +12,20 @@ use Rattle.action_lines.proofs.StepLemmas.{bind_some, guard_some, guard_then, or
 use Rattle.action_lines.proofs.FieldLemmas.{object_takes, same_text, field_takes, field_text_takes, done_takes}
 use Rattle.action_lines.proofs.ActionLemmas.{actions_take, actions_again}
 use Rattle.action_lines.proofs.WellFormedLemmas.{actions_formed}
-use Rattle.grist_json.specs.Reading.{open_from, word_from, bare_from, apply_from, request_from}
-use Rattle.grist_json.specs.Requests.{open_data, bare_data, apply_data, IsRequest, Spells, request_at}
+use Rattle.grist_json.specs.Reading.{open_from, word_from, bare_from, apply_from, is_bundle, bundle_of_num, bundle_from, undo_from, request_from}
+use Rattle.grist_json.specs.Requests.{open_data, bare_data, apply_data, undo_data, IsRequest, Spells, request_at}
 use Rattle.grist_json.proofs.Exactly.{found_by, none_by, once_by}
 
 -- what spells a request is read as it
 pub request_again : (r : Request) (d : Data) → IsRequest r d → request_from d ≡ Some r
-unfolding request_from open_from bare_from apply_from
+unfolding request_from open_from bare_from apply_from undo_from
 request_again (Open token) d e = ap request_from e
 request_again (Apply actions) d s = ap request_from s.2 ∙ rw (actions_again actions s.0 s.1) refl
 request_again Sync d e = ap request_from e
 request_again Close d e = ap request_from e
 request_again Bad d e = absurd e
 request_again TooLong d e = absurd e
-request_again (Undo bundle) d e = absurd e
+request_again (Undo bundle) d s = ap request_from s.1 ∙ rw s.0 refl
 request_again (Fetch table) d e = absurd e
 request_again Gone d e = absurd e
 
@@ -77,14 +77,47 @@ apply_takes d r e =
     ∙ (λ i. member (codes "method") (string (same_text c.0.0 (codes "applyUserActions") named.0 i)) (done_takes c.0.1 done.0 i)))) in
     subst (λ x. IsRequest x d) (some_same (Apply list.0) r list.2) (b.0.0, actions_take b.0.0 list.0 list.1, whole)
 
-one_of : (d : Data) (r : Request) → (open_from d ≡ Some r) ⊎ ((bare_from d ≡ Some r) ⊎ (apply_from d ≡ Some r)) → IsRequest r d
+bundle_num_takes : (n : Num) (m : ℕ) → bundle_of_num n ≡ Some m → (is_bundle m ≡ true) × (number n ≡ number (unsigned m))
+bundle_num_takes (unsigned n) m e =
+    let g = guard_some (is_bundle n) n m e in
+    subst (λ (k : ℕ). (is_bundle k ≡ true) × (number (unsigned n) ≡ number (unsigned k))) g.1 (g.0, refl)
+bundle_num_takes (negative z) m e = absurd (cc)
+bundle_num_takes (float x) m e = absurd (cc)
+
+bundle_takes : (d : Data) (m : ℕ) → bundle_from d ≡ Some m → (is_bundle m ≡ true) × (d ≡ number (unsigned m))
+bundle_takes null m e = absurd (cc)
+bundle_takes (boolean b) m e = absurd (cc)
+bundle_takes (number n) m e = bundle_num_takes n m e
+bundle_takes (string s) m e = absurd (cc)
+bundle_takes (array ds) m e = absurd (cc)
+bundle_takes (object ms) m e = absurd (cc)
+
+undo_takes : (d : Data) (r : Request) → undo_from d ≡ Some r → IsRequest r d
+unfolding undo_from
+undo_takes d r e =
+    let a = bind_some (as_object d) _ r e in
+    let b = bind_some (field (codes "bundle") a.0) _ r a.2 in
+    let c = bind_some (field_text (codes "method") b.0.1) _ r b.2 in
+    let done = guard_then (is_done c.0.1) _ r c.2 in
+    let named = guard_then (bytes_eq c.0.0 (codes "undo")) _ r done.1 in
+    let n = bind_some (bundle_from b.0.0) _ r named.1 in
+    let bounded = bundle_takes b.0.0 n.0 n.1 in
+    let whole : d ≡ undo_data n.0 =
+    object_takes d a.0 a.1
+    ∙ ap object (field_takes (codes "bundle") a.0 b.0.0 b.0.1 b.1
+    ∙ (λ i. member (codes "bundle") (bounded.1 i) (field_text_takes (codes "method") b.0.1 c.0.0 c.0.1 c.1 i))
+    ∙ (λ i. member (codes "bundle") (number (unsigned n.0)) (member (codes "method") (string (same_text c.0.0 (codes "undo") named.0 i)) (done_takes c.0.1 done.0 i)))) in
+    subst (λ x. IsRequest x d) (some_same (Undo n.0) r n.2) (bounded.0, whole)
+
+one_of : (d : Data) (r : Request) → (open_from d ≡ Some r) ⊎ ((bare_from d ≡ Some r) ⊎ ((apply_from d ≡ Some r) ⊎ (undo_from d ≡ Some r))) → IsRequest r d
 one_of d r (inl e) = open_takes d r e
 one_of d r (inr (inl e)) = bare_takes d r e
-one_of d r (inr (inr e)) = apply_takes d r e
+one_of d r (inr (inr (inl e))) = apply_takes d r e
+one_of d r (inr (inr (inr e))) = undo_takes d r e
 
-split : (d : Data) (r : Request) → request_from d ≡ Some r → (open_from d ≡ Some r) ⊎ ((bare_from d ≡ Some r) ⊎ (apply_from d ≡ Some r))
+split : (d : Data) (r : Request) → request_from d ≡ Some r → (open_from d ≡ Some r) ⊎ ((bare_from d ≡ Some r) ⊎ ((apply_from d ≡ Some r) ⊎ (undo_from d ≡ Some r)))
 unfolding request_from
-split d r e = elim (or_some (open_from d) _ r e) [ inl o ↦ inl o | inr o ↦ inr (or_some (bare_from d) (apply_from d) r o) ]
+split d r e = elim (or_some (open_from d) _ r e) [ inl o ↦ inl o | inr o ↦ inr (elim (or_some (bare_from d) _ r o) [ inl p ↦ inl p | inr p ↦ inr (or_some (apply_from d) (undo_from d) r p) ]) ]
 
 -- what is read as a request spells it
 pub request_takes : (d : Data) (r : Request) → request_from d ≡ Some r → IsRequest r d

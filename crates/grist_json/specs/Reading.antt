@@ -1,10 +1,10 @@
 -- How a request is read from JSON, member by member in the order of the keys.
-use Rattle.std.specs.Prelude.{ℕ, List, codes, Option, Some, None, if◌then◌else◌}
+use Rattle.std.specs.Prelude.{ℕ, ◌^◌, Bool, nat_lt, List, codes, Option, Some, None, if◌then◌else◌}
 use Rattle.std.specs.Str.{bytes_eq}
-use Rattle.serde_json.specs.Data.{Data}
+use Rattle.serde_json.specs.Data.{Num, unsigned, negative, float, Data, null, boolean, number, string, array, object}
 use Rattle.serde_json.specs.Find.{as_object}
 use Rattle.doc_model.specs.declared.request.Request.{Request}
-use Rattle.doc_model.specs.declared.request.Request.TheVariants.{Open, Apply, Sync, Close}
+use Rattle.doc_model.specs.declared.request.Request.TheVariants.{Open, Apply, Undo, Sync, Close}
 use Rattle.action_lines.specs.Steps.{◌>>=◌, or_else}
 use Rattle.action_lines.specs.Fields.{field, field_text, is_done}
 use Rattle.action_lines.specs.Actions.{actions_from}
@@ -39,6 +39,35 @@ apply_from d = do
       then (actions_from actions.0 >>= λ list. Some (Apply list)) else None)
       else None
 
+-- the number of a bundle fits 64 bits with a sign
+abbrev pub is_bundle : ℕ → Bool
+is_bundle n = nat_lt n (2 ^ 63)
+
+abbrev pub bundle_of_num : Num → Option ℕ
+bundle_of_num (unsigned n) = if is_bundle n then Some n else None
+bundle_of_num (negative z) = None
+bundle_of_num (float x) = None
+
+-- the number of a bundle that the JSON is
+abbrev pub bundle_from : Data → Option ℕ
+bundle_from null = None
+bundle_from (boolean b) = None
+bundle_from (number n) = bundle_of_num n
+bundle_from (string s) = None
+bundle_from (array ds) = None
+bundle_from (object ms) = None
+
+unfoldable pub undo_from : Data → Option Request
+undo_from d = do
+  fields ← as_object d
+  bundle ← field (codes "bundle") fields
+  method ← field_text (codes "method") bundle.1
+  if is_done method.1
+      then (if bytes_eq method.0 (codes "undo")
+      then (bundle_from bundle.0 >>= λ n. Some (Undo n)) else None)
+      else None
+
 -- at most one of the forms fits
 unfoldable pub request_from : Data → Option Request
-request_from d = or_else (open_from d) (or_else (bare_from d) (apply_from d))
+request_from d =
+    or_else (open_from d) (or_else (bare_from d) (or_else (apply_from d) (undo_from d)))

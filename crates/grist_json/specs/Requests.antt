@@ -1,13 +1,13 @@
 -- Which JSON spells a request.
-use Rattle.std.specs.Prelude.{◌≡◌, ℕ, List, codes, Option, Some, None, Result, Ok, Err, option_and_then}
-use Rattle.serde_json.specs.Data.{Data, object, string, no_members, member}
+use Rattle.std.specs.Prelude.{◌≡◌, ℕ, true, List, codes, Option, Some, None, Result, Ok, Err, option_and_then}
+use Rattle.serde_json.specs.Data.{Data, number, unsigned, object, string, no_members, member}
 use Rattle.doc_model.specs.declared.request.Request.{Request}
 use Rattle.doc_model.specs.declared.request.Request.TheVariants.{Bad, TooLong, Open, Apply, Undo, Sync, Fetch, Close, Gone}
 use Rattle.grist_json.specs.declared.requests.ReadFault.{ReadFault}
 use Rattle.grist_json.specs.declared.requests.ReadFault.TheVariants.{BadLine, NoMemory}
 use Rattle.grist_json.specs.Json.{json_at, SpellsBy}
 use Rattle.action_lines.specs.Actions.{AreActions}
-use Rattle.grist_json.specs.Reading.{request_from}
+use Rattle.grist_json.specs.Reading.{is_bundle, request_from}
 
 -- {"method":"openDoc","token":text}
 abbrev pub open_data : List ℕ → Data
@@ -25,6 +25,12 @@ apply_data actions =
     object (member (codes "actions") actions
     (member (codes "method") (string (codes "applyUserActions")) no_members))
 
+-- {"bundle":n,"method":"undo"}
+abbrev pub undo_data : ℕ → Data
+undo_data bundle =
+    object (member (codes "bundle") (number (unsigned bundle))
+    (member (codes "method") (string (codes "undo")) no_members))
+
 -- the JSON that spells a request
 abbrev pub IsRequest : Request → Data → Type 0
 IsRequest (Open token) d = d ≡ open_data token
@@ -33,7 +39,7 @@ IsRequest Sync d = d ≡ bare_data (codes "sync")
 IsRequest Close d = d ≡ bare_data (codes "closeDoc")
 IsRequest Bad d = ⊥
 IsRequest TooLong d = ⊥
-IsRequest (Undo bundle) d = ⊥
+IsRequest (Undo bundle) d = (is_bundle bundle ≡ true) × (d ≡ undo_data bundle)
 IsRequest (Fetch table) d = ⊥
 IsRequest Gone d = ⊥
 

@@ -2,7 +2,7 @@
 ghost use Rattle.std.specs.Prelude.{◌≡◌, true, IfOk, Err};
 ghost use Rattle.serde_json.specs.View.{view};
 ghost use Rattle.grist_json.specs.Requests.{Spells, IsRead, request_at};
-ghost use Rattle.grist_json.specs.Reading.{open_from, word_from, bare_from, apply_from, request_from};
+ghost use Rattle.grist_json.specs.Reading.{open_from, word_from, bare_from, apply_from, bundle_from, undo_from, request_from};
 ghost use Rattle.doc_model.specs.declared.request.Request.{Request};
 ghost use Rattle.doc_model.specs.WellFormed.{asks_well_formed};
 
@@ -97,6 +97,33 @@ fn apply_of(alloc: Global, value: &Value) -> Result<Option<Request>, AllocError>
     Ok(Some(Request::Apply { actions }))
 }
 
+// The number of a bundle: a whole number from 0 that fits 64 bits with a sign.
+fn bundle_of(value: &Value) -> Option<u64>
+    ensures { result ≡ bundle_from (view value.now) }
+{
+    match value.as_u64() {
+        Some(number) if number < 1 << 63 => Some(number),
+        _ => None,
+    }
+}
+
+#[tactic(auto, unfolding(crate::specs::Reading::undo_from))]
+fn undo_of(value: &Value) -> Option<Request>
+    ensures { result ≡ undo_from (view value.now) }
+{
+    let mut fields = Fields::of(value)?;
+    let bundle = fields.take("bundle")?;
+    let method = fields.take_text("method")?;
+    if !fields.is_done() {
+        return None;
+    }
+    if method != "undo" {
+        return None;
+    }
+    let bundle = bundle_of(bundle)?;
+    Some(Request::Undo { bundle })
+}
+
 // The request that the JSON spells. At most one of the forms fits.
 #[tactic(auto, unfolding(crate::specs::Reading::request_from))]
 pub(crate) fn request_of(alloc: Global, value: &Value) -> Result<Option<Request>, AllocError>
@@ -108,7 +135,10 @@ pub(crate) fn request_of(alloc: Global, value: &Value) -> Result<Option<Request>
     if let Some(request) = bare_of(value) {
         return Ok(Some(request));
     }
-    apply_of(alloc, value)
+    if let Some(request) = apply_of(alloc, value)? {
+        return Ok(Some(request));
+    }
+    Ok(undo_of(value))
 }
 
 #[tactic(auto, unfolding(crate::specs::Requests::request_at))]

@@ -14,6 +14,8 @@ const REQUESTS: &str = concat!(
   {"token":"", "method":"openDoc"}  => Open { token: CellText { text: "" } }
 {"method":"sync"} => Sync
 {"method":"closeDoc"} => Close
+{"bundle":0,"method":"undo"} => Undo { bundle: 0 }
+{"method":"undo","bundle":9223372036854775807} => Undo { bundle: 9223372036854775807 }
 {"actions":[],"method":"applyUserActions"} => Apply { actions: Sequence { items: [] } }
 {"method":"applyUserActions","actions":[["AddRecord","T",null,{"A":1.5,"B":7,"A":2}],"#,
     r#"["RemoveTable","U"]]} => Apply { actions: Sequence { items: [Add { table: CellText { "#,
@@ -25,7 +27,13 @@ const REQUESTS: &str = concat!(
 
 // The first is the empty line.
 const NO_REQUESTS: &str = r#"
-{"bundle":1,"method":"undo"}
+{"bundle":9223372036854775808,"method":"undo"}
+{"bundle":-1,"method":"undo"}
+{"bundle":1.5,"method":"undo"}
+{"bundle":"1","method":"undo"}
+{"bundle":1,"method":"redo"}
+{"bundle":1,"method":"undo","x":1}
+{"method":"undo"}
 {"method":"fetchTable","table":"Table1"}
 {"method":"sync"} x
 {"method":"openDoc","token":"t","x":1e999}
@@ -357,6 +365,7 @@ enum Reply {
     Done,
     NoChanges,
     Bundle,
+    Undone,
     Refused(Refusal, Option<u32>),
     Limited,
     Denied,
@@ -397,6 +406,7 @@ fn verdict_of(alloc: Global, reply: Reply) -> Result<Verdict, AllocError> {
             number: 3,
             values: bundle_values(alloc)?,
         }),
+        Reply::Undone => Ok(Verdict::Undone { number: 4 }),
         Reply::Refused(refusal, action) => Ok(Verdict::Refused { refusal, action }),
         Reply::Limited => Ok(Verdict::Limited {
             what: LimitKind::RowId,
@@ -421,9 +431,10 @@ fn is_reply(alloc: Global, reply: Reply, want: &str) -> bool {
     is_printed(alloc, &verdict_of(alloc, reply), want)
 }
 
-static REPLIES: [(Reply, &str); 3] = [
+static REPLIES: [(Reply, &str); 4] = [
     (Reply::Done, r#"{"ok":null}"#),
     (Reply::NoChanges, r#"{"ok":{"actions":[]}}"#),
+    (Reply::Undone, r#"{"ok":{"bundle":4}}"#),
     (
         Reply::Bundle,
         r#"{"ok":{"bundle":3,"retValues":[null,[1,null],"T2"]}}"#,
@@ -437,10 +448,18 @@ fn printed_replies(rt: HostRuntime) {
     }
 }
 
-static REFUSALS: [(Reply, &str); 4] = [
+static REFUSALS: [(Reply, &str); 6] = [
     (
         Reply::Refused(Refusal::BadLine, None),
         r#"{"error":{"code":1,"name":"BadLine"}}"#,
+    ),
+    (
+        Reply::Refused(Refusal::NoSuchBundle, None),
+        r#"{"error":{"code":16,"name":"NoSuchBundle"}}"#,
+    ),
+    (
+        Reply::Refused(Refusal::AlreadyUndone, None),
+        r#"{"error":{"code":17,"name":"AlreadyUndone"}}"#,
     ),
     (
         Reply::Refused(Refusal::UndoStale, Some(9)),

@@ -52,7 +52,7 @@ returns-in_default-request g c =
     let h = (get_or xs c.args.index d).holder in
     let quick : (get_or xs c.args.index d).lagging ≡ false = ap (λ (z : SessionState). z.lagging) (sym c.index.ensures) ∙ sym c.is_lagging.ensures ∙ c.if-is_lagging.false in
     let comes = comes_open c.args.users.now s xs c.args.index e c.requires.finds d _ quick
-    (λ l. code_sync (state_of s l) h e.kept e.request (sym c.refusal_open.ensures ∙ c.in_default.is) c.requires.stays (λ actions is. c.in_default-request.not-Apply actions is) c.in_default-request.not-Close) in
+    (λ l. code_sync (state_of s l) h e.kept e.request (sym c.refusal_open.ensures ∙ c.in_default.is) c.requires.stays (λ actions is. c.in_default-request.not-Apply actions is) (λ number is. c.in_default-request.not-Undo number is) c.in_default-request.not-Close) in
     record {
       ok = IfOk-weaker c.stay-in_default-request.result _ _ (λ v kept. find_stays c.args.users.now s xs c.args.index e c.requires.finds d Done _ v.items c.requires.whole comes kept) c.stay-in_default-request.ensures.ok;
       whole = c.requires.whole;

@@ -87,7 +87,7 @@ pub with_before-accepted : (xs : List Step) (ms : List Created) (s : Document) �
 with_before-accepted xs ms s = ap (λ l. accepted s l (ms ++ [])) (append-nil xs) ∙ ap (accepted s xs) (append-nil ms)
 
 -- nothing stands before it
-with_before-nothing : (j : Judgement) → j ≡ with_before [] [] j
+pub with_before-nothing : (j : Judgement) → j ≡ with_before [] [] j
 with_before-nothing (accepted s steps later) = refl
 with_before-nothing (refused v) = refl
 

@@ -86,6 +86,11 @@ with_before-both xs ys ms ns (refused v) = refl
 pub with_before-accepted : (xs : List Step) (ms : List Created) (s : Document) → with_before xs ms (accepted s [] []) ≡ accepted s xs ms
 with_before-accepted xs ms s = ap (λ l. accepted s l (ms ++ [])) (append-nil xs) ∙ ap (accepted s xs) (append-nil ms)
 
+-- nothing stands before it
+pub with_before-nothing : (j : Judgement) → j ≡ with_before [] [] j
+with_before-nothing (accepted s steps later) = refl
+with_before-nothing (refused v) = refl
+
 -- a bundle of few enough actions is judged from its first action on
 pub judge-from : (user : User) (s : Document) (requested : List UserAction) → length requested ≤ 2000 → judge user s requested ≡ judge_from user s 0 requested
 judge-from user s requested few =
@@ -99,7 +104,7 @@ judge-many user s requested many =
 module _ (user : User) (start : Document) (requested : List UserAction) where
   -- nothing is judged yet
   pub at_start : (tally : Tally) → IsTally start tally → IsAt user start requested 0 start [] [] [] tally
-  at_start tally is = record { done_so_far = refl; valid = refl; may = record { valid = refl; counts = is }; judged = refl }
+  at_start tally is = record { done_so_far = refl; valid = refl; may = record { valid = refl; counts = is }; judged = with_before-nothing (judge_from user start 0 requested) }
 
   module _ (i : ℕ) (s : Document) (done next : List Step) (created : List Created) (tally : Tally) (h : IsAt user start requested i s done next created tally) where
     actions_then : map action_of (done ++ next) ≡ map action_of done ++ map action_of next

@@ -18,4 +18,7 @@ pub mod ToldLaws
 pub mod ViewLaws
 pub mod RollbackLemmas
 pub mod StepLemmas
+pub mod DoneBundles
+pub mod TurnLaws
+pub mod UndoLaws
 pub mod UndoneLemmas

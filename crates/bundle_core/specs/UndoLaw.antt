@@ -1,16 +1,21 @@
 -- An undo that comes next takes its bundle back.
-use Rattle.std.specs.Prelude.{ℕ, ⊥, true, false, ◌≡◌, ◌++◌, List, [], ◌∷◌, Option, Some, None}
+use Rattle.std.specs.Prelude.{ℕ, Bool, true, ◌&&◌, ◌^◌, ◌≡◌, ◌++◌, nat_le, List, [], ◌∷◌, Option, Some, None}
 use Rattle.std.specs.List.{list_all}
 use Rattle.doc_model.specs.declared.entry.Entry.{Entry}
 use Rattle.doc_model.specs.declared.refusal.Refusal.TheVariants.{UndoStale}
-use Rattle.doc_model.specs.declared.request.Request.TheVariants.{Undo}
+use Rattle.doc_model.specs.declared.request.Request.{Request}
+use Rattle.doc_model.specs.declared.request.Request.TheVariants.{Apply, Undo}
 use Rattle.doc_model.specs.declared.user.User.{User}
+use Rattle.doc_model.specs.declared.user_action.UserAction.{UserAction}
+use Rattle.doc_model.specs.Counts.{over}
 use Rattle.doc_model.specs.Document.{Document}
 use Rattle.doc_model.specs.DocumentLaws.{IsWhole}
-use Rattle.doc_model.specs.WellFormed.{asks_well_formed}
+use Rattle.doc_model.specs.NewDocument.{new_document}
+use Rattle.doc_model.specs.WellFormed.{is_well_formed}
+use Rattle.user_actions.specs.FreshIds.{new_columns_of}
 use Rattle.bundle_core.specs.declared.bare_verdict.BareVerdict.TheVariants as verdict
 use Rattle.bundle_core.specs.Mailbox.{Outcome, says}
-use Rattle.bundle_core.specs.State.{State, opening, records_kept, run, step, verdicts}
+use Rattle.bundle_core.specs.State.{State, Verdicts, opening, records_kept, run, step, verdicts}
 
 -- the number that a session is told of its accepted bundle
 abbrev pub number_told : Outcome → Option ℕ
@@ -29,23 +34,34 @@ pub record IsUndoNext (users : List User) (st : State) (e : Entry) (between : Li
   pub own : u.session ≡ e.session
   pub asks : u.request ≡ Undo number
 
--- the document is that of the state before, its evaluated cells too, where the undo is accepted,
--- and it is not refused as stale
-pub record UndoesNext (users : List User) (st : State) (e : Entry) (between : List Entry)
-    (u : Entry) : Type 0 where
-  pub restores : (verdicts users (run users (step users st e) between) u).is_bundle ≡ true
-      → (verdicts users (run users (step users st e) between) u).document ≡ st.document
-  pub not_stale : (at : Option ℕ)
-      → (verdicts users (run users (step users st e) between) u).outcome
-      ≡ says (verdict.Refused UndoStale at) → ⊥
+-- the document is this one, its evaluated cells too, where the undo is accepted, and it is not
+-- refused as stale
+pub record LeadsBackTo (s : Document) (v : Verdicts) : Type 0 where
+  pub restores : v.is_bundle ≡ true → v.document ≡ s
+  pub not_stale : (at : Option ℕ) → v.outcome ≡ says (verdict.Refused UndoStale at) → ⊥
 
-abbrev pub entry_is_well_formed : Entry → _
-entry_is_well_formed e = asks_well_formed e.request
+-- whether an action is well formed, and a table that it makes has at most 2^60 columns: for more of
+-- them there may be no free names, and no line has room for so many
+abbrev pub may_be_asked : UserAction → Bool
+may_be_asked a = is_well_formed a && nat_le (new_columns_of a) (2 ^ 60)
 
--- in every history from every whole document
+-- whether a request asks for such actions alone
+abbrev pub asks_so : Request → Bool
+asks_so (Apply actions) = list_all may_be_asked actions
+asks_so _ = true
+
+abbrev pub entry_asks_so : Entry → Bool
+entry_asks_so e = asks_so e.request
+
+-- in every history from every whole document that passes no limit, so that there are free names
 abbrev pub UndoLaw : Type 0
 UndoLaw =
     (users : List User) (s : Document) (history : List Entry) (e : Entry) (between : List Entry)
-    (u : Entry) → IsWhole s → list_all entry_is_well_formed (history ++ e ∷ []) ≡ true
-    → IsUndoNext users (run users (opening s) history) e between u
-    → UndoesNext users (run users (opening s) history) e between u
+    (u : Entry) → IsWhole s → over s ≡ None → list_all entry_asks_so (history ++ e ∷ []) ≡ true
+    → (let before = run users (opening s) history in
+    let last = run users (step users before e) between in
+    IsUndoNext users before e between u → LeadsBackTo before.document (verdicts users last u))
+
+-- the new document is such a one
+abbrev pub NewDocumentHasRoom : Type 0
+NewDocumentHasRoom = over new_document ≡ None

@@ -1,6 +1,10 @@
 //! Laws of histories.
 
 ghost use Rattle.bundle_core.specs.Told.{EqualBytesLaw, IsolationLaw};
+ghost use Rattle.bundle_core.specs.UndoLaw.{NewDocumentHasRoom, UndoLaw};
+
+use user_actions::steps_law;
+use view_parts::allowed_law;
 
 /// A session is given exactly what its own requests, verdicts and views tell.
 pub fn isolation_law()
@@ -11,3 +15,14 @@ pub fn isolation_law()
 pub fn equal_bytes_law()
     ensures { EqualBytesLaw }
 {}
+
+/// Where an accepted bundle is undone by its session with no other accepted bundle between, the
+/// document is that before the bundle, and the undo is not refused as stale: in every history from
+/// every whole document that passes no limit, as the new one does.
+pub fn undo_law()
+    ensures undoes { UndoLaw }
+    ensures new { NewDocumentHasRoom }
+{
+    allowed_law();
+    steps_law();
+}

@@ -11,6 +11,8 @@
 //! entry; a full history and running out of memory change nothing, and a session that goes away
 //! takes no memory. `isolation_law`: a session is given exactly what its own requests, verdicts and
 //! views tell; `equal_bytes_law`: histories that it observes alike give it equal bytes.
+//! `undo_law`: where no other bundle was accepted since, an undo of a session's bundle is never
+//! stale, and where it is accepted the document is that before the bundle.
 //! Not built yet: undo and fetching a table, access rules.
 //! Costs: a bundle costs what its actions touch, where there are formulas the evaluation of the
 //! document after each action, all of it twice, and a line for each session. A session's index is
@@ -36,5 +38,5 @@ mod undoing;
 mod view_changes;
 
 pub use history_core::{Answer, Core, LineList, MAX_ENTRIES, MAX_HISTORY_BYTES};
-pub use laws::{equal_bytes_law, isolation_law};
+pub use laws::{equal_bytes_law, isolation_law, undo_law};
 pub use session::{MAX_WAITING_BYTES, MAX_WAITING_LINES};

@@ -80,15 +80,16 @@ fn of_column(alloc: Global, word: &str, table: &Name, column: &ViewCol) -> Resul
     array_with(head, info_value(alloc, column)?)
 }
 
-fn of_removed_column(alloc: Global, table: &Name, column: &Name) -> Result<Value, AllocError>
+/// A column that goes: ["RemoveColumn",table,column].
+pub fn of_removed_column(alloc: Global, table: &Name, column: &Name) -> Result<Value, AllocError>
     ensures { IfOk result (λ v. view v ≡ action_data (RemoveColumn table.now column.now)) }
 {
     let head = texts_of_two(alloc, "RemoveColumn", table.as_str())?;
     array_with(head, Value::try_from_str(alloc, column.as_str())?)
 }
 
-// Rows with the values of columns: [word,table,rows,columns].
-fn of_cells(
+/// Rows with the values of columns: [word,table,rows,columns].
+pub fn of_cells(
     alloc: Global,
     word: &str,
     table: &Name,
@@ -110,13 +111,15 @@ fn of_new_table(alloc: Global, table: &Name, columns: &ViewColList) -> Result<Va
     array_with(head, infos_value(alloc, columns.as_slice())?)
 }
 
-fn of_removed_table(alloc: Global, table: &Name) -> Result<Value, AllocError>
+/// A table that goes: ["RemoveTable",table].
+pub fn of_removed_table(alloc: Global, table: &Name) -> Result<Value, AllocError>
     ensures { IfOk result (λ v. view v ≡ action_data (RemoveTable table.now)) }
 {
     Ok(Value::Array(texts_of_two(alloc, "RemoveTable", table.as_str())?))
 }
 
-fn of_removed_rows(alloc: Global, table: &Name, rows: &RowList) -> Result<Value, AllocError>
+/// Rows that go: ["BulkRemoveRecord",table,rows].
+pub fn of_removed_rows(alloc: Global, table: &Name, rows: &RowList) -> Result<Value, AllocError>
     ensures { IfOk result (λ v. view v ≡ action_data (BulkRemove table.now rows.now)) }
 {
     let head = texts_of_two(alloc, "BulkRemoveRecord", table.as_str())?;

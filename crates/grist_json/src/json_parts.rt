@@ -31,11 +31,7 @@ pub(crate) fn texts_of_one(alloc: Global, text: &str) -> Result<Vec<Value>, Allo
 }
 
 /// The list of two texts.
-pub fn texts_of_two(
-    alloc: Global,
-    first: &str,
-    second: &str,
-) -> Result<Vec<Value>, AllocError>
+pub fn texts_of_two(alloc: Global, first: &str, second: &str) -> Result<Vec<Value>, AllocError>
     ensures { IfOk result (λ l. map view l.items ≡ string first.now ∷ string second.now ∷ []) }
 {
     let list = texts_of_one(alloc, first)?;

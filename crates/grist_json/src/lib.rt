@@ -33,7 +33,9 @@ pub use json_text::json_of;
 pub use laws::{frame_law, one_reading_law};
 pub use line::Line;
 pub use numbers::whole_of;
-pub use printed_actions::{of_cells, of_removed_column, of_removed_rows, of_removed_table};
+pub use printed_actions::{
+    cells_action, removed_column_action, removed_rows_action, removed_table_action,
+};
 pub use requests::{ReadFault, read_request};
 pub use users::{UserLine, read_user};
 pub use writers::{write_frame, write_reply, write_stream};

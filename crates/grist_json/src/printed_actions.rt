@@ -81,7 +81,11 @@ fn of_column(alloc: Global, word: &str, table: &Name, column: &ViewCol) -> Resul
 }
 
 /// A column that goes: ["RemoveColumn",table,column].
-pub fn of_removed_column(alloc: Global, table: &Name, column: &Name) -> Result<Value, AllocError>
+pub fn removed_column_action(
+    alloc: Global,
+    table: &Name,
+    column: &Name,
+) -> Result<Value, AllocError>
     ensures { IfOk result (λ v. view v ≡ action_data (RemoveColumn table.now column.now)) }
 {
     let head = texts_of_two(alloc, "RemoveColumn", table.as_str())?;
@@ -89,7 +93,7 @@ pub fn of_removed_column(alloc: Global, table: &Name, column: &Name) -> Result<V
 }
 
 /// Rows with the values of columns: [word,table,rows,columns].
-pub fn of_cells(
+pub fn cells_action(
     alloc: Global,
     word: &str,
     table: &Name,
@@ -112,14 +116,14 @@ fn of_new_table(alloc: Global, table: &Name, columns: &ViewColList) -> Result<Va
 }
 
 /// A table that goes: ["RemoveTable",table].
-pub fn of_removed_table(alloc: Global, table: &Name) -> Result<Value, AllocError>
+pub fn removed_table_action(alloc: Global, table: &Name) -> Result<Value, AllocError>
     ensures { IfOk result (λ v. view v ≡ action_data (RemoveTable table.now)) }
 {
     Ok(Value::Array(texts_of_two(alloc, "RemoveTable", table.as_str())?))
 }
 
 /// Rows that go: ["BulkRemoveRecord",table,rows].
-pub fn of_removed_rows(alloc: Global, table: &Name, rows: &RowList) -> Result<Value, AllocError>
+pub fn removed_rows_action(alloc: Global, table: &Name, rows: &RowList) -> Result<Value, AllocError>
     ensures { IfOk result (λ v. view v ≡ action_data (BulkRemove table.now rows.now)) }
 {
     let head = texts_of_two(alloc, "BulkRemoveRecord", table.as_str())?;
@@ -131,9 +135,9 @@ fn action_value(alloc: Global, action: &ViewAction) -> Result<Value, AllocError>
 {
     match action {
         ViewAction::AddTable { table, columns } => of_new_table(alloc, table, columns),
-        ViewAction::RemoveTable { table } => of_removed_table(alloc, table),
+        ViewAction::RemoveTable { table } => removed_table_action(alloc, table),
         ViewAction::AddColumn { table, column } => of_column(alloc, "AddColumn", table, column),
-        ViewAction::RemoveColumn { table, column } => of_removed_column(alloc, table, column),
+        ViewAction::RemoveColumn { table, column } => removed_column_action(alloc, table, column),
         ViewAction::ModifyColumn { table, column } => {
             of_column(alloc, "ModifyColumn", table, column)
         }
@@ -141,13 +145,13 @@ fn action_value(alloc: Global, action: &ViewAction) -> Result<Value, AllocError>
             table,
             rows,
             columns,
-        } => of_cells(alloc, "BulkAddRecord", table, rows, columns),
+        } => cells_action(alloc, "BulkAddRecord", table, rows, columns),
         ViewAction::BulkUpdate {
             table,
             rows,
             columns,
-        } => of_cells(alloc, "BulkUpdateRecord", table, rows, columns),
-        ViewAction::BulkRemove { table, rows } => of_removed_rows(alloc, table, rows),
+        } => cells_action(alloc, "BulkUpdateRecord", table, rows, columns),
+        ViewAction::BulkRemove { table, rows } => removed_rows_action(alloc, table, rows),
     }
 }
 

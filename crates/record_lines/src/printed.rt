@@ -10,8 +10,8 @@ ghost use Rattle.record_lines.specs.Printed.{doc_action_data, doc_actions_data, 
 use cell_types::Name;
 use doc_model::{ColDef, ColDefList, ColInfo, DocAction, DocActionList, type_text};
 use grist_json::{
-    array_with, of_cells, of_removed_column, of_removed_rows, of_removed_table, texts_of_two, with,
-    with_member,
+    array_with, cells_action, removed_column_action, removed_rows_action, removed_table_action,
+    texts_of_two, with, with_member,
 };
 use serde_json::{Map, Value};
 use std::alloc::{AllocError, Global};
@@ -130,22 +130,22 @@ fn action_value(alloc: Global, action: &DocAction) -> Result<Value, AllocError>
             table,
             rows,
             columns,
-        } => of_cells(alloc, "BulkAddRecord", table, rows, columns),
+        } => cells_action(alloc, "BulkAddRecord", table, rows, columns),
         DocAction::BulkUpdate {
             table,
             rows,
             columns,
-        } => of_cells(alloc, "BulkUpdateRecord", table, rows, columns),
-        DocAction::BulkRemove { table, rows } => of_removed_rows(alloc, table, rows),
+        } => cells_action(alloc, "BulkUpdateRecord", table, rows, columns),
+        DocAction::BulkRemove { table, rows } => removed_rows_action(alloc, table, rows),
         DocAction::AddTable {
             table,
             row,
             columns,
         } => of_new_table(alloc, table, *row, columns),
-        DocAction::RemoveTable { table } => of_removed_table(alloc, table),
+        DocAction::RemoveTable { table } => removed_table_action(alloc, table),
         DocAction::RenameTable { table, new } => of_renamed_table(alloc, table, new),
         DocAction::AddColumn { table, column } => of_new_column(alloc, table, column),
-        DocAction::RemoveColumn { table, column } => of_removed_column(alloc, table, column),
+        DocAction::RemoveColumn { table, column } => removed_column_action(alloc, table, column),
         DocAction::RenameColumn { table, column, new } => {
             of_renamed_column(alloc, table, column, new)
         }

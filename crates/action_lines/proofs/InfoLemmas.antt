@@ -18,11 +18,11 @@ parted_by true k l d ms same = ap (λ x. member x d ms) (same refl)
 parted_by false k l d ms same = refl
 
 -- the members are the value that was taken, if one was, and those behind it
-optional_takes : (k : List ℕ) (ms : Members) → ms ≡ put_front k (optional k ms).0 (optional k ms).1
+pub optional_takes : (k : List ℕ) (ms : Members) → ms ≡ put_front k (optional k ms).0 (optional k ms).1
 optional_takes k no_members = refl
 optional_takes k (member l d ms) = parted_by (bytes_eq l k) k l d ms (same_text l k)
 
-bool_takes : (d : Data) (b : Bool) → as_bool d ≡ Some b → d ≡ boolean b
+pub bool_takes : (d : Data) (b : Bool) → as_bool d ≡ Some b → d ≡ boolean b
 bool_takes null b e = (cc)
 bool_takes (boolean c) b e = (cc)
 bool_takes (number n) b e = (cc)

@@ -85,7 +85,7 @@ fn columns_of(
 
 /// The columns that an object names, each with a value for each row.
 #[tactic(auto, unfolding(crate::specs::Columns::columns_in))]
-pub(crate) fn columns_in(
+pub fn columns_in(
     alloc: Global,
     single: bool,
     count: usize,

@@ -73,7 +73,7 @@ impl<'a> Items<'a> {
 
     /// The one item that is left, where there is one alone and it is a text.
     #[tactic(auto, unfolding(crate::specs::Items::only_text))]
-    pub(crate) fn only_text(self) -> Option<&'a str>
+    pub fn only_text(self) -> Option<&'a str>
         ensures { option_map (λ t. t.now) result ≡ only_text (items_view self.entry.left.now) }
     {
         match self.only() {
@@ -84,7 +84,7 @@ impl<'a> Items<'a> {
 
     /// The two items that are left, where there are two alone and the first is a text.
     #[tactic(auto, unfolding(crate::specs::Items::text_beside))]
-    pub(crate) fn text_beside(self) -> Option<(&'a str, &'a Value)>
+    pub fn text_beside(self) -> Option<(&'a str, &'a Value)>
         ensures { option_map (λ p. (p.0.now, view p.1.now)) result
             ≡ text_beside (items_view self.entry.left.now) }
     {

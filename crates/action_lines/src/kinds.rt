@@ -4,7 +4,7 @@ ghost use Rattle.action_lines.specs.Kinds.{kind_from};
 
 /// What stands first in the array of a user action.
 #[derive(Clone, Copy)]
-pub(crate) enum ActionKind {
+pub enum ActionKind {
     AddRecord,
     BulkAddRecord,
     UpdateRecord,
@@ -21,7 +21,7 @@ pub(crate) enum ActionKind {
 }
 
 /// The kind of that word.
-pub(crate) fn kind_of(text: &str) -> Option<ActionKind>
+pub fn kind_of(text: &str) -> Option<ActionKind>
     ensures { result ≡ kind_from text.now }
 {
     match text {

@@ -1,7 +1,8 @@
 //! User actions, as lines of JSON spell them.
 //!
 //! Stands on `doc_model` and `cell_types` (what is read) and `serde_json` (JSON that was read of a
-//! text). Used by `grist_json`, which reads whole lines.
+//! text). Used by `grist_json`, which reads whole lines, and `record_lines`, which reads what is
+//! kept of bundles.
 //!
 //! Promises: `read_actions` answers the actions that the JSON stands for, and nothing exactly where
 //! it stands for none; JSON stands for at most one list of actions, and each is well formed.
@@ -25,6 +26,9 @@ mod spelled;
 mod values;
 
 pub use actions::read_actions;
+pub use columns::columns_in;
 pub use fields::Fields;
 pub use items::Items;
-pub use numbers::id_of;
+pub use kinds::{ActionKind, kind_of};
+pub use numbers::{id_of, row_of};
+pub use spelled::{Spelled, read_given};

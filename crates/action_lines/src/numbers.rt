@@ -29,7 +29,7 @@ pub fn id_of(value: &Value) -> Option<i64>
 }
 
 /// A row id: a whole number from 0 that fits 32 bits.
-pub(crate) fn row_of(value: &Value) -> Option<u32>
+pub fn row_of(value: &Value) -> Option<u32>
     ensures { result ≡ row_from (view value.now) }
 {
     match value.as_u64() {

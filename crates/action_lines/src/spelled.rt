@@ -10,7 +10,7 @@ use serde_json::Value;
 use std::alloc::{AllocError, Global};
 
 /// A thing that JSON stands for.
-pub(crate) trait Spelled: Drop + Sized {
+pub trait Spelled: Drop + Sized {
     /// The thing that the JSON stands for.
     ghost from: { Data → Option Self };
 
@@ -38,7 +38,7 @@ pub(crate) fn read_all<T: Spelled>(
 }
 
 /// Reads one thing, or else the things of an array.
-pub(crate) fn read_given<T: Spelled>(
+pub fn read_given<T: Spelled>(
     alloc: Global,
     single: bool,
     value: &Value,

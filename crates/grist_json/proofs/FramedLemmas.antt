@@ -12,7 +12,7 @@ use Rattle.json.proofs.Printed.Tokens.{print_from-append, tokens-print}
 use Rattle.json.proofs.Printed.Trees.{ArePrintable-json_tokens, value-json_tokens}
 use Rattle.serde_json.specs.Data.{Data, null, boolean, number, string, array, object, Items, no_items, item, Members, no_members, member, depth, items_depth, members_depth}
 use Rattle.serde_json.specs.Read.{of_json, max_depth, read}
-use Rattle.serde_json.specs.Written.{outline, items_outline, members_outline, blank, blank_items, blank_members, IsInOrder}
+use Rattle.serde_json.specs.Written.{outline, items_outline, members_outline, blank, blank_items, blank_members}
 use Rattle.grist_json.specs.Frames.{frame_data}
 use Rattle.grist_json.specs.Lines.{IsPrinted, frame_text}
 use Rattle.grist_json.proofs.JsonLemmas.{read_json_at}

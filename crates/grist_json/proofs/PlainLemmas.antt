@@ -39,7 +39,7 @@ pub record MembersFlat (n : ℕ) (ms : Members) : Type 0 where
   pub whole : members_have_float ms ≡ false
   pub low : members_depth ms ≤ n
 
-all_flat : {X : Type 0} (shown : X → Data) (n : ℕ) → ((x : X) → IsFlat n (shown x)) → (xs : List X) → AreFlat n (items_of (map shown xs))
+pub all_flat : {X : Type 0} (shown : X → Data) (n : ℕ) → ((x : X) → IsFlat n (shown x)) → (xs : List X) → AreFlat n (items_of (map shown xs))
 all_flat shown n h [] = record { whole = refl; low = omega arith }
 all_flat shown n h (x ∷ xs) =
     let here = h x in
@@ -50,7 +50,7 @@ int_flat : (z : ℤ) → IsFlat 0 (int_data z)
 int_flat (pos n) = record { whole = refl; low = omega arith }
 int_flat (negsuc n) = record { whole = refl; low = omega arith }
 
-row_flat : (n : ℕ) → IsFlat 0 (row_data n)
+pub row_flat : (n : ℕ) → IsFlat 0 (row_data n)
 row_flat n = record { whole = refl; low = omega arith }
 
 item_flat : (x : CellItem) → IsFlat 1 (item_data x)
@@ -111,7 +111,7 @@ fold_flat : (cs : List CellColumn) (ms : Members) → MembersFlat 3 ms → Membe
 fold_flat [] ms p = p
 fold_flat (c ∷ cs) ms p = fold_flat cs (put_column ms c) (put_flat 3 c.id (values_data c.values) ms (values_flat c.values) p)
 
-columns_flat : (cs : List CellColumn) → IsFlat 4 (columns_data cs)
+pub columns_flat : (cs : List CellColumn) → IsFlat 4 (columns_data cs)
 columns_flat cs =
     let all = fold_flat cs no_members (record { whole = refl; low = omega arith }) in
     record { whole = all.whole; low = omega (arith, all.low) }

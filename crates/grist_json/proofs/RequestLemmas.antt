@@ -12,7 +12,7 @@ use Rattle.action_lines.proofs.StepLemmas.{bind_some, guard_some, guard_then, or
 use Rattle.action_lines.proofs.FieldLemmas.{object_takes, same_text, field_takes, field_text_takes, done_takes}
 use Rattle.action_lines.proofs.ActionLemmas.{actions_take, actions_again}
 use Rattle.action_lines.proofs.WellFormedLemmas.{actions_formed}
-use Rattle.grist_json.specs.Reading.{open_from, word_from, bare_from, apply_from, is_bundle, bundle_of_num, bundle_from, undo_from, request_from}
+use Rattle.grist_json.specs.Reading.{open_from, word_from, bare_from, apply_from, is_whole, whole_of_num, whole_from, undo_from, request_from}
 use Rattle.grist_json.specs.Requests.{open_data, bare_data, apply_data, undo_data, IsRequest, Spells, request_at}
 use Rattle.grist_json.proofs.Exactly.{found_by, none_by, once_by}
 
@@ -77,20 +77,20 @@ apply_takes d r e =
     ∙ (λ i. member (codes "method") (string (same_text c.0.0 (codes "applyUserActions") named.0 i)) (done_takes c.0.1 done.0 i)))) in
     subst (λ x. IsRequest x d) (some_same (Apply list.0) r list.2) (b.0.0, actions_take b.0.0 list.0 list.1, whole)
 
-bundle_num_takes : (n : Num) (m : ℕ) → bundle_of_num n ≡ Some m → (is_bundle m ≡ true) × (number n ≡ number (unsigned m))
-bundle_num_takes (unsigned n) m e =
-    let g = guard_some (is_bundle n) n m e in
-    subst (λ (k : ℕ). (is_bundle k ≡ true) × (number (unsigned n) ≡ number (unsigned k))) g.1 (g.0, refl)
-bundle_num_takes (negative z) m e = absurd (cc)
-bundle_num_takes (float x) m e = absurd (cc)
+whole_num_takes : (n : Num) (m : ℕ) → whole_of_num n ≡ Some m → (is_whole m ≡ true) × (number n ≡ number (unsigned m))
+whole_num_takes (unsigned n) m e =
+    let g = guard_some (is_whole n) n m e in
+    subst (λ (k : ℕ). (is_whole k ≡ true) × (number (unsigned n) ≡ number (unsigned k))) g.1 (g.0, refl)
+whole_num_takes (negative z) m e = absurd (cc)
+whole_num_takes (float x) m e = absurd (cc)
 
-bundle_takes : (d : Data) (m : ℕ) → bundle_from d ≡ Some m → (is_bundle m ≡ true) × (d ≡ number (unsigned m))
-bundle_takes null m e = absurd (cc)
-bundle_takes (boolean b) m e = absurd (cc)
-bundle_takes (number n) m e = bundle_num_takes n m e
-bundle_takes (string s) m e = absurd (cc)
-bundle_takes (array ds) m e = absurd (cc)
-bundle_takes (object ms) m e = absurd (cc)
+pub whole_takes : (d : Data) (m : ℕ) → whole_from d ≡ Some m → (is_whole m ≡ true) × (d ≡ number (unsigned m))
+whole_takes null m e = absurd (cc)
+whole_takes (boolean b) m e = absurd (cc)
+whole_takes (number n) m e = whole_num_takes n m e
+whole_takes (string s) m e = absurd (cc)
+whole_takes (array ds) m e = absurd (cc)
+whole_takes (object ms) m e = absurd (cc)
 
 undo_takes : (d : Data) (r : Request) → undo_from d ≡ Some r → IsRequest r d
 unfolding undo_from
@@ -100,8 +100,8 @@ undo_takes d r e =
     let c = bind_some (field_text (codes "method") b.0.1) _ r b.2 in
     let done = guard_then (is_done c.0.1) _ r c.2 in
     let named = guard_then (bytes_eq c.0.0 (codes "undo")) _ r done.1 in
-    let n = bind_some (bundle_from b.0.0) _ r named.1 in
-    let bounded = bundle_takes b.0.0 n.0 n.1 in
+    let n = bind_some (whole_from b.0.0) _ r named.1 in
+    let bounded = whole_takes b.0.0 n.0 n.1 in
     let whole : d ≡ undo_data n.0 =
     object_takes d a.0 a.1
     ∙ ap object (field_takes (codes "bundle") a.0 b.0.0 b.0.1 b.1

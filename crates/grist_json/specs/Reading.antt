@@ -39,23 +39,23 @@ apply_from d = do
       then (actions_from actions.0 >>= λ list. Some (Apply list)) else None)
       else None
 
--- the number of a bundle fits 64 bits with a sign
-abbrev pub is_bundle : ℕ → Bool
-is_bundle n = nat_lt n (2 ^ 63)
+-- a number from 0 fits 64 bits with a sign
+abbrev pub is_whole : ℕ → Bool
+is_whole n = nat_lt n (2 ^ 63)
 
-abbrev pub bundle_of_num : Num → Option ℕ
-bundle_of_num (unsigned n) = if is_bundle n then Some n else None
-bundle_of_num (negative z) = None
-bundle_of_num (float x) = None
+abbrev pub whole_of_num : Num → Option ℕ
+whole_of_num (unsigned n) = if is_whole n then Some n else None
+whole_of_num (negative z) = None
+whole_of_num (float x) = None
 
--- the number of a bundle that the JSON is
-abbrev pub bundle_from : Data → Option ℕ
-bundle_from null = None
-bundle_from (boolean b) = None
-bundle_from (number n) = bundle_of_num n
-bundle_from (string s) = None
-bundle_from (array ds) = None
-bundle_from (object ms) = None
+-- the whole number from 0 that the JSON is
+abbrev pub whole_from : Data → Option ℕ
+whole_from null = None
+whole_from (boolean b) = None
+whole_from (number n) = whole_of_num n
+whole_from (string s) = None
+whole_from (array ds) = None
+whole_from (object ms) = None
 
 unfoldable pub undo_from : Data → Option Request
 undo_from d = do
@@ -64,7 +64,7 @@ undo_from d = do
   method ← field_text (codes "method") bundle.1
   if is_done method.1
       then (if bytes_eq method.0 (codes "undo")
-      then (bundle_from bundle.0 >>= λ n. Some (Undo n)) else None)
+      then (whole_from bundle.0 >>= λ n. Some (Undo n)) else None)
       else None
 
 -- at most one of the forms fits

@@ -1,5 +1,5 @@
 -- The JSON of replies.
-use Rattle.std.specs.Prelude.{ℕ, List, [], codes, Option, Some, None}
+use Rattle.std.specs.Prelude.{ℕ, List, codes, Option, Some, None}
 use Rattle.serde_json.specs.Data.{Data, null, number, unsigned, string, object, Members, no_members, member, put}
 use Rattle.doc_model.specs.declared.limit.LimitKind.{LimitKind}
 use Rattle.doc_model.specs.declared.limit.LimitKind.TheVariants as limit

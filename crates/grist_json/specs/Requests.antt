@@ -7,7 +7,7 @@ use Rattle.grist_json.specs.declared.requests.ReadFault.{ReadFault}
 use Rattle.grist_json.specs.declared.requests.ReadFault.TheVariants.{BadLine, NoMemory}
 use Rattle.grist_json.specs.Json.{json_at, SpellsBy}
 use Rattle.action_lines.specs.Actions.{AreActions}
-use Rattle.grist_json.specs.Reading.{is_bundle, request_from}
+use Rattle.grist_json.specs.Reading.{is_whole, request_from}
 
 -- {"method":"openDoc","token":text}
 abbrev pub open_data : List ℕ → Data
@@ -39,7 +39,7 @@ IsRequest Sync d = d ≡ bare_data (codes "sync")
 IsRequest Close d = d ≡ bare_data (codes "closeDoc")
 IsRequest Bad d = ⊥
 IsRequest TooLong d = ⊥
-IsRequest (Undo bundle) d = (is_bundle bundle ≡ true) × (d ≡ undo_data bundle)
+IsRequest (Undo bundle) d = (is_whole bundle ≡ true) × (d ≡ undo_data bundle)
 IsRequest (Fetch table) d = ⊥
 IsRequest Gone d = ⊥
 

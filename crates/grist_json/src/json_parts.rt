@@ -6,8 +6,8 @@ ghost use Rattle.serde_json.specs.View.{view, items_of, members_view};
 use serde_json::{Map, Value};
 use std::alloc::{AllocError, Global};
 
-// The list with one value more.
-pub(crate) fn with(list: Vec<Value>, value: Value) -> Result<Vec<Value>, AllocError>
+/// The list with one value more.
+pub fn with(list: Vec<Value>, value: Value) -> Result<Vec<Value>, AllocError>
     ensures { IfOk result (λ l. map view l.items ≡ map view list.items ++ view value ∷ []) }
 {
     let mut list = list;
@@ -15,8 +15,8 @@ pub(crate) fn with(list: Vec<Value>, value: Value) -> Result<Vec<Value>, AllocEr
     Ok(list)
 }
 
-// The array of the list with one value more.
-pub(crate) fn array_with(list: Vec<Value>, value: Value) -> Result<Value, AllocError>
+/// The array of the list with one value more.
+pub fn array_with(list: Vec<Value>, value: Value) -> Result<Value, AllocError>
     ensures { IfOk result (λ v.
         view v ≡ array (items_of (map view list.items ++ view value ∷ []))) }
 {
@@ -30,20 +30,16 @@ pub(crate) fn texts_of_one(alloc: Global, text: &str) -> Result<Vec<Value>, Allo
     with(Vec::new(alloc), Value::try_from_str(alloc, text)?)
 }
 
-// The list of two texts.
-pub(crate) fn texts_of_two(
-    alloc: Global,
-    first: &str,
-    second: &str,
-) -> Result<Vec<Value>, AllocError>
+/// The list of two texts.
+pub fn texts_of_two(alloc: Global, first: &str, second: &str) -> Result<Vec<Value>, AllocError>
     ensures { IfOk result (λ l. map view l.items ≡ string first.now ∷ string second.now ∷ []) }
 {
     let list = texts_of_one(alloc, first)?;
     with(list, Value::try_from_str(alloc, second)?)
 }
 
-// The members with one more.
-pub(crate) fn with_member(
+/// The members with one more.
+pub fn with_member(
     alloc: Global,
     members: Map<String, Value>,
     key: &str,

@@ -6,9 +6,9 @@ ghost use Rattle.grist_json.specs.Json.{json_at};
 use serde_json::{Category, Value};
 use std::alloc::{AllocError, Global};
 
-// The JSON that the bytes are the text of, if they are the text of any.
+/// The JSON that the bytes are the text of, or nothing where they are the text of none.
 #[tactic(auto, unfolding(crate::specs::Json::json_at))]
-pub(crate) fn json_of(alloc: Global, bytes: &[u8]) -> Result<Option<Value>, AllocError>
+pub fn json_of(alloc: Global, bytes: &[u8]) -> Result<Option<Value>, AllocError>
     ensures { IfOk result (λ o. option_map view o ≡ json_at bytes.now) }
 {
     match Value::from_slice(alloc, bytes) {

@@ -18,6 +18,7 @@ mod json_parts;
 mod json_text;
 mod laws;
 mod line;
+mod numbers;
 mod printed_actions;
 mod printed_replies;
 mod printed_values;
@@ -27,8 +28,14 @@ mod writers;
 
 pub use doc_model::{RetIdList, RetValue, RetValueList, Verdict};
 pub use frames::{Frame, read_frame};
+pub use json_parts::{array_with, texts_of_two, with, with_member};
+pub use json_text::json_of;
 pub use laws::{frame_law, one_reading_law};
 pub use line::Line;
+pub use numbers::whole_of;
+pub use printed_actions::{
+    cells_action, removed_column_action, removed_rows_action, removed_table_action,
+};
 pub use requests::{ReadFault, read_request};
 pub use users::{UserLine, read_user};
 pub use writers::{write_frame, write_reply, write_stream};

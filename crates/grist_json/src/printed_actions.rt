@@ -80,15 +80,20 @@ fn of_column(alloc: Global, word: &str, table: &Name, column: &ViewCol) -> Resul
     array_with(head, info_value(alloc, column)?)
 }
 
-fn of_removed_column(alloc: Global, table: &Name, column: &Name) -> Result<Value, AllocError>
+/// A column that goes: ["RemoveColumn",table,column].
+pub fn removed_column_action(
+    alloc: Global,
+    table: &Name,
+    column: &Name,
+) -> Result<Value, AllocError>
     ensures { IfOk result (λ v. view v ≡ action_data (RemoveColumn table.now column.now)) }
 {
     let head = texts_of_two(alloc, "RemoveColumn", table.as_str())?;
     array_with(head, Value::try_from_str(alloc, column.as_str())?)
 }
 
-// Rows with the values of columns: [word,table,rows,columns].
-fn of_cells(
+/// Rows with the values of columns: [word,table,rows,columns].
+pub fn cells_action(
     alloc: Global,
     word: &str,
     table: &Name,
@@ -110,13 +115,15 @@ fn of_new_table(alloc: Global, table: &Name, columns: &ViewColList) -> Result<Va
     array_with(head, infos_value(alloc, columns.as_slice())?)
 }
 
-fn of_removed_table(alloc: Global, table: &Name) -> Result<Value, AllocError>
+/// A table that goes: ["RemoveTable",table].
+pub fn removed_table_action(alloc: Global, table: &Name) -> Result<Value, AllocError>
     ensures { IfOk result (λ v. view v ≡ action_data (RemoveTable table.now)) }
 {
     Ok(Value::Array(texts_of_two(alloc, "RemoveTable", table.as_str())?))
 }
 
-fn of_removed_rows(alloc: Global, table: &Name, rows: &RowList) -> Result<Value, AllocError>
+/// Rows that go: ["BulkRemoveRecord",table,rows].
+pub fn removed_rows_action(alloc: Global, table: &Name, rows: &RowList) -> Result<Value, AllocError>
     ensures { IfOk result (λ v. view v ≡ action_data (BulkRemove table.now rows.now)) }
 {
     let head = texts_of_two(alloc, "BulkRemoveRecord", table.as_str())?;
@@ -128,9 +135,9 @@ fn action_value(alloc: Global, action: &ViewAction) -> Result<Value, AllocError>
 {
     match action {
         ViewAction::AddTable { table, columns } => of_new_table(alloc, table, columns),
-        ViewAction::RemoveTable { table } => of_removed_table(alloc, table),
+        ViewAction::RemoveTable { table } => removed_table_action(alloc, table),
         ViewAction::AddColumn { table, column } => of_column(alloc, "AddColumn", table, column),
-        ViewAction::RemoveColumn { table, column } => of_removed_column(alloc, table, column),
+        ViewAction::RemoveColumn { table, column } => removed_column_action(alloc, table, column),
         ViewAction::ModifyColumn { table, column } => {
             of_column(alloc, "ModifyColumn", table, column)
         }
@@ -138,13 +145,13 @@ fn action_value(alloc: Global, action: &ViewAction) -> Result<Value, AllocError>
             table,
             rows,
             columns,
-        } => of_cells(alloc, "BulkAddRecord", table, rows, columns),
+        } => cells_action(alloc, "BulkAddRecord", table, rows, columns),
         ViewAction::BulkUpdate {
             table,
             rows,
             columns,
-        } => of_cells(alloc, "BulkUpdateRecord", table, rows, columns),
-        ViewAction::BulkRemove { table, rows } => of_removed_rows(alloc, table, rows),
+        } => cells_action(alloc, "BulkUpdateRecord", table, rows, columns),
+        ViewAction::BulkRemove { table, rows } => removed_rows_action(alloc, table, rows),
     }
 }
 

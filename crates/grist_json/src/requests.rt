@@ -2,11 +2,12 @@
 ghost use Rattle.std.specs.Prelude.{◌≡◌, true, IfOk, Err};
 ghost use Rattle.serde_json.specs.View.{view};
 ghost use Rattle.grist_json.specs.Requests.{Spells, IsRead, request_at};
-ghost use Rattle.grist_json.specs.Reading.{open_from, word_from, bare_from, apply_from, bundle_from, undo_from, request_from};
+ghost use Rattle.grist_json.specs.Reading.{open_from, word_from, bare_from, apply_from, undo_from, request_from};
 ghost use Rattle.doc_model.specs.declared.request.Request.{Request};
 ghost use Rattle.doc_model.specs.WellFormed.{asks_well_formed};
 
 use crate::json_text::json_of;
+use crate::numbers::whole_of;
 use action_lines::{Fields, read_actions};
 use cell_types::CellText;
 use doc_model::Request;
@@ -97,16 +98,6 @@ fn apply_of(alloc: Global, value: &Value) -> Result<Option<Request>, AllocError>
     Ok(Some(Request::Apply { actions }))
 }
 
-// The number of a bundle: a whole number from 0 that fits 64 bits with a sign.
-fn bundle_of(value: &Value) -> Option<u64>
-    ensures { result ≡ bundle_from (view value.now) }
-{
-    match value.as_u64() {
-        Some(number) if number < 1 << 63 => Some(number),
-        _ => None,
-    }
-}
-
 #[tactic(auto, unfolding(crate::specs::Reading::undo_from))]
 fn undo_of(value: &Value) -> Option<Request>
     ensures { result ≡ undo_from (view value.now) }
@@ -120,7 +111,7 @@ fn undo_of(value: &Value) -> Option<Request>
     if method != "undo" {
         return None;
     }
-    let bundle = bundle_of(bundle)?;
+    let bundle = whole_of(bundle)?;
     Some(Request::Undo { bundle })
 }
 

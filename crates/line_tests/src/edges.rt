@@ -1,9 +1,10 @@
 //! Plan: lines in whatever pieces (`gives_lines`, `keeps_a_front_of_a_long_line`), the listed
 //! faults of sources and sinks (`fails_at_listed_calls`, `sink_keeps_its_room`), the buffer in
 //! front of a sink (`outbox_gathers`, `outbox_hands_on_faults`), the edge over readers and writers
-//! of std (`std_streams`).
+//! of std (`std_streams`), and records kept in memory (`keeps_records`).
 
 use crate::texts::is_text;
+use doc_keeper::*;
 use io_edges::*;
 use std::alloc::{AllocError, Global};
 
@@ -271,4 +272,36 @@ fn std_streams(rt: HostRuntime) {
     assert!(rt; gives(rt.alloc(), &mut source, "a|b$."));
     let mut sink = StdSink::new(Vec::<u8>::new(rt.alloc()));
     assert!(rt; takes_all(&mut sink));
+}
+
+// Whether the record of that number is this text.
+fn is_kept(keeper: &mut MemKeeper, number: u64, want: &str) -> bool {
+    match keeper.load(number) {
+        Ok(Some(bytes)) => bytes.as_slice() == want.as_bytes(),
+        Ok(None) => want == "-",
+        Err(_) => false,
+    }
+}
+
+// A keeper that fails at its second call keeps the record at its third one.
+fn keeps_after_a_fault(alloc: Global) -> bool {
+    let Ok(failing) = vec![in alloc; 1u64] else {
+        return false;
+    };
+    let mut keeper = MemKeeper::new(alloc, failing);
+    let Ok(()) = keeper.ready() else {
+        return false;
+    };
+    let Err(KeepFault::Failed) = keeper.keep(0, b"ab".as_slice()) else {
+        return false;
+    };
+    let Ok(()) = keeper.keep(0, b"cd".as_slice()) else {
+        return false;
+    };
+    keeper.faults() == 1 && is_kept(&mut keeper, 0, "cd") && is_kept(&mut keeper, 1, "-")
+}
+
+#[test]
+fn keeps_records(rt: HostRuntime) {
+    assert!(rt; keeps_after_a_fault(rt.alloc()));
 }

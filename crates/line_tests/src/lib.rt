@@ -1,17 +1,20 @@
 //! Tests of lines: how they are taken in, read, printed and sent.
 //!
-//! Stands on `io_edges`, `action_lines` and `grist_json`. Nothing stands on it; it is a crate of
-//! its own, so that none of those is proved a second time with its tests.
+//! Stands on `io_edges`, `doc_keeper`, `action_lines`, `grist_json` and `record_lines`. Nothing
+//! stands on it; it is a crate of its own, so that none of those is proved a second time with its
+//! tests.
 //!
 //! Promises: nothing. What is tested is what no clause says: that the protocol is the one meant,
 //! that calls succeed where there is memory, and what the edge to the outside does.
-//! Read first: requests.rt, then actions.rt and edges.rt.
+//! Read first: requests.rt, then actions.rt, records.rt and edges.rt.
 #![tactic(auto)]
 
 #[cfg(test)]
 mod actions;
 #[cfg(test)]
 mod edges;
+#[cfg(test)]
+mod records;
 #[cfg(test)]
 mod requests;
 #[cfg(test)]

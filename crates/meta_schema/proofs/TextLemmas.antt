@@ -21,7 +21,7 @@ after-append : (word rest : List ℕ) → after word (word ++ rest) ≡ Some res
 after-append [] rest = refl
 after-append (b ∷ word) rest = cond_true (eqb b b) (after word (word ++ rest)) None (eq-eqb b b refl) ∙ after-append word rest
 
-after_parts : (word text rest : List ℕ) → after word text ≡ Some rest → text ≡ word ++ rest
+pub after_parts : (word text rest : List ℕ) → after word text ≡ Some rest → text ≡ word ++ rest
 after_parts [] text rest e = cc
 after_parts (b ∷ word) [] rest e = absurd (cc)
 after_parts (b ∷ word) (c ∷ text) rest e =

@@ -2,7 +2,8 @@
 //!
 //! Stands on `cell_types` (values, names and types), `doc_model` (documents, and what a store
 //! answers) and `doc_readers` (the parts of a document that a store tells).
-//! Used by whoever has the tables of a document alone, and wants its schema.
+//! Used by `record_lines`, for the texts of types, and by whoever has the tables of a document
+//! alone, and wants its schema.
 //!
 //! Promises: `schema_of` is the definition in specs/Decoding.antt, for every document that a store
 //! holds; rows of the schema tables that say no table or no column are passed over. `agrees` is the
@@ -27,3 +28,4 @@ mod type_texts;
 pub use agreement::agrees;
 pub use reading::schema_of;
 pub use schema_table::{Schema, SchemaTable};
+pub use type_texts::{name_of, type_of};

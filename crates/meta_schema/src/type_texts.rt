@@ -10,7 +10,7 @@ use cell_types::{CellText, ColType, Name};
 use std::alloc::{AllocError, Global};
 
 /// The name of that text, where it has 1 to 64 characters.
-pub(crate) fn name_of(alloc: Global, text: &str) -> Result<Option<Name>, AllocError>
+pub fn name_of(alloc: Global, text: &str) -> Result<Option<Name>, AllocError>
     ensures { IfOk result (λ o. o ≡ name_of text.now) }
 {
     Ok(Name::try_new(CellText::copy_of(alloc, text)?))
@@ -39,7 +39,7 @@ fn reference_of(alloc: Global, text: &str) -> Result<Option<ColType>, AllocError
 }
 
 /// The type that a text says.
-pub(crate) fn type_of(alloc: Global, text: &str) -> Result<Option<ColType>, AllocError>
+pub fn type_of(alloc: Global, text: &str) -> Result<Option<ColType>, AllocError>
     ensures { IfOk result (λ o. o ≡ type_of text.now) }
 {
     if text == "Any" {

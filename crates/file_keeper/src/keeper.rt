@@ -1,0 +1,201 @@
+//! Records in a file of SQLite: the edge to the disk, which tells no record.
+ghost use Rattle.std.specs.Prelude.{◌≡◌, ◌≤◌, None};
+ghost use Rattle.io_edges.specs.Causes.{Rose};
+
+use doc_keeper::{KeepFault, Keeper};
+use sqlite::{Connection, Error, ErrorCode, File, FileStore, params};
+use std::alloc::Global;
+
+type Db = Connection<FileStore<File>>;
+
+const MAKE: &str =
+    "CREATE TABLE IF NOT EXISTS record (number INTEGER PRIMARY KEY, bytes BLOB NOT NULL) STRICT";
+
+const ADD: &str = "INSERT INTO record (number, bytes) VALUES (?1, ?2)";
+
+const FROM: &str = "SELECT number, bytes FROM record WHERE number >= ?1 ORDER BY number LIMIT 256";
+
+/// Of how many bytes records are read ahead, but for the last one.
+const AHEAD_BYTES: usize = 1_048_576;
+
+// Calls of the database stand in functions of their own, so that no proof carries their clauses.
+fn fault_of(error: Error) -> KeepFault {
+    match error {
+        Error::SqliteFailure(ErrorCode::OutOfMemory) => KeepFault::NoMemory,
+        _ => KeepFault::Failed,
+    }
+}
+
+fn open(rt: &HostRuntime, path: &str) -> Result<Db, KeepFault> {
+    Connection::open(rt, path).map_err(fault_of)
+}
+
+fn make(db: &mut Db) -> Result<(), KeepFault> {
+    db.execute(MAKE, &[]).map_err(fault_of)?;
+    Ok(())
+}
+
+fn add(db: &mut Db, number: u64, bytes: &[u8]) -> Result<(), KeepFault> {
+    let Ok(number) = i64::try_from(number) else {
+        return Err(KeepFault::Failed);
+    };
+    db.execute(ADD, params![number, bytes]).map_err(fault_of)?;
+    Ok(())
+}
+
+fn closed(db: Db) -> Result<(), KeepFault> {
+    db.close().map_err(fault_of)
+}
+
+// Reads records from that number on: those that follow each other, in their order.
+fn read_from(alloc: Global, db: &mut Db, number: u64) -> Result<Vec<Vec<u8>>, KeepFault> {
+    let mut found = Vec::new(alloc);
+    let Ok(from) = i64::try_from(number) else {
+        return Ok(found);
+    };
+    let mut next = from;
+    let mut size = 0usize;
+    let mut rows = db.query(FROM, params![from]).map_err(fault_of)?;
+    for _ in 0..256u32 {
+        let Some(row) = rows.next().map_err(fault_of)? else {
+            return Ok(found);
+        };
+        let at: i64 = row.get(0).map_err(fault_of)?;
+        if at != next {
+            return Ok(found);
+        }
+        let bytes: Vec<u8> = row.get(1).map_err(fault_of)?;
+        size = size.saturating_add(bytes.len());
+        let Ok(()) = found.push(bytes) else {
+            return Err(KeepFault::NoMemory);
+        };
+        if size >= AHEAD_BYTES {
+            return Ok(found);
+        }
+        next = next.saturating_add(1);
+    }
+    Ok(found)
+}
+
+/// A keeper over a file, which nobody else can open meanwhile. Each record is one transaction, and
+/// is on the disk once `keep` has answered.
+#[derive(Drop)]
+pub struct SqliteKeeper {
+    alloc: Global,
+    // Where the file could not be opened, the fault that each call answers.
+    db: Result<Db, KeepFault>,
+    // Records that were read ahead, the last one first, and the number of the next one.
+    ahead: Vec<Vec<u8>>,
+    next: u64,
+    faults: u64,
+}
+
+impl SqliteKeeper {
+    /// Opens the file, or makes it. Where that fails, each later call fails.
+    ///
+    /// Cost: the whole file is read.
+    pub fn open(rt: &HostRuntime, path: &str) -> Self
+        ensures { result.faults ≡ 0 }
+    {
+        SqliteKeeper {
+            alloc: rt.alloc(),
+            db: open(rt, path),
+            ahead: Vec::new(rt.alloc()),
+            next: 0,
+            faults: 0,
+        }
+    }
+
+    /// Closes the file, with all records in it. Beside the file of a keeper that is dropped its log
+    /// stays, and the next one to open the file reads both.
+    ///
+    /// Errors: `Failed` and `NoMemory`, which are not counted; the records are in one of the two.
+    pub fn close(self) -> Result<(), KeepFault> {
+        let SqliteKeeper {
+            alloc: _,
+            db,
+            ahead: _,
+            next: _,
+            faults: _,
+        } = self;
+        match db {
+            Ok(db) => closed(db),
+            Err(fault) => Err(fault),
+        }
+    }
+
+    // Counts a fault that is the outside's.
+    fn counted(&mut self, fault: KeepFault) -> KeepFault
+        ensures later { self.old.faults ≤ self.new.faults }
+        ensures rose { result ≡ KeepFault.Failed → Rose self.old.faults self.new.faults }
+    {
+        if fault == KeepFault::Failed {
+            self.faults = self.faults.saturating_add(1);
+        }
+        fault
+    }
+
+    // Reads ahead from that number on.
+    fn fill(&mut self, number: u64) -> Result<(), KeepFault>
+        ensures { self.new.faults ≡ self.old.faults }
+    {
+        let db = match &mut self.db {
+            Ok(db) => db,
+            Err(fault) => return Err(*fault),
+        };
+        self.ahead.clear();
+        self.ahead = read_from(self.alloc, db, number)?;
+        self.ahead.reverse();
+        self.next = number;
+        Ok(())
+    }
+
+    fn take(&mut self, number: u64) -> Result<Option<Vec<u8>>, KeepFault>
+        ensures { self.new.faults ≡ self.old.faults }
+    {
+        if self.ahead.is_empty() || self.next != number {
+            self.fill(number)?;
+        }
+        self.next = number.saturating_add(1);
+        Ok(self.ahead.pop())
+    }
+}
+
+impl Keeper for SqliteKeeper {
+    ghost records = { λ _. None };
+
+    ghost failures = { λ k. k.faults };
+
+    fn ready(&mut self) -> Result<(), KeepFault> {
+        let made = match &mut self.db {
+            Ok(db) => make(db),
+            Err(fault) => Err(*fault),
+        };
+        match made {
+            Ok(()) => Ok(()),
+            Err(fault) => Err(self.counted(fault)),
+        }
+    }
+
+    fn load(&mut self, number: u64) -> Result<Option<Vec<u8>>, KeepFault> {
+        match self.take(number) {
+            Ok(found) => Ok(found),
+            Err(fault) => Err(self.counted(fault)),
+        }
+    }
+
+    fn keep(&mut self, number: u64, bytes: &[u8]) -> Result<(), KeepFault> {
+        let added = match &mut self.db {
+            Ok(db) => add(db, number, bytes),
+            Err(fault) => Err(*fault),
+        };
+        match added {
+            Ok(()) => Ok(()),
+            Err(fault) => Err(self.counted(fault)),
+        }
+    }
+
+    fn faults(&self) -> u64 {
+        self.faults
+    }
+}

@@ -1,0 +1,9 @@
+pub mod Columns
+pub mod Infos
+pub mod DocActions
+pub mod Reading
+pub mod Dates
+pub mod Records
+pub mod Printed
+pub mod Printable
+pub mod Laws

@@ -13,9 +13,11 @@
 
 mod bucket;
 mod index;
+mod key_index;
 mod laws;
 mod rows;
 
-pub use bucket::bucket_of;
+pub use bucket::{bucket_of, part_bucket};
 pub use index::LookupIndex;
-pub use laws::bucket_law;
+pub use key_index::KeyIndex;
+pub use laws::{bucket_law, part_bucket_law};

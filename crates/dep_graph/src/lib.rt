@@ -1,0 +1,5 @@
+//! Who reads what: the reads of each cell, and the cells of each read.
+#![tactic(auto)]
+
+mod numbers;
+mod readers;

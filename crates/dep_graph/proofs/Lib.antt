@@ -1,1 +1,3 @@
+pub mod LinkLaws
 pub mod ReaderLaws
+pub mod RecordLaws

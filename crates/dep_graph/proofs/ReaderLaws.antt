@@ -1,5 +1,5 @@
 -- A cell put under a read, and taken from there.
-use Rattle.std.proofs.Common.{ℕ, suc, zero, Bool, true, false, cond, not, ◌&&◌, ◌||◌, ◌++◌, nat_eq, List, [], ◌∷◌, filter, length, ◌≡◌, ◌<◌, ◌≤◌, vec_capacity, Option, Some, None, refl, sym, ap, ◌∙◌, subst, Vec, Global, arith, Result, Ok, Err, OnOk, OnErr}
+use Rattle.std.proofs.Common.{ℕ, suc, zero, Bool, true, false, cond, not, ◌&&◌, ◌||◌, ◌++◌, nat_eq, List, [], ◌∷◌, filter, length, ◌≡◌, ◌<◌, ◌≤◌, vec_capacity, Option, Some, None, refl, sym, ap, ◌∙◌, subst, Vec, Global, arith, Result, Ok, Err, is_err, OnOk, OnErr}
 use Rattle.std.proofs.lemmas.Bool.{true≢false, false≢true, and_parts}
 use Rattle.std.specs.List.{list_any}
 use Rattle.std.specs.Map.{lookup}
@@ -226,3 +226,11 @@ on_err (Err y) f h = f h
 pub ok_or_err : {A E P Q R : Type 0} (r : Result A E) → (P → R) → (Q → R) → OnOk r P → OnErr r Q → R
 ok_or_err (Ok x) f g h k = f h
 ok_or_err (Err y) f g h k = g k
+
+pub from_ok : {A E P : Type 0} (r : Result A E) → is_err r ≡ false → OnOk r P → P
+from_ok (Ok x) e h = h
+from_ok (Err y) e h = absurd (true≢false e)
+
+pub from_err : {A E P : Type 0} (r : Result A E) → is_err r ≡ true → OnErr r P → P
+from_err (Ok x) e h = absurd (false≢true e)
+from_err (Err y) e h = h

@@ -1,3 +1,4 @@
 pub mod NumberLaws
 pub mod Numbers
 pub mod Readers
+pub mod Records

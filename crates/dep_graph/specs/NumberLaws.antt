@@ -82,3 +82,6 @@ read_decides q p = (same_read q p, λ e. subst (λ r. is_read q r ≡ true) e (r
 
 pub read_equiv : IsEquivalence is_read
 read_equiv = decided is_read read_decides
+
+pub read_turned : (q p : ReadNumber) → is_read q p ≡ is_read p q
+read_turned q p = read_equiv.symm q p

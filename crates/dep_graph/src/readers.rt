@@ -163,6 +163,13 @@ impl Readers {
         self.rows.rows_for(&Reading { read, column })
     }
 
+    /// Each cell under a read has its column there.
+    pub fn columns_law(&self)
+        ensures { HasColumns self.now }
+    {
+        let _rows = &self.rows;
+    }
+
     /// Puts a cell under a read.
     ///
     /// Errors: out of memory; under each read are then the same cells as before. Cost: the

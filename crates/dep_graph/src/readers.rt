@@ -145,6 +145,7 @@ impl Readers {
     /// Memory: none.
     pub fn columns(&self, read: ReadNumber) -> &[ColumnNumber]
         ensures columns { result.now ≡ columns_under self.now.columns read }
+        ensures whole { HasColumns self.now }
     {
         match self.columns.get(&read) {
             Some(columns) => columns.as_slice(),

@@ -1,5 +1,5 @@
 -- Numbers of names, and of what is read, as more names are given numbers.
-use Rattle.std.proofs.Common.{ℕ, zero, suc, Bool, true, false, cond, List, [], ◌∷◌, ◌++◌, ◌+◌, map, take, get_or, length, Option, Some, None, ◌≡◌, ◌<◌, ◌≤◌, refl, sym, ap, ◌∙◌, subst, arith}
+use Rattle.std.proofs.Common.{ℕ, zero, suc, Bool, true, false, cond, List, [], ◌∷◌, ◌++◌, ◌+◌, map, take, get_or, length, Option, Some, None, slice_get, ◌≡◌, ◌<◌, ◌≤◌, refl, sym, ap, ◌∙◌, subst, arith}
 use Rattle.std.specs.Option.{option_map, option_or}
 use Rattle.std.specs.Str.{bytes_eq}
 use Rattle.std.proofs.lemmas.Slice.Eq.{bytes_eq-Decides}
@@ -10,7 +10,7 @@ use Rattle.dep_graph.specs.declared.numbers.ReadNumber.{ReadNumber}
 use Rattle.dep_graph.specs.declared.numbers.ReadNumber.TheVariants as read
 use Rattle.dep_graph.specs.declared.numbers.CellNumber.{CellNumber}
 use Rattle.dep_graph.specs.declared.numbers.ColumnNumber.{ColumnNumber}
-use Rattle.dep_graph.specs.Names.{IsGrown, number_in}
+use Rattle.dep_graph.specs.Names.{IsGrown, NumberLaw, number_in}
 use Rattle.dep_graph.specs.Sources.{AreNumbers, Source, cell_in, column_in, column_of, part_source, read_source, source_in, sources, sources_of, value_source}
 
 -- ---- names
@@ -43,6 +43,16 @@ added_number names name none q = number_added names name q ∙ by (bytes_eq name
 
 none≢some : (n : ℕ) → None ≡ Some n → ⊥
 none≢some n h = absurd (cc)
+
+pub number_there : NumberLaw
+number_there [] name n h = absurd (none≢some n h)
+number_there (m ∷ names) name n h = by (number_there names name) (bytes_eq m name) refl (number_in names name) refl n h
+  where
+    by : ((k : ℕ) → number_in names name ≡ Some k → slice_get names k ≡ Some name) → (b : Bool) → bytes_eq m name ≡ b → (o : Option ℕ) → number_in names name ≡ o
+        → (n : ℕ) → cond b (Some 0) (option_map suc o) ≡ Some n → slice_get (m ∷ names) n ≡ Some name
+    by later true is o at n h = subst (λ k. slice_get (m ∷ names) k ≡ Some name) (let same : 0 ≡ n = cc in same) (ap (λ a. Some a) ((bytes_eq-Decides m name).0 is))
+    by later false is None at n h = absurd (none≢some n h)
+    by later false is (Some k) at n h = subst (λ j. slice_get (m ∷ names) j ≡ Some name) (let same : suc k ≡ n = cc in same) (later k at)
 
 length_added : (names : List (List ℕ)) (name : List ℕ) → length (names ++ name ∷ []) ≡ length names + 1
 length_added [] name = refl

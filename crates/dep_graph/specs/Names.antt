@@ -1,5 +1,5 @@
 -- Names that have numbers: the number of a name is its place among them.
-use Rattle.std.specs.Prelude.{ℕ, suc, ◌≤◌, cond, List, [], ◌∷◌, length, Option, Some, None, ◌≡◌}
+use Rattle.std.specs.Prelude.{ℕ, suc, ◌≤◌, cond, List, [], ◌∷◌, length, Option, Some, None, slice_get, ◌≡◌}
 use Rattle.std.specs.Option.{option_map}
 use Rattle.std.specs.Str.{bytes_eq}
 
@@ -14,3 +14,8 @@ pub record IsGrown (old new : List (List ℕ)) : Type 0 where
   pub follows : (name : List ℕ) (n : ℕ) → number_in old name ≡ None → number_in new name ≡ Some n
       → length old ≤ n
   pub longer : length old ≤ length new
+
+-- a name stands at its number, so no two names have one number
+abbrev pub NumberLaw : Type 0
+NumberLaw = (names : List (List ℕ)) (name : List ℕ) (n : ℕ)
+    → number_in names name ≡ Some n → slice_get names n ≡ Some name

@@ -11,12 +11,7 @@ use std::alloc::{AllocError, Global};
 use std::collections::HashSet;
 
 // Takes a cell from under one read, unless that is kept.
-fn unlink_one(
-    readers: &mut Readers,
-    cell: CellNumber,
-    read: ReadNumber,
-    kept: &HashSet<ReadNumber>,
-)
+fn unlink_one(readers: &mut Readers, cell: CellNumber, read: ReadNumber, kept: &HashSet<ReadNumber>)
     ensures links { IsParted readers.old readers.new (read ∷ []) kept.now.keys cell }
     ensures backable { KeepsBackable readers.old readers.new cell }
 {

@@ -68,7 +68,13 @@ pub(crate) fn record(
     }
     let kept = set_of(alloc, new.as_slice())?;
     reads.reserve(1)?;
-    link(readers, alloc, cell, new.as_slice(), recorded(&*reads, cell))?;
+    link(
+        readers,
+        alloc,
+        cell,
+        new.as_slice(),
+        recorded(&*reads, cell),
+    )?;
     let Ok(before) = reads.insert(cell, new) else {
         unreachable!()
     };

@@ -1,6 +1,6 @@
 -- A cell put under reads one by one, and taken from there.
 use Rattle.std.proofs.Common.{ℕ, zero, suc, Bool, true, false, cond, not, ◌&&◌, ◌||◌, List, [], ◌∷◌, ◌+◌, take, get_or, length, ◌≡◌, ◌<◌, refl, sym, ap, ◌∙◌, subst, arith}
-use Rattle.std.proofs.lemmas.Bool.{true≢false, false≢true}
+use Rattle.std.proofs.lemmas.Bool.{true≢false}
 use Rattle.doc_model.proofs.Choices.{or_false}
 use Rattle.dep_graph.specs.declared.numbers.CellNumber.{CellNumber}
 use Rattle.dep_graph.specs.declared.numbers.ReadNumber.{ReadNumber}
@@ -8,7 +8,7 @@ use Rattle.dep_graph.specs.declared.numbers.ReadNumber.TheVariants as read
 use Rattle.dep_graph.specs.Numbers.{is_cell, is_read}
 use Rattle.dep_graph.specs.NumberLaws.{same_cell, same_read, read_itself, read_turned}
 use Rattle.dep_graph.specs.Readers.{ReaderLists, links, HasColumns, HasSameLinks, IsBackable, IsLinked, IsUnlinked}
-use Rattle.dep_graph.specs.Records.{holds, IsExchanged, IsJoined, IsParted, AreBackable}
+use Rattle.dep_graph.specs.Records.{holds, IsExchanged, IsJoined, IsParted}
 
 -- what a place past the end of a list reads
 abbrev pub no_read : ReadNumber

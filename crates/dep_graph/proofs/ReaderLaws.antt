@@ -1,5 +1,5 @@
 -- A cell put under a read, and taken from there.
-use Rattle.std.proofs.Common.{ℕ, suc, zero, Bool, true, false, cond, not, ◌&&◌, ◌||◌, ◌++◌, nat_eq, List, [], ◌∷◌, filter, length, ◌≡◌, ◌<◌, ◌≤◌, vec_capacity, Option, Some, None, refl, sym, ap, ◌∙◌, subst, Vec, Global, arith, Result, Ok, Err, is_err, OnOk, OnErr}
+use Rattle.std.proofs.Common.{ℕ, Bool, true, false, cond, not, ◌&&◌, ◌||◌, ◌++◌, nat_eq, List, [], ◌∷◌, filter, length, ◌≡◌, ◌<◌, ◌≤◌, vec_capacity, Option, Some, None, refl, sym, ap, ◌∙◌, subst, Vec, Global, arith, Result, Ok, Err, is_err, OnOk, OnErr}
 use Rattle.std.proofs.lemmas.Bool.{true≢false, false≢true, and_parts}
 use Rattle.std.specs.List.{list_any}
 use Rattle.std.specs.Map.{lookup}
@@ -10,10 +10,9 @@ use Rattle.lookup_index.specs.Under.{listed, capacity_of, under_key, HasRoom, Ha
 use Rattle.dep_graph.specs.declared.numbers.CellNumber.{CellNumber}
 use Rattle.dep_graph.specs.declared.numbers.ColumnNumber.{ColumnNumber}
 use Rattle.dep_graph.specs.declared.numbers.ReadNumber.{ReadNumber}
-use Rattle.dep_graph.specs.declared.numbers.Reading.{Reading}
 use Rattle.dep_graph.specs.Numbers.{is_cell, is_column, is_read, is_reading}
-use Rattle.dep_graph.specs.Readers.{ReaderLists, columns_under, items_of, links, lists_column, lists_of, reading_of, with_column, HasColumns, HasSameLinks, IsBackable, IsLinked, IsUnlinked, KeepsBackable, KeepsColumns}
-use Rattle.dep_graph.specs.NumberLaws.{same_column, same_cell, same_read, column_itself, cell_itself}
+use Rattle.dep_graph.specs.Readers.{ReaderLists, columns_under, items_of, links, lists_column, reading_of, with_column, HasColumns, HasSameLinks, IsBackable, IsLinked, IsUnlinked, KeepsBackable, KeepsColumns}
+use Rattle.dep_graph.specs.NumberLaws.{same_cell, same_read, column_itself, cell_itself}
 
 -- ---- links
 

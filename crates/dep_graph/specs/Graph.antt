@@ -1,5 +1,5 @@
 -- A graph of reads: the names that have numbers, and the reads of each cell by numbers.
-use Rattle.std.specs.Prelude.{ℕ, List, [], Some, None, Vec, ◌≡◌, ◌⊎◌}
+use Rattle.std.specs.Prelude.{ℕ, List, [], Some, None, Vec, ◌≡◌}
 use Rattle.std.specs.Global.{Global}
 use Rattle.cell_types.specs.declared.cell.CellId.{CellId}
 use Rattle.formula_eval.specs.declared.note.Note.{Note}

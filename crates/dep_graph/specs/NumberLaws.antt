@@ -1,5 +1,5 @@
 -- Numbers that are told to be the same are the same.
-use Rattle.std.proofs.Common.{ℕ, Bool, true, false, ◌&&◌, nat_eq, ◌≡◌, refl, sym, ap, subst, ◌∙◌}
+use Rattle.std.proofs.Common.{ℕ, true, ◌&&◌, nat_eq, ◌≡◌, ap, subst, ◌∙◌}
 use Rattle.std.specs.Bool.{Decides}
 use Rattle.std.specs.Cmp.{IsEquivalence, decided}
 use Rattle.std.proofs.lemmas.Bool.{false≢true, and_parts, eqb-true}
@@ -11,23 +11,36 @@ use Rattle.dep_graph.specs.declared.numbers.ReadNumber.TheVariants as read
 use Rattle.dep_graph.specs.declared.numbers.ValueNumber.{ValueNumber}
 use Rattle.dep_graph.specs.Numbers.{is_cell, is_column, is_read, is_value}
 
+-- a column, a cell and a value of their parts
+abbrev column_with : ℕ → ℕ → ColumnNumber
+column_with table column = record { table = table; column = column }
+
+abbrev cell_with : ColumnNumber → ℕ → CellNumber
+cell_with column row = record { column = column; row = row }
+
+abbrev value_with : ColumnNumber → ℕ → ValueNumber
+value_with column bucket = record { column = column; bucket = bucket }
+
 pub same_column : (k j : ColumnNumber) → is_column k j ≡ true → k ≡ j
 same_column k j h =
     let both = and_parts (nat_eq k.table j.table) (nat_eq k.column j.column) h in
-    let by_table : k ≡ record { table = j.table; column = k.column } = ap (λ t. record { table = t; column = k.column }) (eqb-true k.table j.table both.0) in
-    by_table ∙ ap (λ c. record { table = j.table; column = c }) (eqb-true k.column j.column both.1)
+    let first : k ≡ column_with j.table k.column
+    = ap (λ t. column_with t k.column) (eqb-true k.table j.table both.0) in
+    first ∙ ap (column_with j.table) (eqb-true k.column j.column both.1)
 
 pub same_cell : (c d : CellNumber) → is_cell c d ≡ true → c ≡ d
 same_cell c d h =
     let both = and_parts (is_column c.column d.column) (nat_eq c.row d.row) h in
-    let by_column : c ≡ record { column = d.column; row = c.row } = ap (λ k. record { column = k; row = c.row }) (same_column c.column d.column both.0) in
-    by_column ∙ ap (λ r. record { column = d.column; row = r }) (eqb-true c.row d.row both.1)
+    let first : c ≡ cell_with d.column c.row
+    = ap (λ k. cell_with k c.row) (same_column c.column d.column both.0) in
+    first ∙ ap (cell_with d.column) (eqb-true c.row d.row both.1)
 
 same_value : (v w : ValueNumber) → is_value v w ≡ true → v ≡ w
 same_value v w h =
     let both = and_parts (is_column v.column w.column) (nat_eq v.bucket w.bucket) h in
-    let by_column : v ≡ record { column = w.column; bucket = v.bucket } = ap (λ k. record { column = k; bucket = v.bucket }) (same_column v.column w.column both.0) in
-    by_column ∙ ap (λ b. record { column = w.column; bucket = b }) (eqb-true v.bucket w.bucket both.1)
+    let first : v ≡ value_with w.column v.bucket
+    = ap (λ k. value_with k v.bucket) (same_column v.column w.column both.0) in
+    first ∙ ap (value_with w.column) (eqb-true v.bucket w.bucket both.1)
 
 pub same_read : (q p : ReadNumber) → is_read q p ≡ true → q ≡ p
 same_read (read.Cell c) (read.Cell d) h = ap read.Cell (same_cell c d h)
@@ -57,13 +70,15 @@ same_read (read.Part v) (read.Value w) h = absurd (false≢true h)
 same_read (read.Part v) (read.Part w) h = ap read.Part (same_value v w h)
 
 pub column_itself : (k : ColumnNumber) → is_column k k ≡ true
-column_itself k = ap (λ b. b && nat_eq k.column k.column) (number_itself k.table) ∙ number_itself k.column
+column_itself k =
+    ap (λ b. b && nat_eq k.column k.column) (number_itself k.table) ∙ number_itself k.column
 
 pub cell_itself : (c : CellNumber) → is_cell c c ≡ true
 cell_itself c = ap (λ b. b && nat_eq c.row c.row) (column_itself c.column) ∙ number_itself c.row
 
 value_itself : (v : ValueNumber) → is_value v v ≡ true
-value_itself v = ap (λ b. b && nat_eq v.bucket v.bucket) (column_itself v.column) ∙ number_itself v.bucket
+value_itself v =
+    ap (λ b. b && nat_eq v.bucket v.bucket) (column_itself v.column) ∙ number_itself v.bucket
 
 pub read_itself : (q : ReadNumber) → is_read q q ≡ true
 read_itself (read.Cell c) = cell_itself c

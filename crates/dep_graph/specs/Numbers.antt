@@ -1,5 +1,5 @@
 -- When columns, cells and reads by numbers are the same.
-use Rattle.std.specs.Prelude.{ℕ, Bool, false, ◌&&◌, nat_eq}
+use Rattle.std.specs.Prelude.{Bool, false, ◌&&◌, nat_eq}
 use Rattle.dep_graph.specs.declared.numbers.ColumnNumber.{ColumnNumber}
 use Rattle.dep_graph.specs.declared.numbers.CellNumber.{CellNumber}
 use Rattle.dep_graph.specs.declared.numbers.ValueNumber.{ValueNumber}

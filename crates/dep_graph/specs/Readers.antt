@@ -20,12 +20,13 @@ pub record ReaderLists : Type 0 where
   pub rows : List (Reading × Vec ℕ Global)
   pub columns : List (ReadNumber × Vec ColumnNumber Global)
 
-abbrev pub lists_of : List (Reading × Vec ℕ Global) → List (ReadNumber × Vec ColumnNumber Global)
-    → ReaderLists
+abbrev pub lists_of : List (Reading × Vec ℕ Global)
+    → List (ReadNumber × Vec ColumnNumber Global) → ReaderLists
 lists_of rows columns = record { rows = rows; columns = columns }
 
 -- the columns under a read
-abbrev pub columns_under : List (ReadNumber × Vec ColumnNumber Global) → ReadNumber → List ColumnNumber
+abbrev pub columns_under : List (ReadNumber × Vec ColumnNumber Global) → ReadNumber
+    → List ColumnNumber
 columns_under columns q = items_of (lookup (is_read q) columns)
 
 -- the list with the column, once

@@ -1,5 +1,5 @@
 -- The reads of each cell, and the cells of each read as their inverse.
-use Rattle.std.specs.Prelude.{ℕ, Bool, true, false, cond, not, ◌&&◌, ◌||◌, List, Vec, ◌≡◌}
+use Rattle.std.specs.Prelude.{Bool, true, cond, not, ◌&&◌, ◌||◌, List, Vec, ◌≡◌}
 use Rattle.std.specs.Global.{Global}
 use Rattle.std.specs.List.{list_any}
 use Rattle.std.specs.Map.{lookup}
@@ -40,7 +40,8 @@ IsJoined old new reads cell = (q : ReadNumber) (c : CellNumber)
 abbrev pub IsParted : ReaderLists → ReaderLists → List ReadNumber → List ReadNumber → CellNumber
     → Type 0
 IsParted old new gone kept cell = (q : ReadNumber) (c : CellNumber)
-    → links new q c ≡ (links old q c && not ((holds gone q && not (holds kept q)) && is_cell cell c))
+    → links new q c
+    ≡ (links old q c && not ((holds gone q && not (holds kept q)) && is_cell cell c))
 
 -- the cell can be put under each of these reads without memory
 abbrev pub AreBackable : ReaderLists → List ReadNumber → CellNumber → Type 0

@@ -2,7 +2,6 @@
 use Rattle.std.proofs.Common.{ℕ, Bool, true, false, ◌||◌, List, [], ◌∷◌, map, nat_eq, ◌≡◌, refl, sym, ap, ◌∙◌, subst}
 use Rattle.std.proofs.lemmas.Bool.{false≢true}
 use Rattle.std.specs.List.{list_any}
-use Rattle.cell_types.specs.declared.value.CellItem.{CellItem}
 use Rattle.cell_types.specs.declared.value.CellValue.{CellValue}
 use Rattle.cell_types.specs.declared.value.CellValue.TheVariants as value
 use Rattle.cell_types.specs.Item.{value_of_item}

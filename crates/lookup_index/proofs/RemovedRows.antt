@@ -1,7 +1,7 @@
 -- Rows taken out at their indexes.
-use Rattle.std.proofs.Common.{ℕ, suc, true, false, cond, not, ◌||◌, ◌&&◌, Bool, List, [], ◌∷◌, ◌+◌, get_or, length, ◌≡◌, ◌<◌, ◌≤◌, refl, sym, ap, subst, ◌∙◌, eqb, ltb, arith}
+use Rattle.std.proofs.Common.{ℕ, suc, true, false, cond, not, ◌||◌, ◌&&◌, List, [], ◌∷◌, ◌+◌, get_or, length, ◌≡◌, ◌<◌, ◌≤◌, refl, sym, ap, subst, ◌∙◌, eqb, ltb, arith}
 use Rattle.std.proofs.lemmas.Bool.{false≢true, eqb-true, ne_eqb, ltb-true, ltb-false}
-use Rattle.std.specs.List.{AllByRecursion, remove}
+use Rattle.std.specs.List.{remove}
 use Rattle.doc_model.specs.Rows.{has, IsAscending, without}
 use Rattle.doc_model.specs.Indexes.{row_index}
 use Rattle.doc_model.proofs.Choices.{cond_true, cond_false, each_weaker, filter_all}

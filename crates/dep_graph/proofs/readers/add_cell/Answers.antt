@@ -1,5 +1,4 @@
-use Rattle.std.proofs.Common.{sym, ◌∙◌, ap, refl}
-use Rattle.dep_graph.specs.Readers.{ReaderLists, lists_of, HasColumns, KeepsBackable}
+use Rattle.dep_graph.specs.Readers.{lists_of}
 use Rattle.dep_graph.proofs.ReaderLaws.{links-put, links-same, on_ok, on_err, columns_linked, columns_same, backable_put, backable_same, ok_or_err}
 use Rattle.dep_graph.proofs.readers.add_cell.Goals as goal
 

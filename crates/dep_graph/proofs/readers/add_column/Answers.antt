@@ -1,4 +1,4 @@
-use Rattle.std.proofs.Common.{subst, refl, sym, ap, ◌∙◌, IsSome, Some, Bool, true, false, cond, ◌≡◌, List}
+use Rattle.std.proofs.Common.{subst, refl, ap, ◌∙◌, IsSome, Some, Bool, true, false, cond, ◌≡◌, List}
 use Rattle.std.specs.Map.{lookup}
 use Rattle.dep_graph.specs.declared.numbers.ReadNumber.{ReadNumber}
 use Rattle.dep_graph.specs.declared.numbers.ColumnNumber.{ColumnNumber}

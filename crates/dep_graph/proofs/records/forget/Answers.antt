@@ -1,6 +1,6 @@
-use Rattle.std.proofs.Common.{None, subst, sym, ap, ◌∙◌, []}
+use Rattle.std.proofs.Common.{None, subst, ap, ◌∙◌, []}
 use Rattle.dep_graph.specs.Readers.{items_of}
-use Rattle.dep_graph.specs.Records.{holds, reads_under, IsParted}
+use Rattle.dep_graph.specs.Records.{holds, IsParted}
 use Rattle.dep_graph.proofs.RecordLaws.{recorded_by, nothing_joined, recorded_inverse}
 use Rattle.dep_graph.proofs.records.forget.Goals as goal
 

@@ -1,10 +1,7 @@
-use Rattle.std.proofs.Common.{Some, cond, subst, sym, ap, ◌∙◌, ◌≡◌}
-use Rattle.std.specs.Map.{lookup}
-use Rattle.dep_graph.specs.declared.numbers.CellNumber.{CellNumber}
+use Rattle.std.proofs.Common.{Some, cond, subst, sym, ap, ◌∙◌}
 use Rattle.dep_graph.specs.Numbers.{is_cell}
 use Rattle.dep_graph.specs.Readers.{items_of}
-use Rattle.dep_graph.specs.Records.{holds, reads_under, IsJoined, IsParted, IsRecorded}
-use Rattle.dep_graph.proofs.ReaderLaws.{from_err}
+use Rattle.dep_graph.specs.Records.{holds, IsJoined, IsParted, IsRecorded}
 use Rattle.dep_graph.proofs.RecordLaws.{recorded_by, recorded_again, recorded_inverse, same_reads, err_any}
 use Rattle.dep_graph.proofs.records.record.Goals as goal
 

@@ -1,4 +1,4 @@
-use Rattle.std.proofs.Common.{ℕ, List, ◌++◌, [], ◌∷◌, Some, None, cond, length, ◌≡◌, subst, sym, ap, ◌∙◌, rules, refl}
+use Rattle.std.proofs.Common.{◌++◌, [], ◌∷◌, Some, None, cond, length, ◌≡◌, subst, sym, ap, ◌∙◌, rules, refl}
 use Rattle.std.specs.HashMap.{get_by_text}
 use Rattle.std.specs.Str.{bytes_eq}
 use Rattle.std.specs.String.{string_bytes}

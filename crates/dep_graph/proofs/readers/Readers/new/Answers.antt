@@ -1,4 +1,4 @@
-use Rattle.std.proofs.Common.{ap, ◌∙◌, sym, false, true}
+use Rattle.std.proofs.Common.{ap, ◌∙◌, sym}
 use Rattle.std.proofs.lemmas.Bool.{false≢true}
 use Rattle.doc_model.specs.Rows.{has}
 use Rattle.dep_graph.specs.Readers.{reading_of}

@@ -1,4 +1,4 @@
-use Rattle.std.proofs.Common.{subst, sym, ◌∙◌, ap, refl, not, true}
+use Rattle.std.proofs.Common.{subst, sym, ◌∙◌, ap, refl}
 use Rattle.doc_model.specs.Rows.{has}
 use Rattle.dep_graph.specs.Readers.{lists_of, IsBackable, IsLinked, KeepsBackable}
 use Rattle.dep_graph.proofs.ReaderLaws.{links-put, links-there, columns_linked, backable_put}

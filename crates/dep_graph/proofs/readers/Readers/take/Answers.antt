@@ -1,5 +1,5 @@
 use Rattle.std.proofs.Common.{subst}
-use Rattle.dep_graph.specs.Readers.{lists_of, HasColumns, IsUnlinked, KeepsBackable}
+use Rattle.dep_graph.specs.Readers.{lists_of, IsUnlinked, KeepsBackable}
 use Rattle.dep_graph.proofs.ReaderLaws.{links-taken, columns_unlinked, backable_taken}
 use Rattle.dep_graph.proofs.readers.Readers.take.Goals as goal
 

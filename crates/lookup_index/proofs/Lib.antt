@@ -1,2 +1,4 @@
 pub mod Buckets
 pub mod IndexLaws
+pub mod PartBuckets
+pub mod RemovedRows

@@ -1,31 +1,27 @@
 //! The rows of each bucket.
 
-ghost use Rattle.std.specs.Prelude.{◌≡◌, [], ℕ, OnOk, OnErr};
-ghost use Rattle.doc_model.specs.Rows.{IsAscending};
-ghost use Rattle.lookup_index.specs.Under.{under, AreAscending, IsInserted, IsSameIndex};
+ghost use Rattle.std.specs.Prelude.{◌≡◌, [], ℕ, nat_eq, IsTrue, OnOk, OnErr};
+ghost use Rattle.doc_model.specs.Rows.{has, IsAscending};
+ghost use Rattle.lookup_index.specs.Under.{under, HasRoom, IsInserted, IsRemoved, IsSameIndex, KeepsRoom};
 
-use crate::rows::put_row;
+use crate::key_index::KeyIndex;
 use std::alloc::{AllocError, Global};
-use std::collections::HashMap;
 use std::marker::Model;
 
 /// Rows by bucket. It is seen as its entries, which are read by `under` alone: the rows under a
 /// bucket, ascending.
 #[derive(Drop)]
 pub struct LookupIndex {
-    lists: HashMap<u64, Vec<u32>>,
+    rows: KeyIndex<u64>,
 }
 
 impl Model for LookupIndex {
     ghost use Rattle.std.specs.Global.{Global};
     ghost use Rattle.std.specs.Prelude.{List, ℕ, Vec};
-    ghost use Rattle.lookup_index.specs.Under.{AreAscending};
 
     ghost Value = { List (ℕ × Vec ℕ Global) };
 
-    ghost view = { λ m. m.lists.entries };
-
-    ghost invariant = { λ m. AreAscending m.lists.entries };
+    ghost view = { λ m. m.rows };
 }
 
 impl LookupIndex {
@@ -36,7 +32,7 @@ impl LookupIndex {
         ensures { (bucket : ℕ) → under result bucket ≡ [] }
     {
         LookupIndex {
-            lists: HashMap::new(alloc),
+            rows: KeyIndex::new(alloc),
         }
     }
 
@@ -47,10 +43,7 @@ impl LookupIndex {
         ensures rows { result.now ≡ under self.now bucket }
         ensures ascending { IsAscending result.now }
     {
-        match self.lists.get(&bucket) {
-            Some(rows) => rows.as_slice(),
-            None => &[],
-        }
+        self.rows.rows_for(&bucket)
     }
 
     /// Puts a row under a bucket, where it is not there.
@@ -60,13 +53,31 @@ impl LookupIndex {
     pub fn insert(&mut self, alloc: Global, bucket: u64, row: u32) -> Result<(), AllocError>
         ensures ok { OnOk result (IsInserted self.old self.new bucket row) }
         ensures err { OnErr result (IsSameIndex self.old self.new) }
+        ensures room { KeepsRoom nat_eq self.old self.new }
     {
-        if let Some(rows) = self.lists.get_mut(&bucket) {
-            return put_row(rows, row);
-        }
-        let mut rows = Vec::new(alloc);
-        put_row(&mut rows, row)?;
-        self.lists.insert(bucket, rows)?;
-        Ok(())
+        self.rows.insert(alloc, bucket, row)
+    }
+
+    /// Takes a row away from under a bucket, and tells whether it was there. Its room stays.
+    ///
+    /// Memory: none. Cost: as of `insert`.
+    pub fn remove(&mut self, bucket: u64, row: u32) -> bool
+        ensures value { result ≡ has (under self.old bucket) row }
+        ensures rows { IsRemoved self.old self.new bucket row }
+        ensures left { IsTrue result → HasRoom nat_eq self.new bucket }
+        ensures room { KeepsRoom nat_eq self.old self.new }
+    {
+        self.rows.remove(&bucket, row)
+    }
+
+    /// Puts a row under a bucket that has room for it, as where a row was taken away before.
+    ///
+    /// Memory: none. Cost: as of `insert`.
+    pub fn put_back(&mut self, bucket: u64, row: u32)
+        requires { HasRoom nat_eq self.old bucket }
+        ensures rows { IsInserted self.old self.new bucket row }
+        ensures room { KeepsRoom nat_eq self.old self.new }
+    {
+        self.rows.put_back(&bucket, row);
     }
 }

@@ -1,7 +1,8 @@
-//! Tests of values, names and operators.
+//! Tests of values, names, operators and recorded reads.
 //!
-//! Stands on `cell_types`, `name_rules`, `value_ops` and `lookup_index`. Nothing stands on it; it
-//! is a crate of its own, so that none of those is proved a second time with its tests.
+//! Stands on `cell_types`, `name_rules`, `value_ops`, `lookup_index`, `formula_eval` and
+//! `dep_graph`. Nothing stands on it; it is a crate of its own, so that none of those is proved a
+//! second time with its tests.
 //!
 //! Promises: nothing. What is tested is what no clause says: that the tables of conversion, names
 //! and operators are the ones meant, and that calls succeed where there is memory.
@@ -16,5 +17,7 @@ mod conversions;
 mod names;
 #[cfg(test)]
 mod operators;
+#[cfg(test)]
+mod reads;
 #[cfg(test)]
 mod samples;

@@ -1,0 +1,4 @@
+pub mod LinkLaws
+pub mod NameLaws
+pub mod ReaderLaws
+pub mod RecordLaws

@@ -1,0 +1,30 @@
+//! Who reads what: the reads of each cell, and the cells of each read.
+//!
+//! Stands on `cell_types` (cells, names), `doc_model` (rows that ascend), `lookup_index` (rows by
+//! key, buckets of values) and `formula_eval` (what a run notes). Nothing uses it yet: it is for a
+//! document that evaluates again only what a change touches.
+//!
+//! Promises: after `DepGraph::set` a cell reads exactly what the notes of its run say, and each
+//! other cell what it read; on an error no cell reads anything else. `rows_of` tells exactly the
+//! cells of a column that read something, and `columns_of` each column that has such a cell. A
+//! lookup reads, beside its key columns, the value that it looks up in each of them, by bucket: so
+//! its readers are found by the values that were looked up. Names have numbers inside; a number is
+//! never given again, and its name is found by it (`number_law`). Asking and forgetting take no
+//! memory.
+//! Not promised: that a column told by `columns_of` still has such a cell; that few values share a
+//! bucket; anything of what a cell does that was not set.
+//! Read first: specs/Sources.antt and specs/Graph.antt, then graph.rt, records.rt and readers.rt.
+#![tactic(auto)]
+
+mod graph;
+mod laws;
+mod links;
+mod names;
+mod noting;
+mod numbers;
+mod readers;
+mod records;
+
+pub use graph::DepGraph;
+pub use laws::number_law;
+pub use numbers::{CellNumber, ColumnNumber, ReadNumber, ValueNumber};

@@ -1,0 +1,134 @@
+//! Numbers of what notes read.
+
+ghost use Rattle.std.specs.Prelude.{◌≡◌, ◌∷◌, ◌++◌, [], List, Some, IfOk, OnOk, map};
+ghost use Rattle.dep_graph.specs.Names.{IsGrown, number_in};
+ghost use Rattle.dep_graph.specs.Sources.{AreNumbers, Source, cell_in, column_in, read_source, source_in, source_of_key, sources, sources_of};
+
+use crate::names::NameNumbers;
+use crate::numbers::{CellNumber, ColumnNumber, ReadNumber, ValueNumber};
+use cell_types::{CellId, KeyItem, Name, Read};
+use formula_eval::Note;
+use lookup_index::bucket_of;
+use std::alloc::{AllocError, Global};
+
+fn column_number(
+    names: &mut NameNumbers,
+    table: &Name,
+    column: &Name,
+) -> Result<ColumnNumber, AllocError>
+    ensures ok { IfOk result (λ k. column_in names.new table.now column.now ≡ Some k) }
+    ensures grown { IsGrown names.old names.new }
+{
+    let table = names.add(table)?;
+    let column = names.add(column)?;
+    Ok(ColumnNumber { table, column })
+}
+
+/// The number of a cell, whose names are given numbers where they have none.
+///
+/// Errors: out of memory; what had a number keeps it.
+pub(crate) fn cell_number(names: &mut NameNumbers, cell: &CellId) -> Result<CellNumber, AllocError>
+    ensures ok { IfOk result (λ k. cell_in names.new cell.now ≡ Some k) }
+    ensures grown { IsGrown names.old names.new }
+{
+    let column = column_number(names, &cell.table, &cell.column)?;
+    Ok(CellNumber {
+        column,
+        row: cell.row,
+    })
+}
+
+fn read_number(names: &mut NameNumbers, read: &Read) -> Result<ReadNumber, AllocError>
+    ensures ok { IfOk result (λ q. source_in names.new (read_source read.now) ≡ Some q) }
+    ensures grown { IsGrown names.old names.new }
+{
+    match read {
+        Read::Cell(cell) => Ok(ReadNumber::Cell(cell_number(names, cell)?)),
+        Read::Key { table, column } => Ok(ReadNumber::Key(column_number(names, table, column)?)),
+        Read::Rows { table } => Ok(ReadNumber::Rows(names.add(table)?)),
+    }
+}
+
+fn key_number(
+    names: &mut NameNumbers,
+    table: &Name,
+    key: &KeyItem,
+) -> Result<ReadNumber, AllocError>
+    ensures ok { IfOk result (λ q. source_in names.new (source_of_key table.now key.now) ≡ Some q) }
+    ensures grown { IsGrown names.old names.new }
+{
+    let column = column_number(names, table, &key.column)?;
+    let value = ValueNumber {
+        column,
+        bucket: bucket_of(&key.value),
+    };
+    if key.contains {
+        Ok(ReadNumber::Part(value))
+    } else {
+        Ok(ReadNumber::Value(value))
+    }
+}
+
+fn push_keys(
+    names: &mut NameNumbers,
+    table: &Name,
+    keys: &[KeyItem],
+    reads: &mut Vec<ReadNumber>,
+) -> Result<(), AllocError>
+    ensures ok { (done : List Source) → AreNumbers names.old done reads.old.items → OnOk result
+        (AreNumbers names.new (done ++ map (source_of_key table.now) keys.now) reads.new.items) }
+    ensures grown { IsGrown names.old names.new }
+{
+    for key in keys {
+        let read = key_number(names, table, key)?;
+        reads.push(read)?;
+    }
+    Ok(())
+}
+
+fn push_read(
+    names: &mut NameNumbers,
+    read: &Read,
+    reads: &mut Vec<ReadNumber>,
+) -> Result<(), AllocError>
+    ensures ok { (done : List Source) → AreNumbers names.old done reads.old.items → OnOk result
+        (AreNumbers names.new (done ++ read_source read.now ∷ []) reads.new.items) }
+    ensures grown { IsGrown names.old names.new }
+{
+    let number = read_number(names, read)?;
+    reads.push(number)?;
+    Ok(())
+}
+
+fn push_note(
+    names: &mut NameNumbers,
+    note: &Note,
+    reads: &mut Vec<ReadNumber>,
+) -> Result<(), AllocError>
+    ensures ok { (done : List Source) → AreNumbers names.old done reads.old.items → OnOk result
+        (AreNumbers names.new (done ++ sources_of note.now) reads.new.items) }
+    ensures grown { IsGrown names.old names.new }
+{
+    match note {
+        Note::Read(read) => push_read(names, read, reads),
+        Note::Met { table, keys } => push_keys(names, table, keys.as_slice(), reads),
+    }
+}
+
+/// The numbers of what notes read, in order, where names are given numbers that have none.
+///
+/// Errors: out of memory; what had a number keeps it.
+pub(crate) fn note_numbers(
+    names: &mut NameNumbers,
+    alloc: Global,
+    notes: &[Note],
+) -> Result<Vec<ReadNumber>, AllocError>
+    ensures ok { IfOk result (λ reads. AreNumbers names.new (sources notes.now) reads.items) }
+    ensures grown { IsGrown names.old names.new }
+{
+    let mut reads = Vec::new(alloc);
+    for note in notes {
+        push_note(names, note, &mut reads)?;
+    }
+    Ok(reads)
+}

@@ -1,0 +1,4 @@
+mod FormulaItems
+mod FormulaTexts
+mod MentionLemmas
+mod RoomLemmas

@@ -1,6 +1,6 @@
 //! The trees of rule formulas.
 
-ghost use Rattle.std.specs.Prelude.{◌≡◌, ◌≤◌, Option, Some, None, IfOk, IfErr};
+ghost use Rattle.std.specs.Prelude.{◌≡◌, ◌≤◌, Option, Some, None, IfOk, IfErr, MatchOption};
 ghost use Rattle.std.specs.List.{list_any};
 ghost use Rattle.formula_parse.specs.Tree.{Tree};
 ghost use Rattle.formula_parse.specs.Spelling.{SpellsIn, FitsFault};
@@ -49,6 +49,21 @@ impl RuleTree {
         ensures { result.now ≡ mentioned self.now }
     {
         self.mentions.as_slice()
+    }
+
+    // The formula, where there is one.
+    pub(crate) fn formula(&self) -> Option<&Formula>
+        ensures { MatchOption result (self.now ≡ None) (λ f. self.now ≡ Some f.now) }
+    {
+        self.formula.as_ref()
+    }
+
+    // The room that its evaluation needs.
+    pub(crate) fn room(&self) -> usize
+        ensures room { result ≡ whole_room self.now }
+        ensures most { result ≤ most_room }
+    {
+        self.room
     }
 
     /// Whether the formula uses `rec` or `newRec`.

@@ -1,8 +1,7 @@
 -- What stands on a desk when what lies behind it changes.
-use Rattle.std.proofs.Common.{◌≡◌, ◌≤◌, ◌<◌, ◌+◌, ◌-◌, ◌++◌, ◌∙◌, arith, ap, sym, subst, refl, ℕ, List, [], ◌∷◌, length, take, drop, suc, zero, get_or}
+use Rattle.std.proofs.Common.{◌≡◌, ◌≤◌, ◌-◌, ◌++◌, ◌∙◌, arith, ap, sym, subst, refl, ℕ, List, [], ◌∷◌, length, take, drop, suc, zero, get_or}
 use Rattle.cell_types.specs.declared.value.CellItem.{CellItem}
 use Rattle.cell_types.specs.declared.value.CellItem.TheVariants as item
-use Rattle.cell_types.specs.declared.value.CellValue.{CellValue}
 use Rattle.cell_types.specs.declared.value.CellValue.TheVariants as value
 use Rattle.acl_formula.specs.declared.operand.Operand.{Operand}
 use Rattle.acl_formula.specs.declared.operand.Operand.TheVariants as operand

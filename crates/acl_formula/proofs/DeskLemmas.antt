@@ -1,5 +1,5 @@
 -- Ranges of a desk that follow one another, and what is put down.
-use Rattle.std.proofs.Common.{◌≡◌, ◌≤◌, ◌<◌, ◌+◌, ◌-◌, ◌++◌, ◌∙◌, append_assoc, arith, ap, sym, subst, refl, ℕ, cond, List, [], ◌∷◌, length, take, drop, suc, zero, Option, Some, None}
+use Rattle.std.proofs.Common.{◌≡◌, ◌≤◌, ◌+◌, ◌-◌, ◌++◌, ◌∙◌, append_assoc, arith, ap, sym, subst, refl, ℕ, List, [], ◌∷◌, length, take, drop, Option, Some, None}
 use Rattle.std.specs.Option.{MatchOption}
 use Rattle.std.proofs.Math.Seq.{take-add}
 use Rattle.std.proofs.lemmas.List.{length-append, append-nil, drop-drop}

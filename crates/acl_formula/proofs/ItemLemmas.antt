@@ -1,5 +1,5 @@
 -- Items of lists, on a desk and off it.
-use Rattle.std.proofs.Common.{◌≡◌, ◌≤◌, ◌<◌, ◌+◌, ◌-◌, ◌++◌, ◌∙◌, arith, ap, sym, subst, refl, ℕ, zero, suc, Bool, true, false, List, [], ◌∷◌, length, take, drop, slice_set, Option, Some, None}
+use Rattle.std.proofs.Common.{◌≡◌, ◌≤◌, ◌<◌, ◌+◌, ◌-◌, ◌++◌, ◌∙◌, arith, ap, sym, subst, refl, ℕ, true, false, List, [], ◌∷◌, length, take, drop, slice_set, Some, None}
 use Rattle.std.proofs.lemmas.List.{take-set, drop-set}
 use Rattle.cell_types.specs.declared.value.CellItem.{CellItem}
 use Rattle.cell_types.specs.declared.value.CellItem.TheVariants as item

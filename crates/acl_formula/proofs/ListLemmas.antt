@@ -1,5 +1,5 @@
 -- A list that is written, item by item.
-use Rattle.std.proofs.Common.{◌≡◌, ◌≤◌, ◌+◌, ◌-◌, ◌++◌, ◌∙◌, append_assoc, arith, ap, sym, subst, refl, ℕ, List, [], ◌∷◌, length, take, Option, Some, None}
+use Rattle.std.proofs.Common.{◌≡◌, ◌≤◌, ◌-◌, ◌++◌, ◌∙◌, append_assoc, arith, ap, sym, subst, refl, ℕ, List, [], ◌∷◌, length, take, Option, Some, None}
 use Rattle.std.proofs.lemmas.List.{append-nil}
 use Rattle.std.proofs.lemmas.Option.{same_Some}
 use Rattle.cell_types.specs.declared.value.CellItem.{CellItem}

@@ -1,5 +1,5 @@
 -- Operators on operands that have values.
-use Rattle.std.proofs.Common.{◌≡◌, ◌∙◌, ap, sym, refl, ℤ, pos, Bool, true, false, Option, Some, None, Ok, Err, if◌then◌else◌}
+use Rattle.std.proofs.Common.{◌≡◌, ◌∙◌, ap, sym, refl, ℤ, pos, true, false, Option, Some, Ok, Err, if◌then◌else◌}
 use Rattle.std.specs.Ordering.{int_eq}
 use Rattle.cell_types.specs.Decimal.{fits_64_bits}
 use Rattle.cell_types.specs.declared.value.CellValue.{CellValue}

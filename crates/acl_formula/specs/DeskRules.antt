@@ -1,6 +1,5 @@
 -- What holds of values on a desk.
-use Rattle.std.specs.Prelude.{ℕ, ◌+◌, ◌≤◌, ◌≡◌, List, [], ◌∷◌, length, Option, Some, None}
-use Rattle.cell_types.specs.declared.value.CellItem.{CellItem}
+use Rattle.std.specs.Prelude.{ℕ, ◌≤◌, ◌≡◌, List, [], ◌∷◌, length}
 use Rattle.cell_types.specs.TextBound.{text_bound}
 use Rattle.value_ops.specs.Joined.{joined_list_bound}
 use Rattle.acl_formula.specs.declared.operand.Operand.{Operand}

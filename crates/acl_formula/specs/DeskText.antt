@@ -1,5 +1,5 @@
 -- The text or list of a value where it lies.
-use Rattle.std.specs.Prelude.{ℕ, ◌≡◌, Bool, true, false, List, [], ◌∷◌, length, Option, Some, None}
+use Rattle.std.specs.Prelude.{ℕ, ◌≡◌, Bool, true, false, List, length, Option, Some, None}
 use Rattle.cell_types.specs.declared.value.CellItem.{CellItem}
 use Rattle.acl_formula.specs.declared.operand.Operand.{Operand}
 use Rattle.acl_formula.specs.declared.operand.Operand.TheVariants as operand

@@ -1,5 +1,5 @@
 -- Which operators need no more than two values, and the number that one gave.
-use Rattle.std.specs.Prelude.{Option, Some, None, Result, Ok, Err}
+use Rattle.std.specs.Prelude.{Option, Some, None, Result, Ok}
 use Rattle.cell_types.specs.declared.value.CellValue.{CellValue}
 use Rattle.cell_types.specs.declared.value.CellValue.TheVariants as value
 use Rattle.value_ops.specs.declared.fault.OpFault.{OpFault}

@@ -1,6 +1,6 @@
 -- The value of a rule's formula, or nothing where it fails: whatever a part that is evaluated
 -- raises, and whatever it asks that is not there, fails the whole.
-use Rattle.std.specs.Prelude.{ℕ, ℤ, pos, Bool, true, false, not, cond, codes, List, [], ◌∷◌, ◌++◌, Option, Some, None, Result, Ok, Err}
+use Rattle.std.specs.Prelude.{pos, Bool, true, false, not, cond, codes, List, [], ◌∷◌, ◌++◌, Option, Some, None, Result, Ok, Err}
 use Rattle.cell_types.specs.declared.value.CellItem.{CellItem}
 use Rattle.cell_types.specs.declared.value.CellItem.TheVariants as item
 use Rattle.cell_types.specs.declared.value.CellValue.{CellValue}

@@ -45,6 +45,7 @@ pub(crate) fn less(desk: &[Part<'_>], left: Operand<'_>, right: Operand<'_>) -> 
     ensures { result ≡ less (seen desk.now left.entry) (seen desk.now right.entry) }
 {
     match (left, right) {
+        (Operand::Text(left), Operand::Text(right)) => Some(left < right),
         (Operand::Text(_) | Operand::Joined(..), Operand::Text(_) | Operand::Joined(..)) => {
             less_texts(desk, left, right)
         }

@@ -78,6 +78,7 @@ pub(crate) fn equal_but_lists(desk: &[Part<'_>], left: Operand<'_>, right: Opera
 {
     match (left, right) {
         (Operand::Null, Operand::Null) => true,
+        (Operand::Text(left), Operand::Text(right)) => left == right,
         (Operand::Text(_) | Operand::Joined(..), Operand::Text(_) | Operand::Joined(..)) => {
             equal_texts(desk, left, right)
         }
@@ -102,6 +103,7 @@ pub(crate) fn equal(desk: &[Part<'_>], left: Operand<'_>, right: Operand<'_>) ->
     }
 }
 
+// The desk is there for what the clause says.
 fn same_kind(desk: &[Part<'_>], left: Operand<'_>, right: Operand<'_>) -> bool
     ensures { result ≡ is_same_kind (seen desk.now left.entry) (seen desk.now right.entry) }
 {

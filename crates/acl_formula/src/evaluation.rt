@@ -43,7 +43,7 @@ fn constant_value(constant: Constant) -> Option<Operand<'static>>
     }
 }
 
-// A value that lies on no desk, beside one.
+// A value that lies on no desk, seen beside one: the clauses change, the value does not.
 pub(crate) fn beside<'a>(
     desk: &[Part<'a>],
     at: usize,

@@ -78,20 +78,28 @@ fn cell_in<'a>(cells: &'a [NamedCell], name: &Name) -> Option<&'a CellValue>
     None
 }
 
+impl RowReader for AttributeRow {
+    ghost use Rattle.acl_formula.specs.RuleFields.{cell_in};
+
+    ghost told = { λ r. record { id = r.row; cell = λ c. cell_in r.cells c } };
+
+    fn id(&self) -> u32 {
+        self.row
+    }
+
+    fn cell(&self, column: &Name) -> Option<&CellValue> {
+        cell_in(self.cells.as_slice(), column)
+    }
+}
+
 // A field of the row that an attribute found.
 fn found_field<'a>(found: &'a Option<AttributeRow>, name: &Name) -> Option<Operand<'a>>
     ensures value { option_map lent result ≡ found_field found.now name.now }
     ensures lent { IfSome result IsLent }
 {
-    let Some(row) = found else {
-        return Some(Operand::Null);
-    };
-    if is_id(name.as_str()) {
-        return Some(Operand::Int(i64::from(row.row)));
-    }
-    match cell_in(row.cells.as_slice(), name) {
-        Some(cell) => operand_of(cell),
-        None => None,
+    match found {
+        Some(row) => field_of_row(row, name),
+        None => Some(Operand::Null),
     }
 }
 

@@ -86,7 +86,7 @@ pub(crate) fn operand_of_item<'a>(item: &'a CellItem) -> Operand<'a>
     }
 }
 
-// The number that a value is, where it is one.
+// The number that a value is, where it is one. The desk is there for what the clause says.
 pub(crate) fn number(desk: &[Part<'_>], value: Operand<'_>) -> Option<i64>
     ensures { result ≡ number_of (seen desk.now value.entry) }
 {

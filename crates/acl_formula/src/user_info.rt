@@ -15,7 +15,8 @@ pub struct NamedCell {
 /// Columns with their values.
 pub type NamedCellList = Sequence<NamedCell>;
 
-/// The row that an attribute found, with its evaluated cells.
+/// A row that is kept with its evaluated cells, as that which an attribute found. It reads as the
+/// row that it was.
 #[derive(Clone, Drop)]
 pub struct AttributeRow {
     pub row: u32,

@@ -1,4 +1,4 @@
-use Rattle.std.proofs.Common.{rules, arith, ◌≡◌, ◌≤◌, ◌+◌, ◌<◌, ◌++◌, ◌∙◌, ap, sym, refl, ℕ, List, Option, Some, None, drop, take, length, subst}
+use Rattle.std.proofs.Common.{arith, ◌≡◌, ◌≤◌, ◌+◌, ◌<◌, ◌++◌, ◌∙◌, ap, sym, refl, ℕ, List, Some, drop, length, subst}
 use Rattle.std.proofs.lemmas.List.{length-append}
 use Rattle.cell_types.specs.declared.value.CellItem.{CellItem}
 use Rattle.formula_parse.specs.Tree.{Tree, Trees, from_list}

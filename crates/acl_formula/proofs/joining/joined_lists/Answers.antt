@@ -1,4 +1,4 @@
-use Rattle.std.proofs.Common.{arith, ◌≡◌, ◌+◌, ◌≤◌, length, refl}
+use Rattle.std.proofs.Common.{arith, refl}
 use Rattle.acl_formula.proofs.DeskLemmas.{list_length, list_good, list_sum}
 use Rattle.acl_formula.proofs.joining.joined_lists.Goals as goal
 

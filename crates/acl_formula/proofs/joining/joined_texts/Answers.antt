@@ -1,4 +1,4 @@
-use Rattle.std.proofs.Common.{arith, ◌≡◌, ◌+◌, ◌≤◌, length, refl}
+use Rattle.std.proofs.Common.{arith, refl}
 use Rattle.acl_formula.proofs.DeskLemmas.{text_length, text_pieces, text_sum}
 use Rattle.acl_formula.proofs.joining.joined_texts.Goals as goal
 

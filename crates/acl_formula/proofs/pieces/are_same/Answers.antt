@@ -1,4 +1,4 @@
-use Rattle.std.proofs.Common.{rules, arith, ◌≡◌, length}
+use Rattle.std.proofs.Common.{rules}
 use Rattle.acl_formula.specs.Desk.{joined}
 use Rattle.acl_formula.proofs.PieceLemmas.{same_by_takes}
 use Rattle.acl_formula.proofs.pieces.are_same.Goals as goal

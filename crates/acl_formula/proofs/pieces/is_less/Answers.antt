@@ -1,4 +1,4 @@
-use Rattle.std.proofs.Common.{rules, arith, ◌≡◌, ◌≤◌}
+use Rattle.std.proofs.Common.{rules}
 use Rattle.acl_formula.specs.Desk.{joined}
 use Rattle.acl_formula.proofs.PieceLemmas.{less_at_right_end, less_at_left_end}
 use Rattle.acl_formula.proofs.pieces.is_less.Goals as goal

@@ -1,4 +1,4 @@
-use Rattle.std.proofs.Common.{◌≡◌, ◌≤◌, take, drop, length}
+use Rattle.std.proofs.Common.{◌≡◌, ◌≤◌, drop}
 use Rattle.acl_formula.specs.Desk.{joined}
 use Rattle.acl_formula.specs.Pieces.{is_less}
 use Rattle.acl_formula.proofs.pieces.is_less.Given as goal

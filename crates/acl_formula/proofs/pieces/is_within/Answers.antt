@@ -1,4 +1,4 @@
-use Rattle.std.proofs.Common.{rules, arith, ◌≡◌, ◌<◌}
+use Rattle.std.proofs.Common.{rules, arith}
 use Rattle.acl_formula.specs.Desk.{joined}
 use Rattle.acl_formula.proofs.PieceLemmas.{within_found, within_next}
 use Rattle.acl_formula.proofs.pieces.is_within.Goals as goal

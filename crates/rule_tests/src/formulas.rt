@@ -1,9 +1,10 @@
 //! Rules' formulas, by tables of what they come to for an editor and two rows. What numbers, texts
 //! and lists come to is what Python 3 gives; the rest is from the users' page on rules.
 //!
-//! `kinds_meet_as_the_page_says` has each operator at each pair of kinds, `rules_come_to_what_they_say`
-//! the rest of the language, its bounds and texts that are no formulas, `absent_rows_fail` rules that
-//! ask for a row that is not there, `mentions_stand_once_in_order` what a formula asks for.
+//! `kinds_meet_as_the_page_says` has each operator at each pair of kinds,
+//! `rules_come_to_what_they_say` the rest of the language, its bounds and texts that are no
+//! formulas, `absent_rows_fail` rules that ask for a row that is not there,
+//! `mentions_stand_once_in_order` what a formula asks for.
 
 use crate::samples::{Cell, Sample, editor, row};
 use acl_formula::{AttributeRow, Mention, RuleTruth, UserInfo, eval_rule, parse_rule};

@@ -1,0 +1,10 @@
+mod DeskKept
+mod DeskLemmas
+mod FormulaItems
+mod FormulaTexts
+mod ItemLemmas
+mod ListLemmas
+mod MentionLemmas
+mod Operands
+mod PieceLemmas
+mod RoomLemmas

@@ -1,0 +1,14 @@
+pub mod Asked
+pub mod Desk
+pub mod DeskRules
+pub mod DeskText
+pub mod FormulaText
+pub mod Mentions
+pub mod Operators
+pub mod Permissions
+pub mod Pieces
+pub mod Room
+pub mod RuleFields
+pub mod RuleRow
+pub mod RuleTruths
+pub mod RuleValue

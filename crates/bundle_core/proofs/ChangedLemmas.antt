@@ -30,7 +30,6 @@ pub none_of : (b d : Bool) → (b ≡ true → d ≡ true) → d ≡ false → b
 none_of false d h none = refl
 none_of true d h none = absurd (true≢false (sym (h refl) ∙ none))
 
-
 either_noted : (a b d : Bool) → (a ≡ true → b ≡ true) → (a || d) ≡ true → (b || d) ≡ true
 either_noted true b d h e = ap (λ x. x || d) (h refl)
 either_noted false true d h e = refl

@@ -1,5 +1,5 @@
 -- What requests of an open session were judged to be.
-use Rattle.std.proofs.Common.{◌≡◌, ℕ, List, Option, Some, None, Result, Ok, Err, IsOk, sym, ap, subst}
+use Rattle.std.proofs.Common.{◌≡◌, ℕ, List, Option, Some, None, Result, Ok, Err, IsOk, true, refl, sym, ap, subst}
 use Rattle.doc_model.specs.declared.action.Step.{Step}
 use Rattle.doc_model.specs.declared.request.Request.{Request}
 use Rattle.doc_model.specs.declared.request.Request.TheVariants as request
@@ -7,11 +7,10 @@ use Rattle.doc_model.specs.declared.user_action.UserAction.{UserAction}
 use Rattle.doc_model.specs.Document.{Document}
 use Rattle.undo_bundles.specs.declared.log.LogFault.{LogFault}
 use Rattle.undo_bundles.specs.BundleLog.{undo_of}
-use Rattle.bundle_core.specs.declared.judging.BundlePlan.{BundlePlan}
 use Rattle.bundle_core.specs.declared.judging.JudgedBundle.{JudgedBundle}
 use Rattle.bundle_core.specs.declared.judging.JudgedBundle.TheVariants as judged
 use Rattle.bundle_core.specs.Judged.{IsJudgedFor, IsOwn, state_with}
-use Rattle.bundle_core.specs.JudgedBundles.{IsBundlePlan, IsJudgedBundle}
+use Rattle.bundle_core.specs.JudgedBundles.{IsJudgedBundle}
 use Rattle.bundle_core.specs.Judgement.{Judgement, accepted, judge}
 use Rattle.bundle_core.specs.Noting.{MayBeUndone}
 use Rattle.bundle_core.specs.State.{Holder, from_open}
@@ -23,7 +22,7 @@ undoes_none (judged.Accepted p) j s h k = let P : Option ℕ → Type 0 = λ u. 
 
 -- what is accepted was found
 found_from : (r : Result (List Step) LogFault) (s s' : Document) (steps : List Step) (ms : List _) → judge_own_undo r s ≡ accepted s' steps ms → IsOk r
-found_from (Ok xs) s s' steps ms e = tt
+found_from (Ok xs) s s' steps ms e = refl
 found_from (Err why) s s' steps ms e = absurd (cc)
 
 undoes_own : (b : JudgedBundle) (s : Document) (h : Holder) (number : ℕ) → IsJudgedBundle (judge_own_undo (undo_of h.log number) s) (Some number) s b → IsOwn b h
@@ -36,7 +35,7 @@ pub judged_bundle : (h : Holder) (s : Document) (r : Request) (actions : List Us
 judged_bundle h s r actions b asks k = record {
   judgement = judge h.user s actions;
   undone = None;
-  asks = λ os. ap (from_open (state_with s os) h _) asks;
+  asks = λ os. ap (from_open (state_with s os) h true) asks;
   judged = k;
   own = undoes_none b (judge h.user s actions) s h k;
 }
@@ -45,7 +44,7 @@ pub judged_undo : (h : Holder) (s : Document) (r : Request) (number : ℕ) (b : 
 judged_undo h s r number b asks k = record {
   judgement = judge_own_undo (undo_of h.log number) s;
   undone = Some number;
-  asks = λ os. ap (from_open (state_with s os) h _) asks;
+  asks = λ os. ap (from_open (state_with s os) h true) asks;
   judged = k;
   own = undoes_own b s h number k;
 }

@@ -189,8 +189,8 @@ module _ (users : List User) (s s' : Document) (xs : List SessionState) (p : ℕ
       let qs = b.prepared in
       let o = b.posts in
       let y = get_or qs p d in
-      let count = same_length xs qs b.same in
-      let within : p < length qs = omega (arith, count, f.within) in
+      let sizes = same_length xs qs b.same in
+      let within : p < length qs = omega (arith, sizes, f.within) in
       let one : open_of new_document y ≡ open_of new_document (get_or xs p d) = same_at xs qs p d b.same in
       let holders : y.holder ≡ (get_or xs p d).holder = ap (λ (o : Open). o.holder) one in
       let named : y.session ≡ e.session = ap (λ (o : Open). o.session) one ∙ f.named d in

@@ -43,6 +43,12 @@ pub actions_left : (i : ℕ) (xs : List Step) (x : Step) → i < length xs → x
 actions_left i xs x lt is =
     drop_actions i xs ∙ ap (map action_of) (left_at i xs x lt is) ∙ ap (λ l. x.action ∷ l) (sym (drop_actions (i + 1) xs))
 
+pub step_at : (xs : List Step) (i : ℕ) (a : DocAction) (m : Bool) → i < length xs → a ≡ get_or (map action_of xs) i a → ((d : Step) → m ≡ (get_or xs i d).direct)
+    → (let x : Step = record { action = a; direct = m } in x ≡ get_or xs i x)
+step_at [] i a m lt is k = absurd (omega (arith, lt))
+step_at (y ∷ xs) zero a m lt is k = ap (λ b. let x : Step = record { action = b; direct = m } in x) is ∙ ap (λ n. let x : Step = record { action = y.action; direct = n } in x) (k y)
+step_at (y ∷ xs) (suc i) a m lt is k = step_at xs i a m (omega (arith, lt)) is k
+
 -- ---- steps apart
 
 pub joined_actions : (as' : List DocAction) (marks : List Bool) → length as' ≡ length marks → map action_of (joined as' marks) ≡ as'

@@ -16,7 +16,7 @@ use Rattle.bundle_core.specs.JudgedBundles.{IsBundlePlan, after_steps}
 use Rattle.bundle_core.specs.Judgement.{Judgement, accepted, refused, with_before}
 use Rattle.bundle_core.specs.Undo.{judge_undo, stale_at}
 use Rattle.bundle_core.specs.UndoneSteps.{IsUndoAt, MayGoOn}
-use Rattle.bundle_core.proofs.JudgmentLemmas.{apply_all-append, all_valid-append, with_before-both, with_before-accepted}
+use Rattle.bundle_core.proofs.JudgmentLemmas.{apply_all-append, all_valid-append, with_before-accepted, with_before-both, with_before-nothing}
 use Rattle.bundle_core.proofs.RollbackLemmas.{left_at, nothing_left}
 use Rattle.bundle_core.proofs.TakeLemmas.{map_take_next}
 
@@ -28,13 +28,9 @@ take_suc (z ∷ xs) (suc i) x lt is = ap (λ r. z ∷ r) (take_suc xs i x (omega
 take_next : (xs : List Step) (i : ℕ) (x : Step) → i < length xs → x ≡ get_or xs i x → take i xs ++ x ∷ [] ≡ take (i + 1) xs
 take_next xs i x lt is = rw (add-one i) (take_suc xs i x lt is)
 
-before_nothing : (j : Judgement) → j ≡ with_before [] [] j
-before_nothing (accepted s steps ms) = refl
-before_nothing (refused v) = refl
-
 module _ (start : Document) (xs : List Step) where
   pub undo_starts : (tally : Tally) → IsTally start tally → IsUndoAt start xs 0 start tally
-  undo_starts tally is = record { done_so_far = refl; valid = refl; counts = is; judged = before_nothing (judge_undo start 0 xs) }
+  undo_starts tally is = record { done_so_far = refl; valid = refl; counts = is; judged = with_before-nothing (judge_undo start 0 xs) }
 
   module _ (i : ℕ) (s : Document) (tally : Tally) (h : IsUndoAt start xs i s tally) where
     -- all are judged, and the undo is accepted

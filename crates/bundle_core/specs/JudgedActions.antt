@@ -6,7 +6,6 @@ use Rattle.doc_model.specs.declared.user_action.UserAction.{UserAction}
 use Rattle.doc_model.specs.Apply.{apply_all, all_valid}
 use Rattle.doc_model.specs.Document.{Document}
 use Rattle.action_limits.specs.declared.tally.Tally.{Tally}
-use Rattle.action_limits.specs.Tallies.{after}
 use Rattle.user_actions.specs.StepLaws.{action_of}
 use Rattle.user_actions.specs.Steps.{steps_of}
 use Rattle.bundle_core.specs.declared.judging.ActionPlan.{ActionPlan}

@@ -152,7 +152,8 @@ fn done_and_told<D: DocTables>(
     requires outside { AreSameOutside (map action_of steps.now) changed.now
         (filled (D.document doc.old)) (filled (after_steps (D.document doc.old) steps.now)) }
     requires first { traces.old.items ≡ [] }
-    ensures document { OnOk result (D.document doc.new ≡ after_steps (D.document doc.old) steps.now) }
+    ensures document { OnOk result
+        (D.document doc.new ≡ after_steps (D.document doc.old) steps.now) }
     ensures led { AllLeadBack D.fits D.undone traces.new.items (D.document doc.new) }
     ensures back { gone_back D.fits D.undone traces.new.items (D.document doc.new)
         ≡ D.document doc.old }

@@ -2,10 +2,11 @@
 //!
 //! Stands on `doc_model` (documents, changes, entries), `row_tables` (the document in memory),
 //! `recalc` (its formula cells evaluated), `user_actions` (refusals), `action_limits` (steps and
-//! limits), `view_parts` and `plain_view` (what users see and are told) and `grist_json` (the texts
-//! of lines). What an entry comes to is said in specs/State.antt, and what a bundle comes to in
-//! specs/Judgement.antt, over plain lists, for every document; what users see is the document with
-//! the value of each formula cell in its place.
+//! limits), `undo_bundles` (a session's bundles with their inverses), `view_parts` and `plain_view`
+//! (what users see and are told) and `grist_json` (the texts of lines). What an entry comes to is
+//! said in specs/State.antt, and what a bundle and an undo come to in specs/Judgement.antt and
+//! specs/Undo.antt, over plain lists, for every document; what users see is the document with the
+//! value of each formula cell in its place.
 //!
 //! Promises: `Core::step` gives the lines that the state after the history says, and adds the
 //! entry; a full history and running out of memory change nothing, and a session that goes away
@@ -13,12 +14,13 @@
 //! views tell; `equal_bytes_law`: histories that it observes alike give it equal bytes.
 //! `undo_law`: where no other bundle was accepted since, an undo of a session's bundle is never
 //! stale, and where it is accepted the document is that before the bundle.
-//! Not built yet: undo and fetching a table, access rules.
-//! Costs: a bundle costs what its actions touch, where there are formulas the evaluation of the
-//! document after each action, all of it twice, and a line for each session. A session's index is
-//! found by a walk.
-//! Read first: specs/State.antt, specs/Judgement.antt, specs/Told.antt and specs/Core.antt, then
-//! history_core.rt, dispatch.rt, judging.rt and bundle.rt.
+//! Not built yet: fetching a table, access rules.
+//! Costs: a bundle costs what its actions touch, and a line for each session; where there are
+//! formulas the evaluation of the document after each action too. Its actions are done twice, the
+//! last one once where there are no formulas. Its inverse costs what its actions take away. A
+//! session's index is found by a walk.
+//! Read first: specs/State.antt, specs/Judgement.antt, specs/Undo.antt, specs/Told.antt and
+//! specs/Core.antt, then history_core.rt, dispatch.rt, judging.rt, undoing.rt and bundle.rt.
 #![tactic(auto)]
 
 mod bare_verdict;

@@ -5,6 +5,7 @@ ghost use Rattle.std.specs.List.{list_any};
 ghost use Rattle.doc_model.specs.Apply.{all_valid, apply};
 ghost use Rattle.doc_model.specs.DocumentLaws.{IsWhole};
 ghost use Rattle.doc_model.specs.Valid.{valid};
+ghost use Rattle.doc_model.specs.declared.action.Step.{Step};
 ghost use Rattle.user_actions.specs.StepLaws.{action_of};
 ghost use Rattle.undo_bundles.specs.InverseSteps.{inverse_steps};
 ghost use Rattle.recalc.specs.Current.{brings_formula, has_formulas};
@@ -79,6 +80,7 @@ pub(crate) fn do_all<D: DocTables>(
 }
 
 // Whether the document has no formula column, and none after these steps.
+#[tactic(auto, using(crate::proofs::StepLemmas::any_action))]
 fn stays_plain<D: DocTables>(doc: &Doc<D>, steps: &[Step]) -> bool
     ensures { result ≡ true → (has_formulas (D.document doc.now) ≡ false)
         × (list_any brings_formula (map action_of steps.now) ≡ false) }
@@ -87,7 +89,7 @@ fn stays_plain<D: DocTables>(doc: &Doc<D>, steps: &[Step]) -> bool
 }
 
 fn bring_formula(steps: &[Step]) -> bool
-    ensures { result ≡ list_any brings_formula (map action_of steps.now) }
+    ensures { result ≡ list_any (λ (x : Step). brings_formula x.action) steps.now }
 {
     steps.iter().any(|step| brings_formula(&step.action))
 }

@@ -260,10 +260,7 @@ impl OpenSession {
             lines.push_reserved(line);
             self.made += 1;
         }
-        if let Some(number) = note.undone {
-            self.log.mark_undone(number);
-        }
-        self.log.note(note.inverse);
+        note_in(&mut self.log, note);
         lines.push_reserved(reply);
         lines
     }
@@ -276,6 +273,22 @@ impl OpenSession {
         let mut lines = self.waiting;
         lines.push_reserved(reply);
         lines
+    }
+}
+
+// Notes an accepted bundle, and marks the one that it undoes.
+#[tactic(auto, using(undo_bundles::proofs::LogLaws::marked_count))]
+fn note_in(log: &mut BundleLog, note: BundleNote)
+    requires room { 0 < log.old.room }
+    requires few { count log.old.log < 2 ^ 63 }
+    requires own { MayBeUndone note.undone log.old.log }
+    ensures { log.new.log ≡ log_after note log.old.log }
+{
+    if let Some(number) = note.undone {
+        log.mark_undone(number);
+        log.note(note.inverse);
+    } else {
+        log.note(note.inverse);
     }
 }
 

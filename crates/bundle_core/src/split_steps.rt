@@ -6,9 +6,9 @@ ghost use Rattle.doc_model.specs.declared.action.Step.{Step};
 ghost use Rattle.user_actions.specs.StepLaws.{action_of};
 
 use doc_model::{DocAction, Step};
-use list_ops::all_copied;
 use std::alloc::{AllocError, Global};
 use std::marker::Model;
+use undo_bundles::copy_of_steps;
 
 /// Steps, seen as them.
 #[derive(Drop)]
@@ -49,7 +49,7 @@ impl SplitSteps {
     pub fn copy_of(alloc: Global, steps: &[Step]) -> Result<Self, AllocError>
         ensures { IfOk result (λ s. s ≡ steps.now) }
     {
-        SplitSteps::of(alloc, all_copied(alloc, steps, |step| step.clone())?)
+        SplitSteps::of(alloc, copy_of_steps(alloc, steps)?)
     }
 
     /// Their actions.

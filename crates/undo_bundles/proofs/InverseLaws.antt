@@ -1,9 +1,9 @@
 -- The inverse of steps, as that of their actions.
-use Rattle.std.proofs.Common.{Bool, true, List, [], ◌∷◌, ◌++◌, map, ◌≡◌, refl, sym, ap, subst, ◌∙◌}
+use Rattle.std.proofs.Common.{Bool, List, [], ◌∷◌, ◌++◌, map, ◌≡◌, refl, sym, ap, subst, ◌∙◌}
 use Rattle.std.proofs.lemmas.List.{map-append, append_assoc, append-nil}
 use Rattle.doc_model.specs.declared.action.DocAction.{DocAction}
 use Rattle.doc_model.specs.declared.action.Step.{Step}
-use Rattle.doc_model.specs.Apply.{apply, apply_all, all_valid}
+use Rattle.doc_model.specs.Apply.{apply, apply_all}
 use Rattle.doc_model.specs.Document.{Document}
 use Rattle.doc_model.specs.Inverse.{inverse, inverse_all}
 use Rattle.doc_model.proofs.DocumentParts.{LeadsBack}

@@ -1,11 +1,10 @@
-use Rattle.std.proofs.Common.{ℕ, List, map, Option, ap, sym, subst}
+use Rattle.std.proofs.Common.{ℕ, List, map, get_or, Option, ap, sym, subst}
 use Rattle.user_actions.specs.StepLaws.{action_of}
 use Rattle.undo_bundles.specs.BundleLog.{Log}
 use Rattle.bundle_core.specs.declared.session.BundleNote.{BundleNote}
 use Rattle.bundle_core.specs.Dispatch.{Posts, bundle_reply}
 use Rattle.bundle_core.specs.JudgedBundles.{after_steps, told_changes}
 use Rattle.bundle_core.specs.Noting.{MayBeUndone}
-use Rattle.bundle_core.specs.SessionState.{SessionState}
 use Rattle.bundle_core.proofs.Readied.{all_may_post, few_bundles, same_log}
 use Rattle.bundle_core.proofs.bundle.accept.Goals as goal
 
@@ -20,7 +19,7 @@ pub post-requires-clause-own : goal.post-requires-clause-own
 post-requires-clause-own g c =
     λ d. let r = c.in-Ok.ready in
     let P : Log → Type 0 = λ log. MayBeUndone c.args.plan.now.undone log in
-    let Q : Option ℕ → Type 0 = λ u. MayBeUndone u (_) in
+    let Q : Option ℕ → Type 0 = λ u. MayBeUndone u (get_or c.ready_bundle.new.sessions.items c.args.index d).holder.log in
     subst Q (sym (ap (λ (n : BundleNote). n.undone) c.in-Ok.ensures.note))
     (subst P (same_log c.args.sessions.now.items c.ready_bundle.new.sessions.items c.args.index d c.in-Ok.ensures.same) (c.requires.own d))
 

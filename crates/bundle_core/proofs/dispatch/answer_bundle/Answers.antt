@@ -1,4 +1,4 @@
-use Rattle.std.proofs.Common.{List, None, sym, subst}
+use Rattle.std.proofs.Common.{List, get_or, None, sym, subst}
 use Rattle.doc_model.specs.declared.user.User.{User}
 use Rattle.doc_model.specs.declared.user_action.UserAction.{UserAction}
 use Rattle.doc_model.specs.Document.{Document}
@@ -17,7 +17,7 @@ answer_judged-requires-clause-judged g c =
     let P : List UserAction → Type 0 = λ l. IsJudgedBundle (judge c.user.result.now s l) None s b in
     let Q : User → Type 0 = λ u. IsJudgedBundle (judge u s c.args.actions.now) None s b in
     let X : SessionState → Type 0 = λ x. IsJudgedBundle (judge x.holder.user s c.args.actions.now) None s b in
-    let T : Document → Type 0 = λ u. IsJudgedBundle (judge _ u c.args.actions.now) None u b in
+    let T : Document → Type 0 = λ u. IsJudgedBundle (judge (get_or c.args.sessions.now.items c.args.index d).holder.user u c.args.actions.now) None u b in
     let at = at_any c.args.sessions.now.items c.args.index c.index.result.now d c.requires.finds.within c.index.ensures in
     judged_bundle _ t c.args.entry.now.request c.args.actions.now b c.requires.asks
     (subst T (sym c.in_ok-judged.ensures.same) (subst X (sym at) (subst Q c.user.ensures (subst P c.as_slice.ensures c.in_ok-judged.ensures.judged))))

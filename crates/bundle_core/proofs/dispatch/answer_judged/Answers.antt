@@ -7,7 +7,6 @@ use Rattle.action_limits.specs.Tallies.{IsTally}
 use Rattle.user_actions.specs.StepLaws.{action_of}
 use Rattle.undo_bundles.specs.InverseSteps.{inverse_steps}
 use Rattle.bundle_core.specs.Dispatch.{Answers, Bundles, bundle_reply}
-use Rattle.bundle_core.specs.Judgement.{refused}
 use Rattle.bundle_core.specs.JudgedBundles.{IsBundlePlan, after_steps, told_changes}
 use Rattle.bundle_core.proofs.OpenLemmas.{find_bundle, find_refused, some_session}
 use Rattle.bundle_core.proofs.dispatch.answer_judged.Goals as goal

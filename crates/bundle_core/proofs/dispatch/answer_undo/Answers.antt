@@ -1,4 +1,4 @@
-use Rattle.std.proofs.Common.{Some, sym, subst}
+use Rattle.std.proofs.Common.{get_or, Some, sym, subst}
 use Rattle.doc_model.specs.Document.{Document}
 use Rattle.undo_bundles.specs.BundleLog.{undo_of}
 use Rattle.bundle_core.specs.JudgedBundles.{IsJudgedBundle}
@@ -15,6 +15,6 @@ answer_judged-requires-clause-judged g c =
     let b = c.in_ok-judged.judged in
     let n = c.args.number in
     let X : SessionState → Type 0 = λ x. IsJudgedBundle (judge_own_undo (undo_of x.holder.log n) s) (Some n) s b in
-    let T : Document → Type 0 = λ u. IsJudgedBundle (judge_own_undo (undo_of _ n) u) (Some n) u b in
+    let T : Document → Type 0 = λ u. IsJudgedBundle (judge_own_undo (undo_of (get_or c.args.sessions.now.items c.args.index d).holder.log n) u) (Some n) u b in
     let at = at_any c.args.sessions.now.items c.args.index c.index.result.now d c.requires.finds.within c.index.ensures in
     judged_undo _ t c.args.entry.now.request n b c.requires.asks (subst T (sym c.in_ok-judged.ensures.same) (subst X (sym at) c.in_ok-judged.ensures.judged))

@@ -62,9 +62,10 @@ loop-index-preserved g c =
     let more = c.in_ok-do_all.ensures in
     let changed = c.do_all.new.changed.items in
     let O : List Step → Type 0 = λ xs. AreSameOutside (map action_of xs) changed (filled s) (filled t) in
+    let N : List Step → Type 0 = λ xs. IsAt c.args.user.now start c.args.requested.now (l.index + 1) t c.append.new.self.items xs c.push.new.self.items c.in-Accepted.plan.tally in
     let W : List Step → Type 0 = λ xs. AreSameOutside (map action_of xs) changed (filled start) (filled t) in (
-      at_next c.args.user.now start c.args.requested.now l.index t c.append.new.self.items l.created.items l.tally c.index-requested-index.result (drop (l.index + 1) c.args.requested.now) now
-          (left_at l.index c.args.requested.now c.index-requested-index.result c.loop-index-test.true c.index-requested-index.is) c.in-Accepted.plan c.push.new.self.items refl (rw c.in-Accepted.is at c.in_ok-verdict.ensures) c.in_ok-push-in-Accepted.ensures.items,
+      subst N (sym c.into_vec-next.ensures) (at_next c.args.user.now start c.args.requested.now l.index t c.append.new.self.items l.created.items l.tally c.index-requested-index.result (drop (l.index + 1) c.args.requested.now) now
+          (left_at l.index c.args.requested.now c.index-requested-index.result c.loop-index-test.true c.index-requested-index.is) c.in-Accepted.plan c.push.new.self.items refl (rw c.in-Accepted.is at c.in_ok-verdict.ensures) c.in_ok-push-in-Accepted.ensures.items),
       subst W (sym c.in_ok-append.ensures.items) (outside_then (map action_of l.steps.items) (map action_of l.next.items) (map action_of (l.steps.items ++ l.next.items)) l.changed.items changed (filled start) (filled s) (filled t)
           (front_within l.steps.items l.next.items) (back_within l.steps.items l.next.items) more.stays l.invariant.1 (subst O c.deref.ensures.value more.outside)),
       more.led,
@@ -85,5 +86,5 @@ returns-clause-judged g c =
     let W : List Step → Type 0 = λ xs. AreSameOutside (map action_of xs) changed (filled start) (filled (after_steps start xs)) in
     let outside = outside_then (map action_of l.steps.items) (map action_of l.next.items) (map action_of all) l.changed.items changed (filled start) (filled s) (filled (after_steps s l.next.items))
     (front_within l.steps.items l.next.items) (back_within l.steps.items l.next.items) more.stays l.invariant.1 (subst O c.deref-2.ensures.value more.outside) in
-    planned c.args.user.now start c.args.requested.now l.index s l.steps.items l.next.items l.created.items l.tally l.invariant.0 _ c.requires.few le refl (c.in_ok-steps.ensures ∙ c.in_ok-append-2.ensures.items) refl refl
-    (subst W (sym (c.in_ok-steps.ensures ∙ c.in_ok-append-2.ensures.items)) (subst T (next_done c.args.user.now start c.args.requested.now l.index s l.steps.items l.next.items l.created.items l.tally l.invariant.0) outside))
+    planned c.args.user.now start c.args.requested.now l.index s l.steps.items l.next.items l.created.items l.tally l.invariant.0 _ c.requires.few le refl (c.in_ok-of.ensures ∙ c.in_ok-append-2.ensures.items) refl refl
+    (subst W (sym (c.in_ok-of.ensures ∙ c.in_ok-append-2.ensures.items)) (subst T (next_done c.args.user.now start c.args.requested.now l.index s l.steps.items l.next.items l.created.items l.tally l.invariant.0) outside))

@@ -1,11 +1,10 @@
-use Rattle.std.proofs.Common.{◌∷◌, [], map, length, ap, ◌∙◌, arith}
-use Rattle.doc_model.proofs.Choices.{length_map}
+use Rattle.std.proofs.Common.{◌∷◌, [], map}
 use Rattle.recalc.specs.Evaluated.{filled}
 use Rattle.recalc.specs.WayBack.{IsWayBack}
 use Rattle.user_actions.specs.StepLaws.{action_of}
 use Rattle.bundle_core.specs.Rollback.{led_back}
 use Rattle.bundle_core.proofs.ChangedLemmas.{outside_then, within_itself}
-use Rattle.bundle_core.proofs.RollbackLemmas.{doing_ends, doing_next, doing_valid}
+use Rattle.bundle_core.proofs.RollbackLemmas.{doing_next, doing_valid}
 use Rattle.bundle_core.proofs.StepLemmas.{actions_left, one_within}
 use Rattle.bundle_core.proofs.rollback.do_all.Goals as goal
 

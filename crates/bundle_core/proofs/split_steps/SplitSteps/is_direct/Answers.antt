@@ -1,12 +1,23 @@
-use Rattle.std.proofs.Common.{rules, ◌≡◌, ◌<◌, map, length, get_or, IfOk, ℕ, ◌+◌, ◌-◌, ◌*◌, ◌≤◌, ◌/◌, ◌%◌, Bool, true, false, nat_eq, nat_lt, List, [], ◌∷◌, ◌++◌, slice_set, bit_and, bit_or, Fits, w8, w32, w64, Bor, MutBor}
+use Rattle.std.proofs.Common.{◌<◌, List, length, get_or, sym, ap, subst, ◌∙◌, arith}
 use Rattle.doc_model.specs.declared.action.Step.{Step}
-use Rattle.user_actions.specs.StepLaws.{action_of}
+use Rattle.bundle_core.specs.SplitSteps.{joined}
+use Rattle.bundle_core.proofs.StepLemmas.{joined_length, joined_mark}
 use Rattle.bundle_core.proofs.split_steps.SplitSteps.is_direct.Goals as goal
 
--- src/split_steps.rt:67:9
 pub index-requires : goal.index-requires
-index-requires c = ?
+index-requires c =
+    let same = joined_length c.self.inside.actions.items c.self.inside.marks.items c.self.invariant in
+    let within : c.args.index < length (joined c.self.inside.actions.items c.self.inside.marks.items) =
+    let P : List Step → Type 0 = λ xs. c.args.index < length xs in subst P (sym c.self.view_is) c.requires in
+    omega (arith, within, same, c.self.invariant)
 
--- src/split_steps.rt:63:5
 pub returns : goal.returns
-returns c = ?
+returns c =
+    λ d. let actions = c.self.inside.actions.items in
+    let marks = c.self.inside.marks.items in
+    let same = joined_length actions marks c.self.invariant in
+    let within : c.args.index < length (joined actions marks) =
+    let P : List Step → Type 0 = λ xs. c.args.index < length xs in subst P (sym c.self.view_is) c.requires in
+    c.index.ensures
+    ∙ sym (joined_mark actions marks c.args.index d c.index.result.now c.self.invariant (omega (arith, within, same)))
+    ∙ ap (λ (xs : List Step). (get_or xs c.args.index d).direct) c.self.view_is

@@ -1,0 +1,6 @@
+pub mod Asking
+pub mod Carried
+pub mod Chain
+pub mod Decided
+pub mod Places
+pub mod RuleBook

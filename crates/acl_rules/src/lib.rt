@@ -4,10 +4,11 @@
 //! (actions) and `cell_types`. Nothing uses it yet: it is for a core that denies.
 //!
 //! Promises: `decide` gives the one answer of specs/Decided.antt for each book of rules, user and
-//! row, looks only at rules of the table and of the document, and takes no memory. `RuleRef`s name
-//! the rule that denied.
-//! Not promised: that a rule means what its author meant. A rule whose formula does not read
-//! denies what it would deny, and allows nothing.
+//! row, and takes no memory; `rule_ref` names the rule that denied. `carry` moves the rules that
+//! are about a table or a column along with a rename of it, and leaves them where memory is
+//! wanting.
+//! Not promised: that a rule means what its author meant, or how fast a decision is; by its code it
+//! looks only at rules about the table and the document. Rules are not read from a document yet.
 //! Read first: specs/Chain.antt and specs/Decided.antt, then book.rt and decision.rt.
 #![tactic(auto)]
 

@@ -4,3 +4,4 @@ pub mod Chain
 pub mod Decided
 pub mod Places
 pub mod RuleBook
+pub mod RuleTexts

@@ -1,13 +1,15 @@
-//! Tests of rules: their formulas, their values and their permissions.
+//! Tests of rules: their formulas, their values, their permissions and what they decide.
 //!
-//! Stands on `acl_formula` and what it stands on. Nothing stands on it; it is a crate of its own,
-//! so that `acl_formula` is not proved a second time with its tests.
+//! Stands on `acl_formula`, `acl_rules` and what these stand on. Nothing stands on it; it is a
+//! crate of its own, so that these are not proved a second time with their tests.
 //!
 //! Promises: nothing. What is tested is what no clause says: that the tables of operators are the
 //! ones meant, and that calls succeed where there is memory.
-//! Read first: formulas.rt.
+//! Read first: formulas.rt, decisions.rt.
 #![tactic(auto)]
 
+#[cfg(test)]
+mod decisions;
 #[cfg(test)]
 mod formulas;
 #[cfg(test)]

@@ -25,7 +25,8 @@ pub enum Sample {
     Censored,
 }
 
-fn name(alloc: Global, text: &str) -> Result<Name, AllocError> {
+/// The name of that text.
+pub fn name(alloc: Global, text: &str) -> Result<Name, AllocError> {
     Name::try_new(CellText::copy_of(alloc, text)?).ok_or(AllocError)
 }
 

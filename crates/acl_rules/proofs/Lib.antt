@@ -1,0 +1,4 @@
+pub mod CarryLemmas
+pub mod ChainLemmas
+pub mod PlaceLemmas
+pub mod TextLemmas

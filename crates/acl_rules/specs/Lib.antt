@@ -1,0 +1,7 @@
+pub mod Asking
+pub mod Carried
+pub mod Chain
+pub mod Decided
+pub mod Places
+pub mod RuleBook
+pub mod RuleTexts

@@ -28,6 +28,7 @@ mod modifying;
 mod record_steps;
 mod referrers;
 mod refusing;
+mod resource_steps;
 mod rows;
 mod schema_steps;
 mod table_readers;

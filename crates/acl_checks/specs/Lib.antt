@@ -1,0 +1,4 @@
+pub mod BeforeStep
+pub mod Checks
+pub mod Denials
+pub mod Unchecked

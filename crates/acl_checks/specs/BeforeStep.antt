@@ -1,7 +1,8 @@
 -- What is kept of the document before an action, so that the action can be checked behind it.
-use Rattle.std.specs.Prelude.{ℕ, ◌≡◌, List, [], map, Option, Some, None, option_map}
+use Rattle.std.specs.Prelude.{ℕ, ◌≡◌, List, [], ◌∷◌, ◌++◌, Option, option_map}
 use Rattle.doc_model.specs.declared.action.DocAction.{DocAction}
 use Rattle.doc_model.specs.declared.action.DocAction.TheVariants.{BulkAdd, BulkUpdate}
+use Rattle.doc_model.specs.declared.column.CellColumn.{CellColumn}
 use Rattle.doc_model.specs.Document.{Document}
 use Rattle.acl_formula.specs.RuleFields.{cell_in}
 use Rattle.acl_formula.specs.RuleRow.{RuleRow}
@@ -10,7 +11,7 @@ use Rattle.acl_rules.specs.declared.decision.Ctx.{Ctx}
 use Rattle.acl_rules.specs.declared.decision.RuleId.{RuleId}
 use Rattle.acl_checks.specs.declared.before_step.BeforeStep.{BeforeStep}
 use Rattle.acl_checks.specs.declared.before_step.BeforeStep.TheVariants as kept
-use Rattle.acl_checks.specs.Checks.{checks_of, row_at}
+use Rattle.acl_checks.specs.Checks.{Check, add_checks, cell_checks, checks_of, row_at}
 use Rattle.acl_checks.specs.Denials.{first_denied}
 
 -- the row of a rule
@@ -18,19 +19,27 @@ abbrev pub row_of : RuleId → ℕ
 row_of r = r.row
 
 -- a kept row as rules read it
-abbrev pub told : AttributeRow → RuleRow
-told r = record { id = r.row; cell = λ c. cell_in r.cells c }
+abbrev pub kept_row : AttributeRow → RuleRow
+kept_row k = record { id = k.row; cell = λ c. cell_in k.cells c }
 
--- the rows before the action that its checks need behind it; nothing where it is no action of rows
--- that are there behind it
-abbrev pub rows_before : Document → DocAction → Option (List RuleRow)
-rows_before s (BulkAdd table rows columns) = Some []
-rows_before s (BulkUpdate table rows columns) = Some (map (row_at s table) rows)
-rows_before s _ = None
+-- changed rows: each as it was kept, and as it is in t
+abbrev pub kept_checks : Document → List ℕ → List AttributeRow → List CellColumn → List Check
+kept_checks t table [] columns = []
+kept_checks t table (k ∷ rows) columns =
+    cell_checks table (kept_row k) (row_at t table k.row) columns
+    ++ kept_checks t table rows columns
 
--- what is kept is of this document and for this action: either the answer, whatever the document is
--- behind it, or the rows
+-- the checks behind an action, with the rows that were kept
+abbrev pub checks_behind : List AttributeRow → Document → DocAction → List Check
+checks_behind rows t (BulkAdd table new columns) = add_checks t table new columns
+checks_behind rows t (BulkUpdate table changed columns) = kept_checks t table rows columns
+checks_behind rows t _ = []
+
+-- the answer behind an action, where t is the evaluated document then
+abbrev pub answer_behind : BeforeStep → Ctx → Document → DocAction → Option ℕ
+answer_behind (kept.Decided d) x t a = option_map row_of d
+answer_behind (kept.Rows rows) x t a = first_denied x (checks_behind rows t a)
+
+-- what is kept is enough, where s is the evaluated document before the action
 unfoldable pub Holds : BeforeStep → Ctx → Document → DocAction → Type 0
-Holds (kept.Decided d) x s a =
-    (t : Document) → first_denied x (checks_of s t a) ≡ option_map row_of d
-Holds (kept.Rows rows) x s a = rows_before s a ≡ Some (map told rows)
+Holds b x s a = (t : Document) → first_denied x (checks_of s t a) ≡ answer_behind b x t a

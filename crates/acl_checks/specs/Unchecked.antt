@@ -1,15 +1,10 @@
 -- Where nothing can be denied: no rule is in force, and the one behind all others allows everything.
-use Rattle.std.specs.Prelude.{◌≡◌, Bool, true, false, codes, ◌&&◌, ◌||◌, List, [], ◌∷◌, None}
+use Rattle.std.specs.Prelude.{◌≡◌, Bool, true, codes, ◌&&◌, ◌||◌, List, None}
 use Rattle.acl_rules.specs.declared.decision.Ctx.{Ctx}
 use Rattle.acl_rules.specs.Decided.{is_access}
-use Rattle.acl_rules.specs.RuleBook.{BookRule}
+use Rattle.acl_rules.specs.RuleBook.{has_no_rules}
 use Rattle.acl_checks.specs.Checks.{Check}
 use Rattle.acl_checks.specs.Denials.{first_denied}
-
--- whether there is no rule
-abbrev pub has_no_rules : List BookRule → Bool
-has_no_rules [] = true
-has_no_rules (b ∷ book) = false
 
 -- whether no check can be denied
 abbrev pub are_unchecked : Ctx → Bool

@@ -9,6 +9,9 @@
 
 mod after_step;
 mod before_step;
+mod checked_row;
+mod denials;
+mod keeping;
 pub mod laws;
 mod unchecked;
 

@@ -50,12 +50,12 @@ module _ (x : Asked) (p : Perm) where
       ∙ sym (ap (first_answer x p) (apart part book place places))
 
 -- the rules of a part stand among those of its table
-column_within : (t c : List ℕ) (o : Option Resource) → is_of (of_column t c) o ≡ true → is_on t o ≡ true
+pub column_within : (t c : List ℕ) (o : Option Resource) → is_of (of_column t c) o ≡ true → is_on t o ≡ true
 column_within t c None h = h
 column_within t c (Some resource.Document) h = h
 column_within t c (Some (resource.Table id cs)) h = (and_parts (bytes_eq id t) (names_column cs c) h).0
 
-table_within : (t : List ℕ) (o : Option Resource) → is_of (of_table t) o ≡ true → is_on t o ≡ true
+pub table_within : (t : List ℕ) (o : Option Resource) → is_of (of_table t) o ≡ true → is_on t o ≡ true
 table_within t None h = h
 table_within t (Some resource.Document) h = h
 table_within t (Some (resource.Table id cs)) h = (and_parts (bytes_eq id t) (are_all cs) h).0

@@ -2,6 +2,10 @@ pub mod Asking
 pub mod Carried
 pub mod Chain
 pub mod Decided
+pub mod Loaded
 pub mod Places
+pub mod Placing
+pub mod Reading
 pub mod RuleBook
+pub mod RuleIds
 pub mod RuleTexts

@@ -1,5 +1,5 @@
 -- The rules of a document in their order, each with what it is about.
-use Rattle.std.specs.Prelude.{ℕ, ◌==◌, cond, List, [], ◌∷◌, map, Option}
+use Rattle.std.specs.Prelude.{ℕ, Bool, true, false, ◌==◌, cond, List, [], ◌∷◌, map, Option}
 use Rattle.acl_rules.specs.declared.resource.Resource.{Resource}
 use Rattle.acl_rules.specs.declared.rule.Rule.{Rule}
 
@@ -26,3 +26,8 @@ resources_in book = map (λ (b : BookRule). b.resource) book
 abbrev pub memo_of : List Rule → ℕ → List ℕ
 memo_of [] row = []
 memo_of (r ∷ rules) row = cond (r.row == row) r.memo (memo_of rules row)
+
+-- whether there is no rule
+abbrev pub has_no_rules : List BookRule → Bool
+has_no_rules [] = true
+has_no_rules (b ∷ book) = false

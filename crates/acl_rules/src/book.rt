@@ -2,7 +2,7 @@
 
 ghost use Rattle.std.specs.Prelude.{◌≡◌, [], ◌∷◌, List, ℕ, None, Some, IfOk, OnOk, OnErr, MatchOption, length, slice_get};
 ghost use Rattle.acl_rules.specs.Chain.{is_on, is_of, of_document};
-ghost use Rattle.acl_rules.specs.RuleBook.{BookRule, paired, resources_in, rules_in, memo_of};
+ghost use Rattle.acl_rules.specs.RuleBook.{BookRule, has_no_rules, paired, resources_in, rules_in, memo_of};
 ghost use Rattle.acl_rules.specs.Places.{places_of};
 
 use crate::decision::RuleId;
@@ -57,6 +57,15 @@ impl RuleBook {
 }
 
 impl RuleBook {
+    /// Whether there is no rule.
+    ///
+    /// Memory: none.
+    pub fn is_empty(&self) -> bool
+        ensures { result ≡ has_no_rules self.now }
+    {
+        self.rules.is_empty()
+    }
+
     // The rule at a place, with what it is about.
     pub(crate) fn rule_at(&self, place: usize) -> Option<(&Rule, &Option<Resource>)>
         ensures { MatchOption result (slice_get self.now place ≡ None) (λ found.

@@ -3,6 +3,7 @@ use Rattle.std.proofs.Common.{◌≡◌, ℕ, List, Option, Some, None, Result, 
 use Rattle.doc_model.specs.declared.action.Step.{Step}
 use Rattle.doc_model.specs.declared.request.Request.{Request}
 use Rattle.doc_model.specs.declared.request.Request.TheVariants as request
+use Rattle.doc_model.specs.declared.user.User.{User}
 use Rattle.doc_model.specs.declared.user_action.UserAction.{UserAction}
 use Rattle.doc_model.specs.Document.{Document}
 use Rattle.undo_bundles.specs.declared.log.LogFault.{LogFault}
@@ -21,15 +22,15 @@ undoes_none (judged.Refused v) j s h k = tt
 undoes_none (judged.Accepted p) j s h k = let P : Option ℕ → Type 0 = λ u. MayBeUndone u h.log in subst P (sym k.undoes) tt
 
 -- what is accepted was found
-found_from : (r : Result (List Step) LogFault) (s s' : Document) (steps : List Step) (ms : List _) → judge_own_undo r s ≡ accepted s' steps ms → IsOk r
-found_from (Ok xs) s s' steps ms e = refl
-found_from (Err why) s s' steps ms e = absurd (cc)
+found_from : (user : User) (r : Result (List Step) LogFault) (s s' : Document) (steps : List Step) (ms : List _) → judge_own_undo user r s ≡ accepted s' steps ms → IsOk r
+found_from user (Ok xs) s s' steps ms e = refl
+found_from user (Err why) s s' steps ms e = absurd (cc)
 
-undoes_own : (b : JudgedBundle) (s : Document) (h : Holder) (number : ℕ) → IsJudgedBundle (judge_own_undo (undo_of h.log number) s) (Some number) s b → IsOwn b h
+undoes_own : (b : JudgedBundle) (s : Document) (h : Holder) (number : ℕ) → IsJudgedBundle (judge_own_undo h.user (undo_of h.log number) s) (Some number) s b → IsOwn b h
 undoes_own (judged.Refused v) s h number k = tt
 undoes_own (judged.Accepted p) s h number k =
     let P : Option ℕ → Type 0 = λ u. MayBeUndone u h.log in
-    subst P (sym k.undoes) (found_from (undo_of h.log number) s _ p.steps p.created.items k.judged)
+    subst P (sym k.undoes) (found_from h.user (undo_of h.log number) s _ p.steps p.created.items k.judged)
 
 pub judged_bundle : (h : Holder) (s : Document) (r : Request) (actions : List UserAction) (b : JudgedBundle) → r ≡ request.Apply actions → IsJudgedBundle (judge h.user s actions) None s b → IsJudgedFor h s r b
 judged_bundle h s r actions b asks k = record {
@@ -40,9 +41,9 @@ judged_bundle h s r actions b asks k = record {
   own = undoes_none b (judge h.user s actions) s h k;
 }
 
-pub judged_undo : (h : Holder) (s : Document) (r : Request) (number : ℕ) (b : JudgedBundle) → r ≡ request.Undo number → IsJudgedBundle (judge_own_undo (undo_of h.log number) s) (Some number) s b → IsJudgedFor h s r b
+pub judged_undo : (h : Holder) (s : Document) (r : Request) (number : ℕ) (b : JudgedBundle) → r ≡ request.Undo number → IsJudgedBundle (judge_own_undo h.user (undo_of h.log number) s) (Some number) s b → IsJudgedFor h s r b
 judged_undo h s r number b asks k = record {
-  judgement = judge_own_undo (undo_of h.log number) s;
+  judgement = judge_own_undo h.user (undo_of h.log number) s;
   undone = Some number;
   asks = λ os. ap (from_open (state_with s os) h true) asks;
   judged = k;

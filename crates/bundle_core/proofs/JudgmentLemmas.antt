@@ -20,15 +20,19 @@ use Rattle.action_limits.specs.declared.tally.Tally.{Tally}
 use Rattle.user_actions.specs.Objections.{objection_to}
 use Rattle.user_actions.specs.StepLaws.{action_of}
 use Rattle.user_actions.specs.Steps.{steps_of}
+use Rattle.acl_rules.specs.declared.decision.Ctx.{Ctx}
 use Rattle.action_limits.specs.Tallies.{AreSteps, IsTally, after}
 use Rattle.bundle_core.specs.declared.bare_verdict.BareVerdict.TheVariants.{Limited, Refused}
 use Rattle.bundle_core.specs.declared.bare_verdict.BareVerdict.{BareVerdict}
 use Rattle.bundle_core.specs.declared.judging.ActionPlan.{ActionPlan}
 use Rattle.bundle_core.specs.declared.created.Created.{Created}
-use Rattle.bundle_core.specs.Judgement.{Judgement, accepted, refused, judge, judge_from, limited, created_at, opposed, refusal_at, with_before}
+use Rattle.bundle_core.specs.Judgement.{Judgement, accepted, refused, judge, judge_from, limited, created_at, opposed, opposed_at, refusal_at, with_before}
 use Rattle.bundle_core.specs.Created.{created_of}
 use Rattle.bundle_core.specs.declared.judging.BundlePlan.{BundlePlan}
-use Rattle.bundle_core.specs.JudgedBundles.{IsBundlePlan, after_steps}
+use Rattle.bundle_core.specs.declared.judging.JudgedBundle.{JudgedBundle}
+use Rattle.bundle_core.specs.Context.{carry_all, context}
+use Rattle.bundle_core.specs.Denials.{denial_of, or_else}
+use Rattle.bundle_core.specs.JudgedBundles.{IsBundlePlan, IsJudgedBundle, after_steps}
 use Rattle.bundle_core.specs.JudgedActions.{IsAt, IsActionPlan}
 use Rattle.recalc.specs.Evaluated.{filled}
 use Rattle.view_parts.specs.PartLaws.{AreSameOutside}
@@ -47,11 +51,11 @@ map-last f [] x ys = refl
 map-last f (z ∷ xs) x ys = ap (λ l. f z ∷ l) (map-last f xs x ys)
 
 -- what stands against an action is its refusal
-pub ruled_refused : (user : User) (s : Document) (i : ℕ) (a : UserAction) (r : Refusal) → Some r ≡ objection_to (view user s) a → refusal_at user s i a ≡ Some (Refused r (Some i))
+pub ruled_refused : (user : User) (s : Document) (i : ℕ) (a : UserAction) (r : Refusal) → Some r ≡ objection_to (view user s) a → opposed_at user s i a ≡ Some (Refused r (Some i))
 ruled_refused user s i a r is = ap (λ o. opposed i o (over (after s a))) (sym is)
 
 -- a limit is its refusal
-pub ruled_limit : (user : User) (s : Document) (i : ℕ) (a : UserAction) (kind : LimitKind) (v : BareVerdict) → objection_to (view user s) a ≡ None → over (after s a) ≡ Some kind → Some v ≡ limited i (Some kind) → refusal_at user s i a ≡ Some v
+pub ruled_limit : (user : User) (s : Document) (i : ℕ) (a : UserAction) (kind : LimitKind) (v : BareVerdict) → objection_to (view user s) a ≡ None → over (after s a) ≡ Some kind → Some v ≡ limited i (Some kind) → opposed_at user s i a ≡ Some v
 ruled_limit user s i a kind v none over_it e = ap (λ o. opposed i o (over (after s a))) none ∙ ap (limited i) over_it ∙ sym e
 
 -- nothing stands against it, and no limit is passed
@@ -65,6 +69,14 @@ accepted_action user s i a n steps none x e f =
       created = f ∙ ap (λ l. created_of a (map action_of l)) x.made;
       may = record { valid = ap (λ l. all_valid s (map action_of l)) e ∙ x.valid; counts = subst P (sym leads) x.tally };
     }
+
+-- what stands against it whatever the rules are is its refusal
+pub opposed_refused : (x : Ctx) (s : Document) (i : ℕ) (a : UserAction) (v : BareVerdict) → opposed_at x.user.user s i a ≡ Some v → refusal_at x s i a ≡ Some v
+opposed_refused x s i a v e = ap (λ o. or_else o (denial_of x s i (steps_of s a))) e
+
+-- a denial of its steps is its refusal
+pub denied_refused : (x : Ctx) (s : Document) (i : ℕ) (a : UserAction) (n : ActionPlan) (v : BareVerdict) → IsActionPlan x.user.user s i a n → denial_of x s i n.steps ≡ Some v → refusal_at x s i a ≡ Some v
+denied_refused x s i a n v plan e = ap (λ o. or_else o (denial_of x s i (steps_of s a))) plan.unopposed ∙ ap (denial_of x s i) (sym plan.steps) ∙ e
 
 pub apply_all-append : (s : Document) (as' bs : List DocAction) → apply_all s (as' ++ bs) ≡ apply_all (apply_all s as') bs
 apply_all-append s [] bs = refl
@@ -92,21 +104,27 @@ with_before-nothing (accepted s steps later) = refl
 with_before-nothing (refused v) = refl
 
 -- a bundle of few enough actions is judged from its first action on
-pub judge-from : (user : User) (s : Document) (requested : List UserAction) → length requested ≤ 2000 → judge user s requested ≡ judge_from user s 0 requested
+judge-from : (user : User) (s : Document) (requested : List UserAction) → length requested ≤ 2000 → judge user s requested ≡ judge_from (context user s) s 0 requested
 judge-from user s requested few =
-    ap (λ b. cond b (refused (Limited Actions (bound_of Actions) (Some (bound_of Actions)))) (judge_from user s 0 requested)) (le-ltb (bound_of Actions) (length requested) few)
+    ap (λ b. cond b (refused (Limited Actions (bound_of Actions) (Some (bound_of Actions)))) (judge_from (context user s) s 0 requested)) (le-ltb (bound_of Actions) (length requested) few)
+
+-- what it comes to
+pub judged_few : (user : User) (s : Document) (requested : List UserAction) (x : Ctx) (j : JudgedBundle) → length requested ≤ 2000 → x ≡ context user s → IsJudgedBundle (judge_from x s 0 requested) None s j → IsJudgedBundle (judge user s requested) None s j
+judged_few user s requested x j few is judged =
+    let P : Judgement → Type 0 = λ d. IsJudgedBundle d None s j in
+    subst P (ap (λ y. judge_from y s 0 requested) is ∙ sym (judge-from user s requested few)) judged
 
 -- one of too many actions passes their limit
 pub judge-many : (user : User) (s : Document) (requested : List UserAction) → 2000 < length requested → judge user s requested ≡ refused (Limited Actions 2000 (Some 2000))
 judge-many user s requested many =
-    ap (λ b. cond b (refused (Limited Actions (bound_of Actions) (Some (bound_of Actions)))) (judge_from user s 0 requested)) (lt-ltb (bound_of Actions) (length requested) many)
+    ap (λ b. cond b (refused (Limited Actions (bound_of Actions) (Some (bound_of Actions)))) (judge_from (context user s) s 0 requested)) (lt-ltb (bound_of Actions) (length requested) many)
 
-module _ (user : User) (start : Document) (requested : List UserAction) where
+module _ (x : Ctx) (start : Document) (requested : List UserAction) where
   -- nothing is judged yet
-  pub at_start : (tally : Tally) → IsTally start tally → IsAt user start requested 0 start [] [] [] tally
-  at_start tally is = record { done_so_far = refl; valid = refl; may = record { valid = refl; counts = is }; judged = with_before-nothing (judge_from user start 0 requested) }
+  pub at_start : (tally : Tally) → IsTally start tally → IsAt x start requested 0 x start [] [] [] tally
+  at_start tally is = record { done_so_far = refl; valid = refl; may = record { valid = refl; counts = is }; judged = with_before-nothing (judge_from x start 0 requested) }
 
-  module _ (i : ℕ) (s : Document) (done next : List Step) (created : List Created) (tally : Tally) (h : IsAt user start requested i s done next created tally) where
+  module _ (i : ℕ) (y : Ctx) (s : Document) (done next : List Step) (created : List Created) (tally : Tally) (h : IsAt x start requested i y s done next created tally) where
     actions_then : map action_of (done ++ next) ≡ map action_of done ++ map action_of next
     actions_then = map-append action_of done next
 
@@ -121,15 +139,15 @@ module _ (user : User) (start : Document) (requested : List UserAction) where
         ap (all_valid start) actions_then ∙ all_valid-append start (map action_of done) (map action_of next) h.valid (subst P h.done_so_far h.may.valid)
 
     -- what followed is done
-    pub at_done : (t : Document) (all : List Step) → t ≡ after_steps s next → all ≡ done ++ next → IsAt user start requested i t all [] created tally
+    pub at_done : (t : Document) (all : List Step) → t ≡ after_steps s next → all ≡ done ++ next → IsAt x start requested i y t all [] created tally
     at_done t all e same =
         let P : Document → Type 0 = λ u. IsTally u tally in
         record {
           done_so_far = e ∙ next_done ∙ ap (after_steps start) (sym same);
           valid = ap (λ l. all_valid start (map action_of l)) same ∙ next_valid;
           may = record { valid = refl; counts = subst P (sym e) h.may.counts };
-          judged = h.judged ∙ ap (λ u. with_before (done ++ next) created (judge_from user u i (drop i requested))) (sym e)
-              ∙ ap (λ l. with_before l created (judge_from user t i (drop i requested))) (sym same ∙ sym (append-nil all));
+          judged = h.judged ∙ ap (λ u. with_before (done ++ next) created (judge_from y u i (drop i requested))) (sym e)
+              ∙ ap (λ l. with_before l created (judge_from y t i (drop i requested))) (sym same ∙ sym (append-nil all));
         }
 
     pub whole_at : IsWhole start → IsWhole s
@@ -138,10 +156,10 @@ module _ (user : User) (start : Document) (requested : List UserAction) where
         subst P (sym h.done_so_far) (IsWhole-apply_all start (map action_of done) w h.valid)
 
     -- all are judged, and the bundle is accepted
-    pub judged_all : length requested ≤ i → judge_from user start 0 requested ≡ accepted (after_steps start (done ++ next)) (done ++ next) created
+    pub judged_all : length requested ≤ i → judge_from x start 0 requested ≡ accepted (after_steps start (done ++ next)) (done ++ next) created
     judged_all le =
         h.judged
-        ∙ ap (λ l. with_before (done ++ next) created (judge_from user (after_steps s next) i l)) (nothing_left i requested le)
+        ∙ ap (λ l. with_before (done ++ next) created (judge_from y (after_steps s next) i l)) (nothing_left i requested le)
         ∙ with_before-accepted (done ++ next) created (after_steps s next)
         ∙ ap (λ t. accepted t (done ++ next) created) next_done
 
@@ -149,38 +167,43 @@ module _ (user : User) (start : Document) (requested : List UserAction) where
     tally_then = let P : Document → Type 0 = λ t. IsTally t tally in subst P next_done h.may.counts
 
     -- the plan of the bundle
-    pub planned : (p : BundlePlan) → length requested ≤ 2000 → length requested ≤ i → p.undone ≡ None → p.steps ≡ done ++ next → p.created.items ≡ created → p.tally ≡ tally → AreSameOutside (map action_of p.steps) p.changed.items (filled start) (filled (after_steps start p.steps)) → IsBundlePlan (judge user start requested) None start p
-    planned p few le none same ms t outside =
+    pub planned : (p : BundlePlan) → length requested ≤ i → p.undone ≡ None → p.steps ≡ done ++ next → p.created.items ≡ created → p.tally ≡ tally → AreSameOutside (map action_of p.steps) p.changed.items (filled start) (filled (after_steps start p.steps)) → IsBundlePlan (judge_from x start 0 requested) None start p
+    planned p le none same ms t outside =
         let P : List Step → Type 0 = λ l. IsTally (after_steps start l) tally in
         let Q : Tally → Type 0 = λ u. IsTally (after_steps start p.steps) u in
         record {
           undoes = none;
-          judged = judge-from user start requested few ∙ judged_all le ∙ ap (λ l. accepted (after_steps start l) l created) (sym same) ∙ ap (accepted (after_steps start p.steps) p.steps) (sym ms);
+          judged = judged_all le ∙ ap (λ l. accepted (after_steps start l) l created) (sym same) ∙ ap (accepted (after_steps start p.steps) p.steps) (sym ms);
           may = record { valid = ap (λ l. all_valid start (map action_of l)) same ∙ next_valid; counts = subst Q (sym t) (subst P (sym same) tally_then) };
           outside = outside;
         }
 
-  module _ (i : ℕ) (s : Document) (done : List Step) (created : List Created) (tally : Tally) (a : UserAction) (rest : List UserAction) (h : IsAt user start requested i s done [] created tally) (e : drop i requested ≡ a ∷ rest) where
-    here : judge_from user start 0 requested ≡ with_before done created (judge_from user s i (a ∷ rest))
-    here = h.judged ∙ ap (λ l. with_before (done ++ []) created (judge_from user s i l)) e ∙ ap (λ l. with_before l created (judge_from user s i (a ∷ rest))) (append-nil done)
+  module _ (i : ℕ) (y : Ctx) (s : Document) (done : List Step) (created : List Created) (tally : Tally) (a : UserAction) (rest : List UserAction) (h : IsAt x start requested i y s done [] created tally) (e : drop i requested ≡ a ∷ rest) where
+    here : judge_from x start 0 requested ≡ with_before done created (judge_from y s i (a ∷ rest))
+    here = h.judged ∙ ap (λ l. with_before (done ++ []) created (judge_from y s i l)) e ∙ ap (λ l. with_before l created (judge_from y s i (a ∷ rest))) (append-nil done)
+
+    abbrev behind : Judgement
+    behind = with_before (steps_of s a) (created_at s a ∷ []) (judge_from (carry_all (steps_of s a) y) (after s a) (i + 1) rest)
 
     -- an action is refused, and so is the bundle
-    pub refused_at : (v : BareVerdict) → refusal_at user s i a ≡ Some v → judge_from user start 0 requested ≡ refused v
+    pub refused_at : (v : BareVerdict) → refusal_at y s i a ≡ Some v → judge_from x start 0 requested ≡ refused v
     refused_at v r =
         here
-        ∙ ap (λ o. with_before done created (elim o as (λ _. Judgement) [ Some w ↦ refused w | None ↦ with_before (steps_of s a) (created_at s a ∷ []) (judge_from user (after s a) (i + 1) rest) ])) r
+        ∙ ap (λ o. with_before done created (elim o as (λ _. Judgement) [ Some w ↦ refused w | None ↦ behind ])) r
 
     -- nothing stands against it
-    pub at_next : (n : ActionPlan) (ms : List Created) → drop (i + 1) requested ≡ rest → IsActionPlan user s i a n → ms ≡ created ++ n.created ∷ [] → IsAt user start requested (i + 1) s done n.steps ms n.tally
-    at_next n ms f x items = record {
+    pub at_next : (n : ActionPlan) (ms : List Created) (z : Ctx) → drop (i + 1) requested ≡ rest → IsActionPlan y.user.user s i a n → denial_of y s i n.steps ≡ None → z ≡ carry_all n.steps y → ms ≡ created ++ n.created ∷ [] → IsAt x start requested (i + 1) z s done n.steps ms n.tally
+    at_next n ms z f p none along items = record {
       done_so_far = h.done_so_far;
       valid = h.valid;
-      may = x.may;
+      may = p.may;
       judged = here
-          ∙ ap (λ o. with_before done created (elim o as (λ _. Judgement) [ Some w ↦ refused w | None ↦ with_before (steps_of s a) (created_at s a ∷ []) (judge_from user (after s a) (i + 1) rest) ])) x.unopposed
-          ∙ ap (λ m. with_before done created (with_before (steps_of s a) (m ∷ []) (judge_from user (after s a) (i + 1) rest))) (sym x.created)
-          ∙ ap (λ l. with_before done created (with_before l (n.created ∷ []) (judge_from user (after_steps s l) (i + 1) rest))) (sym x.steps)
-          ∙ ap (λ l. with_before done created (with_before n.steps (n.created ∷ []) (judge_from user (after_steps s n.steps) (i + 1) l))) (sym f)
-          ∙ with_before-both done n.steps created (n.created ∷ []) (judge_from user (after_steps s n.steps) (i + 1) (drop (i + 1) requested))
-          ∙ ap (λ l. with_before (done ++ n.steps) l (judge_from user (after_steps s n.steps) (i + 1) (drop (i + 1) requested))) (sym items);
+          ∙ ap (λ o. with_before done created (elim o as (λ _. Judgement) [ Some w ↦ refused w | None ↦ behind ]))
+          (ap (λ o. or_else o (denial_of y s i (steps_of s a))) p.unopposed ∙ ap (denial_of y s i) (sym p.steps) ∙ none)
+          ∙ ap (λ m. with_before done created (with_before (steps_of s a) (m ∷ []) (judge_from (carry_all (steps_of s a) y) (after s a) (i + 1) rest))) (sym p.created)
+          ∙ ap (λ l. with_before done created (with_before l (n.created ∷ []) (judge_from (carry_all l y) (after_steps s l) (i + 1) rest))) (sym p.steps)
+          ∙ ap (λ c. with_before done created (with_before n.steps (n.created ∷ []) (judge_from c (after_steps s n.steps) (i + 1) rest))) (sym along)
+          ∙ ap (λ l. with_before done created (with_before n.steps (n.created ∷ []) (judge_from z (after_steps s n.steps) (i + 1) l))) (sym f)
+          ∙ with_before-both done n.steps created (n.created ∷ []) (judge_from z (after_steps s n.steps) (i + 1) (drop (i + 1) requested))
+          ∙ ap (λ l. with_before (done ++ n.steps) l (judge_from z (after_steps s n.steps) (i + 1) (drop (i + 1) requested))) (sym items);
     }

@@ -5,6 +5,7 @@ pub mod OpenLemmas
 pub mod Keeping
 pub mod CreatedLemmas
 pub mod ChangedLemmas
+pub mod CheckLemmas
 pub mod ClosedLemmas
 pub mod Indexes
 pub mod Prepared

@@ -76,7 +76,7 @@ open_turn : BundlesAreDone → (st : State) (h : Holder) (kept : Bool) (r : Requ
 open_turn done st h kept (request.Apply actions) =
     bundle_turn h None st.document (request.Apply actions) kept (judge h.user st.document actions) (done h.user st.document actions)
 open_turn done st h kept (request.Undo n) =
-    bundle_turn h (Some n) st.document (request.Undo n) kept (judge_own_undo (undo_of h.log n) st.document) (λ fine _. done_own (undo_of h.log n) st.document fine)
+    bundle_turn h (Some n) st.document (request.Undo n) kept (judge_own_undo h.user (undo_of h.log n) st.document) (λ fine _. done_own h.user (undo_of h.log n) st.document fine)
 open_turn done st h kept request.Bad = stays st.document h.log _ _ (Some h) (inl refl)
 open_turn done st h kept request.TooLong = stays st.document h.log _ _ (Some h) (inl refl)
 open_turn done st h kept (request.Open token) = stays st.document h.log _ _ (Some h) (inl refl)

@@ -59,7 +59,7 @@ bundle_back t h n s false (accepted u steps ms) b = record { restores = λ is. a
 bundle_back t h n s true (accepted u steps ms) b = record { restores = λ _. b; not_stale = λ at e. cc }
 
 asked_back : (t : Document) (users : List User) (st : State) (u : Entry) (n : ℕ) → u.request ≡ request.Undo n
-    → ((o : Open) → session_of u.session st ≡ Some o → TakesBack t (judge_own_undo (undo_of o.holder.log n) st.document)) → LeadsBackTo t (verdicts users st u)
+    → ((o : Open) → session_of u.session st ≡ Some o → TakesBack t (judge_own_undo o.holder.user (undo_of o.holder.log n) st.document)) → LeadsBackTo t (verdicts users st u)
 asked_back t users st u n asks back =
     elim (session_of u.session st) as (λ o. session_of u.session st ≡ o → LeadsBackTo t (elim o as (λ _. Verdicts) [
       | None ↦ from_closed users st u.request
@@ -68,7 +68,7 @@ asked_back t users st u n asks back =
       | None ↦ λ _. subst (λ r. LeadsBackTo t (from_closed users st r)) (sym asks) (record { restores = λ is. absurd (false≢true is); not_stale = λ at e. cc })
       | Some x ↦ λ found. elim x.mailbox.lagging as (λ l. LeadsBackTo t (if l then from_lagging st u.request else from_open st x.holder u.kept u.request)) [
         | true ↦ subst (λ r. LeadsBackTo t (from_lagging st r)) (sym asks) (record { restores = λ is. absurd (false≢true is); not_stale = λ at e. cc })
-        | false ↦ subst (λ r. LeadsBackTo t (from_open st x.holder u.kept r)) (sym asks) (bundle_back t x.holder n st.document u.kept (judge_own_undo (undo_of x.holder.log n) st.document) (back x found))
+        | false ↦ subst (λ r. LeadsBackTo t (from_open st x.holder u.kept r)) (sym asks) (bundle_back t x.holder n st.document u.kept (judge_own_undo x.holder.user (undo_of x.holder.log n) st.document) (back x found))
       ]
     ] refl
 
@@ -95,11 +95,11 @@ module _ (are_done : BundlesAreDone) (users : List User) (st : State) (e : Entry
   undoes_next =
       asked_back st.document users last u h.number h.asks (λ o found.
       let kept : IsKept (noted (inverse_steps st.document made.steps) made.before) o.holder.log = subst (IsKept (noted (inverse_steps st.document made.steps) made.before)) (ap log_in found) log_left in
-      subst (λ t. TakesBack st.document (judge_own_undo (undo_of o.holder.log h.number) t)) (sym left.0)
-      (back_own st.document made.steps (verdicts users st e).document made.before o.holder.log h.number fine made.done counted kept))
+      subst (λ t. TakesBack st.document (judge_own_undo o.holder.user (undo_of o.holder.log h.number) t)) (sym left.0)
+      (back_own o.holder.user st.document made.steps (verdicts users st e).document made.before o.holder.log h.number fine made.done counted kept))
 
 pub undo_law : AllowedLaw → StepsLaw → UndoLaw
-undo_law allowed_law steps_law users s history e between u whole room asked h =
+undo_law allowed_law steps_law users s history e between u whole few asked h =
     let both = and_parts (list_all entry_asks_so history) (list_all entry_asks_so (e ∷ [])) (sym (list_all-append entry_asks_so history (e ∷ [])) ∙ asked) in
-    let fine = run_fine (done_judge allowed_law steps_law) users (opening s) history (record { whole = whole; room = room }) both.0 in
+    let fine = run_fine (done_judge allowed_law steps_law) users (opening s) history (record { whole = whole; few = few }) both.0 in
     undoes_next (done_judge allowed_law steps_law) users (run users (opening s) history) e between u fine (and_parts (entry_asks_so e) true both.1).0 h

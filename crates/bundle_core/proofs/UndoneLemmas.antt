@@ -5,6 +5,7 @@ use Rattle.doc_model.specs.declared.action.Step.{Step}
 use Rattle.doc_model.specs.Apply.{apply, apply_all, all_valid}
 use Rattle.doc_model.specs.Document.{Document}
 use Rattle.doc_model.specs.Valid.{valid}
+use Rattle.acl_rules.specs.declared.decision.Ctx.{Ctx}
 use Rattle.action_limits.specs.declared.tally.Tally.{Tally}
 use Rattle.action_limits.specs.Tallies.{IsTally}
 use Rattle.recalc.specs.Evaluated.{filled}
@@ -12,9 +13,11 @@ use Rattle.user_actions.specs.StepLaws.{action_of}
 use Rattle.view_parts.specs.PartLaws.{AreSameOutside}
 use Rattle.bundle_core.specs.declared.bare_verdict.BareVerdict.{BareVerdict}
 use Rattle.bundle_core.specs.declared.judging.BundlePlan.{BundlePlan}
+use Rattle.bundle_core.specs.Context.{carry}
+use Rattle.bundle_core.specs.Denials.{denial_at, or_else}
 use Rattle.bundle_core.specs.JudgedBundles.{IsBundlePlan, after_steps}
 use Rattle.bundle_core.specs.Judgement.{Judgement, accepted, refused, with_before}
-use Rattle.bundle_core.specs.Undo.{judge_undo, stale_at}
+use Rattle.bundle_core.specs.Undo.{judge_undo, stale_at, unfit_at}
 use Rattle.bundle_core.specs.UndoneSteps.{IsUndoAt, MayGoOn}
 use Rattle.bundle_core.proofs.JudgmentLemmas.{apply_all-append, all_valid-append, with_before-accepted, with_before-both, with_before-nothing}
 use Rattle.bundle_core.proofs.RollbackLemmas.{left_at, nothing_left}
@@ -28,14 +31,14 @@ take_suc (z ∷ xs) (suc i) x lt is = ap (λ r. z ∷ r) (take_suc xs i x (omega
 take_next : (xs : List Step) (i : ℕ) (x : Step) → i < length xs → x ≡ get_or xs i x → take i xs ++ x ∷ [] ≡ take (i + 1) xs
 take_next xs i x lt is = rw (add-one i) (take_suc xs i x lt is)
 
-module _ (start : Document) (xs : List Step) where
-  pub undo_starts : (tally : Tally) → IsTally start tally → IsUndoAt start xs 0 start tally
-  undo_starts tally is = record { done_so_far = refl; valid = refl; counts = is; judged = with_before-nothing (judge_undo start 0 xs) }
+module _ (rules : Ctx) (start : Document) (xs : List Step) where
+  pub undo_starts : (tally : Tally) → IsTally start tally → IsUndoAt rules start xs 0 rules start tally
+  undo_starts tally is = record { done_so_far = refl; valid = refl; counts = is; judged = with_before-nothing (judge_undo rules start 0 xs) }
 
-  module _ (i : ℕ) (s : Document) (tally : Tally) (h : IsUndoAt start xs i s tally) where
+  module _ (i : ℕ) (now : Ctx) (s : Document) (tally : Tally) (h : IsUndoAt rules start xs i now s tally) where
     -- all are judged, and the undo is accepted
     pub undo_ends : (p : BundlePlan) (number : ℕ) → length xs ≤ i → p.undone ≡ Some number → p.steps ≡ xs → p.created.items ≡ [] → p.tally ≡ tally
-        → AreSameOutside (map action_of xs) p.changed.items (filled start) (filled s) → IsBundlePlan (judge_undo start 0 xs) (Some number) start p
+        → AreSameOutside (map action_of xs) p.changed.items (filled start) (filled s) → IsBundlePlan (judge_undo rules start 0 xs) (Some number) start p
     undo_ends p number le undone same none t outside =
         let left : drop i xs ≡ [] = nothing_left i xs le in
         let all : take i xs ≡ xs = sym (append-nil (take i xs)) ∙ ap (λ l. take i xs ++ l) (sym left) ∙ take-append-drop i xs in
@@ -48,7 +51,7 @@ module _ (start : Document) (xs : List Step) where
         record {
           undoes = undone;
           judged = h.judged
-              ∙ ap (λ l. with_before (take i xs) [] (judge_undo s i l)) left
+              ∙ ap (λ l. with_before (take i xs) [] (judge_undo now s i l)) left
               ∙ with_before-accepted (take i xs) [] s
               ∙ ap (λ l. accepted s l []) (all ∙ sym same)
               ∙ ap (λ u. accepted u p.steps []) (after ∙ ap (after_steps start) (sym same))
@@ -61,18 +64,26 @@ module _ (start : Document) (xs : List Step) where
         }
 
     module _ (x : Step) (lt : i < length xs) (is : x ≡ get_or xs i x) where
-      here : judge_undo start 0 xs ≡ with_before (take i xs) [] (judge_undo s i (x ∷ drop (i + 1) xs))
-      here = h.judged ∙ ap (λ l. with_before (take i xs) [] (judge_undo s i l)) (left_at i xs x lt is)
+      here : judge_undo rules start 0 xs ≡ with_before (take i xs) [] (judge_undo now s i (x ∷ drop (i + 1) xs))
+      here = h.judged ∙ ap (λ l. with_before (take i xs) [] (judge_undo now s i l)) (left_at i xs x lt is)
+
+      abbrev behind : Judgement
+      behind = with_before (x ∷ []) [] (judge_undo (carry x.action now) (apply s x.action) (i + 1) (drop (i + 1) xs))
+
+      refused_so : (v : BareVerdict) → unfit_at now s i x ≡ Some v → judge_undo rules start 0 xs ≡ refused v
+      refused_so v r = here ∙ ap (λ o. with_before (take i xs) [] (elim o as (λ _. Judgement) [ Some w ↦ refused w | None ↦ behind ])) r
 
       -- a step is refused, and so is the undo
-      pub undo_refused : (v : BareVerdict) → stale_at s i x.action ≡ Some v → judge_undo start 0 xs ≡ refused v
-      undo_refused v r =
-          here
-          ∙ ap (λ o. with_before (take i xs) [] (elim o as (λ _. Judgement) [ Some w ↦ refused w | None ↦ with_before (x ∷ []) [] (judge_undo (apply s x.action) (i + 1) (drop (i + 1) xs)) ])) r
+      pub undo_refused : (v : BareVerdict) → stale_at s i x.action ≡ Some v → judge_undo rules start 0 xs ≡ refused v
+      undo_refused v r = refused_so v (ap (λ o. or_else o (denial_at now s i x)) r)
+
+      -- a step is denied
+      pub undo_denied : (t : Tally) (v : BareVerdict) → MayGoOn s i x.action t → denial_at now s i x ≡ Some v → judge_undo rules start 0 xs ≡ refused v
+      undo_denied t v m r = refused_so v (ap (λ o. or_else o (denial_at now s i x)) m.fresh ∙ r)
 
       -- nothing stands against it, and it is done
-      pub undo_next : (t : Document) (next : Tally) → MayGoOn s i x.action next → t ≡ apply s x.action → IsUndoAt start xs (i + 1) t next
-      undo_next t next m done =
+      pub undo_next : (z : Ctx) (t : Document) (next : Tally) → MayGoOn s i x.action next → denial_at now s i x ≡ None → z ≡ carry x.action now → t ≡ apply s x.action → IsUndoAt rules start xs (i + 1) z t next
+      undo_next z t next m none along done =
           let V : Document → Type 0 = λ u. (valid u x.action && true) ≡ true in
           let C : Document → Type 0 = λ u. IsTally u next in
           let rest : List Step = drop (i + 1) xs in
@@ -83,8 +94,10 @@ module _ (start : Document) (xs : List Step) where
                 ∙ all_valid-append start (map action_of (take i xs)) (x.action ∷ []) h.valid (subst V h.done_so_far (ap (λ b. b && true) m.valid));
             counts = subst C (sym done) m.counts;
             judged = here
-                ∙ ap (λ o. with_before (take i xs) [] (elim o as (λ _. Judgement) [ Some w ↦ refused w | None ↦ with_before (x ∷ []) [] (judge_undo (apply s x.action) (i + 1) rest) ])) m.fresh
-                ∙ with_before-both (take i xs) (x ∷ []) [] [] (judge_undo (apply s x.action) (i + 1) rest)
-                ∙ ap (λ l. with_before l [] (judge_undo (apply s x.action) (i + 1) rest)) (take_next xs i x lt is)
-                ∙ ap (λ u. with_before (take (i + 1) xs) [] (judge_undo u (i + 1) rest)) (sym done);
+                ∙ ap (λ o. with_before (take i xs) [] (elim o as (λ _. Judgement) [ Some w ↦ refused w | None ↦ behind ]))
+                (ap (λ o. or_else o (denial_at now s i x)) m.fresh ∙ none)
+                ∙ with_before-both (take i xs) (x ∷ []) [] [] (judge_undo (carry x.action now) (apply s x.action) (i + 1) rest)
+                ∙ ap (λ l. with_before l [] (judge_undo (carry x.action now) (apply s x.action) (i + 1) rest)) (take_next xs i x lt is)
+                ∙ ap (λ c. with_before (take (i + 1) xs) [] (judge_undo c (apply s x.action) (i + 1) rest)) (sym along)
+                ∙ ap (λ u. with_before (take (i + 1) xs) [] (judge_undo z u (i + 1) rest)) (sym done);
           }

@@ -13,6 +13,7 @@ verdict_of (bare.Bundle number values) = verdict.Bundle number values
 verdict_of (bare.Undone number) = verdict.Undone number
 verdict_of (bare.Refused refusal index) = verdict.Refused refusal index
 verdict_of (bare.Limited what bound index) = verdict.Limited what bound index
+verdict_of (bare.Denied index rule) = verdict.Denied index rule
 
 -- the reply with this verdict
 abbrev pub reply_of : BareVerdict → List ℕ

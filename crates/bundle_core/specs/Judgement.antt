@@ -12,10 +12,13 @@ use Rattle.user_actions.specs.Objections.{objection_to}
 use Rattle.user_actions.specs.StepLaws.{action_of}
 use Rattle.user_actions.specs.Steps.{steps_of}
 use Rattle.action_limits.specs.Tallies.{after}
+use Rattle.acl_rules.specs.declared.decision.Ctx.{Ctx}
 use Rattle.bundle_core.specs.declared.bare_verdict.BareVerdict.TheVariants.{Limited, Refused}
 use Rattle.bundle_core.specs.declared.bare_verdict.BareVerdict.{BareVerdict}
 use Rattle.bundle_core.specs.declared.created.Created.{Created}
+use Rattle.bundle_core.specs.Context.{carry_all, context}
 use Rattle.bundle_core.specs.Created.{created_of}
+use Rattle.bundle_core.specs.Denials.{denial_of, or_else}
 use Rattle.bundle_core.specs.View.{view}
 
 -- accepted with the document after it, its steps, and what its actions created, or refused
@@ -33,10 +36,14 @@ abbrev pub opposed : ℕ → Option Refusal → Option LimitKind → Option Bare
 opposed i (Some this) kind = Some (Refused this (Some i))
 opposed i None kind = limited i kind
 
--- why the action at that index of its bundle is refused: by the user's view of the document there,
--- or by a limit that the document after its steps passes
-abbrev pub refusal_at : User → Document → ℕ → UserAction → Option BareVerdict
-refusal_at user s i a = opposed i (objection_to (view user s) a) (over (after s a))
+-- why an action is refused whatever the rules are: by the user's view of the document there, or by a
+-- limit that the document after its steps passes
+abbrev pub opposed_at : User → Document → ℕ → UserAction → Option BareVerdict
+opposed_at user s i a = opposed i (objection_to (view user s) a) (over (after s a))
+
+-- why the action at that index of its bundle is refused: for that, or else by a rule
+abbrev pub refusal_at : Ctx → Document → ℕ → UserAction → Option BareVerdict
+refusal_at x s i a = or_else (opposed_at x.user.user s i a) (denial_of x s i (steps_of s a))
 
 -- steps and what was created, before those that are judged
 abbrev pub with_before : List Step → List Created → Judgement → Judgement
@@ -47,19 +54,20 @@ with_before xs ms (refused v) = refused v
 abbrev pub created_at : Document → UserAction → Created
 created_at s a = created_of a (map action_of (steps_of s a))
 
--- the judgement of actions from that index of their bundle on
-abbrev pub judge_from : User → Document → ℕ → List UserAction → Judgement
-judge_from user s i [] = accepted s [] []
-judge_from user s i (a ∷ as') =
-    elim (refusal_at user s i a) [
+-- the judgement of actions from that index of their bundle on, under these rules
+abbrev pub judge_from : Ctx → Document → ℕ → List UserAction → Judgement
+judge_from x s i [] = accepted s [] []
+judge_from x s i (a ∷ as') =
+    elim (refusal_at x s i a) [
       | Some v ↦ refused v
       | None ↦ with_before (steps_of s a) (created_at s a ∷ [])
-          (judge_from user (after s a) (i + 1) as')
+          (judge_from (carry_all (steps_of s a) x) (after s a) (i + 1) as')
     ]
 
--- the judgement of a bundle: of too many actions the first one past the bound is named
+-- the judgement of a bundle, under the rules of the document at its start: of too many actions the
+-- first one past the bound is named
 abbrev pub judge : User → Document → List UserAction → Judgement
 judge user s as' =
     cond (nat_lt (bound_of Actions) (length as'))
     (refused (Limited Actions (bound_of Actions) (Some (bound_of Actions))))
-    (judge_from user s 0 as')
+    (judge_from (context user s) s 0 as')

@@ -1,5 +1,7 @@
 pub mod BareVerdicts
+pub mod Context
 pub mod Core
+pub mod Denials
 pub mod Dispatch
 pub mod Frames
 pub mod Judgement

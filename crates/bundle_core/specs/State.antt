@@ -132,7 +132,7 @@ from_open st h kept (request.Apply actions) =
     bundle_of h None st.document kept (judge h.user st.document actions)
 from_open st h kept (request.Undo number) =
     bundle_of h (Some number) st.document kept
-    (judge_own_undo (undo_of h.log number) st.document)
+    (judge_own_undo h.user (undo_of h.log number) st.document)
 from_open st h kept request.Sync = answered st.document (Some h) verdict.Done
 from_open st h kept (request.Fetch table) = answered st.document (Some h) (refusal BadLine)
 from_open st h kept request.Close = answered st.document None verdict.Done

@@ -1,5 +1,5 @@
 -- An undo that comes next takes its bundle back.
-use Rattle.std.specs.Prelude.{ℕ, Bool, true, ◌&&◌, ◌^◌, ◌≡◌, ◌++◌, nat_le, List, [], ◌∷◌, Option, Some, None}
+use Rattle.std.specs.Prelude.{ℕ, Bool, true, ◌&&◌, ◌^◌, ◌≡◌, ◌++◌, nat_le, length, List, [], ◌∷◌, Option, Some, None}
 use Rattle.std.specs.List.{list_all}
 use Rattle.doc_model.specs.declared.entry.Entry.{Entry}
 use Rattle.doc_model.specs.declared.refusal.Refusal.TheVariants.{UndoStale}
@@ -8,7 +8,7 @@ use Rattle.doc_model.specs.declared.request.Request.TheVariants.{Apply, Undo}
 use Rattle.doc_model.specs.declared.user.User.{User}
 use Rattle.doc_model.specs.declared.user_action.UserAction.{UserAction}
 use Rattle.doc_model.specs.Counts.{over}
-use Rattle.doc_model.specs.Document.{Document}
+use Rattle.doc_model.specs.Document.{Document, Table}
 use Rattle.doc_model.specs.DocumentLaws.{IsWhole}
 use Rattle.doc_model.specs.NewDocument.{new_document}
 use Rattle.doc_model.specs.WellFormed.{is_well_formed}
@@ -53,15 +53,27 @@ asks_so _ = true
 abbrev pub entry_asks_so : Entry → Bool
 entry_asks_so e = asks_so e.request
 
--- in every history from every whole document that passes no limit, so that there are free names
+abbrev pub has_few_columns : Table → Bool
+has_few_columns t = nat_le (length t.grid.columns) (2 ^ 60)
+
+-- whether a document has at most 2^60 tables, and each at most 2^60 columns, so that there are free
+-- names; no memory holds one that has more
+abbrev pub has_few_ids : Document → Bool
+has_few_ids s = nat_le (length s) (2 ^ 60) && list_all has_few_columns s
+
+-- in every history from every whole document with few ids
 abbrev pub UndoLaw : Type 0
 UndoLaw =
     (users : List User) (s : Document) (history : List Entry) (e : Entry) (between : List Entry)
-    (u : Entry) → IsWhole s → over s ≡ None → list_all entry_asks_so (history ++ e ∷ []) ≡ true
+    (u : Entry) → IsWhole s → has_few_ids s ≡ true → list_all entry_asks_so (history ++ e ∷ []) ≡ true
     → (let before = run users (opening s) history in
     let last = run users (step users before e) between in
     IsUndoNext users before e between u → LeadsBackTo before.document (verdicts users last u))
 
 -- the new document is such a one
-abbrev pub NewDocumentHasRoom : Type 0
-NewDocumentHasRoom = over new_document ≡ None
+abbrev pub NewDocumentHasFewIds : Type 0
+NewDocumentHasFewIds = has_few_ids new_document ≡ true
+
+-- and so is each that passes no limit
+abbrev pub LimitsLeaveFewIds : Type 0
+LimitsLeaveFewIds = (s : Document) → IsWhole s → over s ≡ None → has_few_ids s ≡ true

@@ -3,7 +3,7 @@
 ghost use Rattle.std.specs.Prelude.{◌≡◌};
 ghost use Rattle.bundle_core.specs.BareVerdicts.{verdict_of};
 
-use doc_model::{LimitKind, Refusal, RetValueList, Verdict};
+use doc_model::{LimitKind, Refusal, RetValueList, RuleRef, Verdict};
 
 /// A verdict that shows nothing of a view: what it says is the session's own.
 #[derive(Drop)]
@@ -24,6 +24,10 @@ pub(crate) enum BareVerdict {
         what: LimitKind,
         bound: u64,
         action: Option<u32>,
+    },
+    Denied {
+        action: u32,
+        rule: RuleRef,
     },
 }
 
@@ -46,6 +50,7 @@ impl BareVerdict {
                 bound,
                 action,
             },
+            BareVerdict::Denied { action, rule } => Verdict::Denied { action, rule },
         }
     }
 }

@@ -1,25 +1,31 @@
 //! The judgement of a bundle: each action is judged where those before it are done.
 
-ghost use Rattle.std.specs.Prelude.{◌≡◌, [], ◌≤◌, true, map, length, IfOk, None, Some};
+ghost use Rattle.std.specs.Prelude.{◌≡◌, [], ◌≤◌, true, map, length, IfOk, OnOk, None, Some};
 ghost use Rattle.std.specs.List.{list_all};
 ghost use Rattle.doc_model.specs.DocumentLaws.{IsWhole};
 ghost use Rattle.user_actions.specs.Allowed.{is_allowed};
 ghost use Rattle.user_actions.specs.Objections.{objection_to};
 ghost use Rattle.user_actions.specs.StepLaws.{action_of};
+ghost use Rattle.acl_checks.specs.Unchecked.{are_unchecked};
 ghost use Rattle.action_limits.specs.Tallies.{IsTally};
 ghost use Rattle.doc_model.specs.WellFormed.{is_well_formed};
 ghost use Rattle.bundle_core.specs.declared.bare_verdict.BareVerdict.TheVariants.{Limited, Refused};
-ghost use Rattle.bundle_core.specs.Judgement.{judge, limited};
+ghost use Rattle.bundle_core.specs.Judgement.{judge, judge_from, limited};
+ghost use Rattle.bundle_core.specs.ChangedCells.{StayNoted};
 ghost use Rattle.bundle_core.specs.Created.{created_of};
 ghost use Rattle.bundle_core.specs.JudgedBundles.{IsJudgedBundle};
-ghost use Rattle.bundle_core.specs.JudgedActions.{IsJudgedAction};
+ghost use Rattle.bundle_core.specs.JudgedActions.{IsDoneAction, IsJudgedAction};
 ghost use Rattle.bundle_core.specs.Rollback.{AllLeadBack, gone_back};
 ghost use Rattle.bundle_core.specs.View.{view};
 
 use crate::bare_verdict::BareVerdict;
+use crate::checking::{context_of, do_all_checked};
 use crate::created::{Created, created_of};
 use crate::rollback::{do_all, do_last, go_back_all};
 use crate::split_steps::SplitSteps;
+use acl_checks::are_unchecked;
+use acl_checks::laws::unchecked_law;
+use acl_rules::Ctx;
 use action_limits::{Expansion, Tally, expand};
 use doc_model::{DocTables, LimitKind, MAX_ACTIONS, Refusal, StepList, User, UserAction};
 use recalc::laws::{laid_out_law, same_parts_law};
@@ -156,27 +162,29 @@ fn judge_action<D: DocTables>(
     }
 }
 
-// Judges one action after another; those before it are done when an action is judged, and the
-// traces lead back.
-fn judge_each<D: DocTables>(
+// Judges one action after another where the rules deny nothing; those before it are done when an
+// action is judged, and the traces lead back.
+fn judge_unchecked<D: DocTables>(
     alloc: Global,
     doc: &mut Doc<D>,
     tally: Tally,
-    user: &User,
+    ctx: &Ctx,
     requested: &[UserAction],
     traces: &mut Vec<Trace<D>>,
 ) -> Result<JudgedBundle, AllocError>
+    requires unchecked { are_unchecked ctx.now ≡ true }
     requires whole { IsWhole (D.document doc.old) }
     requires tally { IsTally (D.document doc.old) tally }
     requires well_formed { list_all is_well_formed requested.now ≡ true }
     requires few { length requested.now ≤ 2000 }
     requires first { traces.old.items ≡ [] }
     ensures judged { IfOk result (λ j. IsJudgedBundle
-        (judge user.now (D.document doc.old) requested.now) None (D.document doc.old) j) }
+        (judge_from ctx.now (D.document doc.old) 0 requested.now) None (D.document doc.old) j) }
     ensures led { AllLeadBack D.fits D.undone traces.new.items (D.document doc.new) }
     ensures back { gone_back D.fits D.undone traces.new.items (D.document doc.new)
         ≡ D.document doc.old }
 {
+    unchecked_law();
     let mut tally = tally;
     let mut steps = Vec::new(alloc);
     let mut changed = Vec::new(alloc);
@@ -185,7 +193,14 @@ fn judge_each<D: DocTables>(
     for index in 0..requested.len() {
         do_all(alloc, doc, &next, traces, &mut changed)?;
         steps.append(&mut next)?;
-        match judge_action(alloc, doc, tally, user, &requested[index], index as u32)? {
+        match judge_action(
+            alloc,
+            doc,
+            tally,
+            &ctx.user.user,
+            &requested[index],
+            index as u32,
+        )? {
             JudgedAction::Refused(verdict) => {
                 drop((steps, changed, created, next));
                 return Ok(JudgedBundle::Refused(verdict));
@@ -208,8 +223,130 @@ fn judge_each<D: DocTables>(
     }))
 }
 
-/// Judges a bundle of the user: it is done while it is judged, and gone back over without memory.
-/// The document is as before, whatever the answer.
+// Judges an action, and does its steps between their checks.
+fn judge_and_do<D: DocTables>(
+    alloc: Global,
+    doc: &mut Doc<D>,
+    tally: Tally,
+    ctx: &mut Ctx,
+    action: &UserAction,
+    index: u32,
+    traces: &mut Vec<Trace<D>>,
+    changed: &mut Vec<ChangedRows>,
+) -> Result<JudgedAction, AllocError>
+    requires whole { IsWhole (D.document doc.old) }
+    requires well_formed { is_well_formed action.now ≡ true }
+    requires tally { IsTally (D.document doc.old) tally }
+    requires led { AllLeadBack D.fits D.undone traces.old.items (D.document doc.old) }
+    ensures judged { IfOk result (λ r. IsDoneAction ctx.old (D.document doc.old) index
+        action.now ctx.new (D.document doc.new) changed.new.items r) }
+    ensures led { AllLeadBack D.fits D.undone traces.new.items (D.document doc.new) }
+    ensures back { gone_back D.fits D.undone traces.new.items (D.document doc.new)
+        ≡ gone_back D.fits D.undone traces.old.items (D.document doc.old) }
+    ensures stays { OnOk result (StayNoted changed.old.items changed.new.items) }
+{
+    let plan = match judge_action(alloc, doc, tally, &ctx.user.user, action, index)? {
+        JudgedAction::Refused(verdict) => return Ok(JudgedAction::Refused(verdict)),
+        JudgedAction::Accepted(plan) => plan,
+    };
+    let steps = plan.steps.as_slice();
+    match do_all_checked(alloc, doc, ctx, index, steps, traces, changed) {
+        Ok(None) => Ok(JudgedAction::Accepted(plan)),
+        Ok(Some(denial)) => {
+            drop(plan);
+            Ok(JudgedAction::Refused(denial))
+        }
+        Err(error) => {
+            drop(plan);
+            Err(error)
+        }
+    }
+}
+
+// Judges one action after another and does it between its checks; the traces lead back.
+fn judge_checked<D: DocTables>(
+    alloc: Global,
+    doc: &mut Doc<D>,
+    tally: Tally,
+    ctx: &mut Ctx,
+    requested: &[UserAction],
+    traces: &mut Vec<Trace<D>>,
+) -> Result<JudgedBundle, AllocError>
+    requires whole { IsWhole (D.document doc.old) }
+    requires tally { IsTally (D.document doc.old) tally }
+    requires well_formed { list_all is_well_formed requested.now ≡ true }
+    requires few { length requested.now ≤ 2000 }
+    requires first { traces.old.items ≡ [] }
+    ensures judged { IfOk result (λ j. IsJudgedBundle
+        (judge_from ctx.old (D.document doc.old) 0 requested.now) None (D.document doc.old) j) }
+    ensures led { AllLeadBack D.fits D.undone traces.new.items (D.document doc.new) }
+    ensures back { gone_back D.fits D.undone traces.new.items (D.document doc.new)
+        ≡ D.document doc.old }
+{
+    let mut tally = tally;
+    let mut steps = Vec::new(alloc);
+    let mut changed = Vec::new(alloc);
+    let mut created = Vec::new(alloc);
+    for index in 0..requested.len() {
+        let action = &requested[index];
+        match judge_and_do(
+            alloc,
+            doc,
+            tally,
+            ctx,
+            action,
+            index as u32,
+            traces,
+            &mut changed,
+        )? {
+            JudgedAction::Refused(verdict) => {
+                drop((steps, changed, created));
+                return Ok(JudgedBundle::Refused(verdict));
+            }
+            JudgedAction::Accepted(plan) => {
+                created.push(plan.created)?;
+                steps.append(&mut plan.steps.into_vec())?;
+                tally = plan.tally;
+            }
+        }
+    }
+    Ok(JudgedBundle::Accepted(BundlePlan {
+        steps: SplitSteps::of(alloc, steps)?,
+        changed,
+        created,
+        undone: None,
+        tally,
+    }))
+}
+
+// Judges one action after another under these rules; the traces lead back.
+fn judge_in<D: DocTables>(
+    alloc: Global,
+    doc: &mut Doc<D>,
+    tally: Tally,
+    ctx: &mut Ctx,
+    requested: &[UserAction],
+    traces: &mut Vec<Trace<D>>,
+) -> Result<JudgedBundle, AllocError>
+    requires whole { IsWhole (D.document doc.old) }
+    requires tally { IsTally (D.document doc.old) tally }
+    requires well_formed { list_all is_well_formed requested.now ≡ true }
+    requires few { length requested.now ≤ 2000 }
+    requires first { traces.old.items ≡ [] }
+    ensures judged { IfOk result (λ j. IsJudgedBundle
+        (judge_from ctx.old (D.document doc.old) 0 requested.now) None (D.document doc.old) j) }
+    ensures led { AllLeadBack D.fits D.undone traces.new.items (D.document doc.new) }
+    ensures back { gone_back D.fits D.undone traces.new.items (D.document doc.new)
+        ≡ D.document doc.old }
+{
+    if are_unchecked(ctx) {
+        return judge_unchecked(alloc, doc, tally, ctx, requested, traces);
+    }
+    judge_checked(alloc, doc, tally, ctx, requested, traces)
+}
+
+/// Judges a bundle of the user under the rules of the document now: it is done while it is judged,
+/// and gone back over without memory. The document is as before, whatever the answer.
 pub(crate) fn judge<D: DocTables>(
     alloc: Global,
     doc: &mut Doc<D>,
@@ -227,8 +364,9 @@ pub(crate) fn judge<D: DocTables>(
     if requested.len() as u64 > MAX_ACTIONS {
         return Ok(JudgedBundle::Refused(limited(LimitKind::Actions, MAX_ACTIONS as u32)));
     }
+    let mut ctx = context_of(alloc, doc.tables(), user)?;
     let mut traces = Vec::new(alloc);
-    let judged = judge_each(alloc, doc, tally, user, requested, &mut traces);
+    let judged = judge_in(alloc, doc, tally, &mut ctx, requested, &mut traces);
     go_back_all(doc, traces);
     judged
 }

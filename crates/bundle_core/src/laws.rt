@@ -1,7 +1,7 @@
 //! Laws of histories.
 
 ghost use Rattle.bundle_core.specs.Told.{EqualBytesLaw, IsolationLaw};
-ghost use Rattle.bundle_core.specs.UndoLaw.{NewDocumentHasRoom, UndoLaw};
+ghost use Rattle.bundle_core.specs.UndoLaw.{LimitsLeaveFewIds, NewDocumentHasFewIds, UndoLaw};
 
 use user_actions::steps_law;
 use view_parts::allowed_law;
@@ -18,10 +18,12 @@ pub fn equal_bytes_law()
 
 /// Where an accepted bundle is undone by its session with no other accepted bundle between, the
 /// document is that before the bundle, and the undo is not refused as stale: in every history from
-/// every whole document that passes no limit, as the new one does.
+/// every whole document whose ids are few enough that there are free ones, as those of the new one
+/// are, and of each that passes no limit.
 pub fn undo_law()
     ensures undoes { UndoLaw }
-    ensures new { NewDocumentHasRoom }
+    ensures new { NewDocumentHasFewIds }
+    ensures limits { LimitsLeaveFewIds }
 {
     allowed_law();
     steps_law();

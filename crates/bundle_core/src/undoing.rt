@@ -5,19 +5,22 @@ ghost use Rattle.doc_model.specs.DocumentLaws.{IsWhole};
 ghost use Rattle.action_limits.specs.Tallies.{IsTally};
 ghost use Rattle.bundle_core.specs.declared.bare_verdict.BareVerdict.TheVariants.{Refused};
 ghost use Rattle.bundle_core.specs.JudgedBundles.{IsJudgedBundle};
+ghost use Rattle.bundle_core.specs.Context.{context};
 ghost use Rattle.bundle_core.specs.Rollback.{AllLeadBack, gone_back};
 ghost use Rattle.bundle_core.specs.Undo.{judge_own_undo, judge_undo, refusal_of, stale_at};
 ghost use Rattle.bundle_core.specs.UndoneSteps.{MayGoOn};
 ghost use Rattle.undo_bundles.specs.BundleLog.{undo_of};
 
 use crate::bare_verdict::BareVerdict;
+use crate::checking::{context_of, do_checked};
 use crate::judging::{BundlePlan, JudgedBundle, limited};
-use crate::rollback::{do_one, go_back_all};
+use crate::rollback::go_back_all;
 use crate::session::OpenSession;
 use crate::split_steps::SplitSteps;
+use acl_rules::Ctx;
 use action_limits::Tally;
 use doc_actions::is_valid;
-use doc_model::{DocAction, DocTables, Refusal, Step, StepList};
+use doc_model::{DocAction, DocTables, Refusal, Step, StepList, User};
 use recalc::{Doc, Trace};
 use std::alloc::{AllocError, Global};
 use undo_bundles::LogFault;
@@ -47,12 +50,12 @@ fn judge_step<D: DocTables>(
     }
 }
 
-// Judges one step after another; those before it are done when a step is judged, and the traces
-// lead back.
+// Judges one step after another, and does it between its checks; the traces lead back.
 fn judge_each<D: DocTables>(
     alloc: Global,
     doc: &mut Doc<D>,
     tally: Tally,
+    ctx: &mut Ctx,
     number: u64,
     steps: &[Step],
     traces: &mut Vec<Trace<D>>,
@@ -62,7 +65,8 @@ fn judge_each<D: DocTables>(
     requires few { length steps.now < 2 ^ 32 }
     requires first { traces.old.items ≡ [] }
     ensures judged { IfOk result (λ j. IsJudgedBundle
-        (judge_undo (D.document doc.old) 0 steps.now) (Some number) (D.document doc.old) j) }
+        (judge_undo ctx.old (D.document doc.old) 0 steps.now) (Some number)
+        (D.document doc.old) j) }
     ensures led { AllLeadBack D.fits D.undone traces.new.items (D.document doc.new) }
     ensures back { gone_back D.fits D.undone traces.new.items (D.document doc.new)
         ≡ D.document doc.old }
@@ -70,15 +74,21 @@ fn judge_each<D: DocTables>(
     let mut tally = tally;
     let mut changed = Vec::new(alloc);
     for index in 0..steps.len() {
-        let action = &steps[index].action;
-        match judge_step(alloc, doc.tables(), tally, action, index as u32) {
+        let step = &steps[index];
+        match judge_step(alloc, doc.tables(), tally, &step.action, index as u32) {
             Ok(next) => tally = next,
             Err(verdict) => {
                 drop(changed);
                 return Ok(JudgedBundle::Refused(verdict));
             }
         }
-        do_one(alloc, doc, action, traces, &mut changed)?;
+        match do_checked(alloc, doc, ctx, index as u32, step, traces, &mut changed)? {
+            Some(denial) => {
+                drop(changed);
+                return Ok(JudgedBundle::Refused(denial));
+            }
+            None => {}
+        }
     }
     Ok(JudgedBundle::Accepted(BundlePlan {
         steps: SplitSteps::copy_of(alloc, steps)?,
@@ -89,27 +99,32 @@ fn judge_each<D: DocTables>(
     }))
 }
 
-// Judges the steps that undo the bundle of that number: they are done while they are judged, and
-// gone back over without memory. The document is as before, whatever the answer.
+// Judges the steps that undo the bundle of that number under the rules of the document now: they
+// are done while they are judged, and gone back over without memory. The document is as before,
+// whatever the answer.
 fn judge_steps<D: DocTables>(
     alloc: Global,
     doc: &mut Doc<D>,
     tally: Tally,
+    user: &User,
     number: u64,
     steps: &StepList,
 ) -> Result<JudgedBundle, AllocError>
     requires whole { IsWhole (D.document doc.old) }
     requires tally { IsTally (D.document doc.old) tally }
     ensures judged { IfOk result (λ j. IsJudgedBundle
-        (judge_undo (D.document doc.old) 0 steps.now) (Some number) (D.document doc.old) j) }
+        (judge_undo (context user.now (D.document doc.old)) (D.document doc.old) 0 steps.now)
+        (Some number) (D.document doc.old) j) }
     ensures same { D.document doc.new ≡ D.document doc.old }
 {
     if steps.len() > u32::MAX as usize {
         // Never taken: no memory holds so many steps.
         return Err(AllocError);
     }
+    let mut ctx = context_of(alloc, doc.tables(), user)?;
     let mut traces = Vec::new(alloc);
-    let judged = judge_each(alloc, doc, tally, number, steps.as_slice(), &mut traces);
+    let steps = steps.as_slice();
+    let judged = judge_each(alloc, doc, tally, &mut ctx, number, steps, &mut traces);
     go_back_all(doc, traces);
     judged
 }
@@ -144,12 +159,12 @@ pub(crate) fn judge_own_undo<D: DocTables>(
     requires whole { IsWhole (D.document doc.old) }
     requires tally { IsTally (D.document doc.old) tally }
     ensures judged { IfOk result (λ j. IsJudgedBundle
-        (judge_own_undo (undo_of session.now.holder.log number) (D.document doc.old))
-        (Some number) (D.document doc.old) j) }
+        (judge_own_undo session.now.holder.user (undo_of session.now.holder.log number)
+        (D.document doc.old)) (Some number) (D.document doc.old) j) }
     ensures same { D.document doc.new ≡ D.document doc.old }
 {
     match session.undo_of(number) {
-        Ok(steps) => judge_steps(alloc, doc, tally, number, steps),
+        Ok(steps) => judge_steps(alloc, doc, tally, session.user(), number, steps),
         Err(fault) => Ok(JudgedBundle::Refused(refused(refusal_of(fault)))),
     }
 }

@@ -14,7 +14,7 @@ answer_judged-requires-clause-judged g c =
     let t = g.D.DocReader.document c.judge_own_undo.new.doc in
     let b = c.in_ok-judged.judged in
     let n = c.args.number in
-    let X : SessionState → Type 0 = λ x. IsJudgedBundle (judge_own_undo (undo_of x.holder.log n) s) (Some n) s b in
-    let T : Document → Type 0 = λ u. IsJudgedBundle (judge_own_undo (undo_of (get_or c.args.sessions.now.items c.args.index d).holder.log n) u) (Some n) u b in
+    let X : SessionState → Type 0 = λ x. IsJudgedBundle (judge_own_undo x.holder.user (undo_of x.holder.log n) s) (Some n) s b in
+    let T : Document → Type 0 = λ u. IsJudgedBundle (judge_own_undo (get_or c.args.sessions.now.items c.args.index d).holder.user (undo_of (get_or c.args.sessions.now.items c.args.index d).holder.log n) u) (Some n) u b in
     let at = at_any c.args.sessions.now.items c.args.index c.index.result.now d c.requires.finds.within c.index.ensures in
     judged_undo _ t c.args.entry.now.request n b c.requires.asks (subst T (sym c.in_ok-judged.ensures.same) (subst X (sym at) c.in_ok-judged.ensures.judged))

@@ -1,4 +1,4 @@
-use Rattle.bundle_core.proofs.DoneBundles.{new_room}
+use Rattle.bundle_core.proofs.DoneBundles.{few_within, new_few}
 use Rattle.bundle_core.proofs.UndoLaws.{undo_law}
 use Rattle.bundle_core.proofs.laws.undo_law.Goals as goal
 
@@ -6,4 +6,7 @@ pub returns-clause-undoes : goal.returns-clause-undoes
 returns-clause-undoes c = undo_law c.allowed_law.ensures c.steps_law.ensures
 
 pub returns-clause-new : goal.returns-clause-new
-returns-clause-new c = new_room
+returns-clause-new c = new_few
+
+pub returns-clause-limits : goal.returns-clause-limits
+returns-clause-limits c = few_within

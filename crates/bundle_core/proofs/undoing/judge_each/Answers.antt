@@ -5,6 +5,8 @@ use Rattle.doc_model.specs.Document.{Document}
 use Rattle.recalc.specs.Evaluated.{filled}
 use Rattle.user_actions.specs.StepLaws.{action_of}
 use Rattle.view_parts.specs.PartLaws.{AreSameOutside}
+use Rattle.bundle_core.specs.Context.{carry}
+use Rattle.bundle_core.specs.Denials.{denial_at}
 use Rattle.bundle_core.specs.UndoneSteps.{MayGoOn}
 use Rattle.bundle_core.proofs.ChangedLemmas.{outside_then, within_itself}
 use Rattle.bundle_core.proofs.StepLemmas.{one_within}
@@ -16,19 +18,17 @@ loop-index-preserved g c =
     let l = c.loop-index in
     let start = g.D.DocReader.document c.args.doc.now in
     let s = g.D.DocReader.document l.doc in
-    let t = g.D.DocReader.document c.do_one.new.doc in
+    let t = g.D.DocReader.document c.do_checked.new.doc in
     let xs = c.args.steps.now in
     let x = c.index-steps-index.result in
-    let more = c.in_ok-do_one.ensures in
+    let more = c.in_ok-denial.ensures in
     let actions = map action_of xs in
-    let M : Document → Step → Type 0 = λ u y. MayGoOn u l.index y.action c.in-Ok.next in
-    let here : MayGoOn s l.index (get_or xs l.index x).action c.in-Ok.next = subst (λ u. M u (get_or xs l.index x)) (ap g.D.DocReader.document c.tables.ensures.value) c.in-Ok.ensures.ok in
-    let may : MayGoOn s l.index x.action c.in-Ok.next = subst (M s) (sym c.index-steps-index.is) here in
-    let done : t ≡ apply s x.action = more.done ∙ ap (λ (z : Step). apply s z.action) (sym c.index-steps-index.is) in
-    let O : Step → Type 0 = λ z. AreSameOutside (z.action ∷ []) c.do_one.new.changed.items (filled s) (filled t) in (
-      undo_next start xs l.index s l.tally l.invariant.0 x c.loop-index-test.true c.index-steps-index.is t c.in-Ok.next may done,
-      outside_then actions (x.action ∷ []) actions l.changed.items c.do_one.new.changed.items (filled start) (filled s) (filled t)
-          (within_itself actions) (one_within xs l.index x c.loop-index-test.true c.index-steps-index.is) more.stays l.invariant.1 (subst O (sym c.index-steps-index.is) more.outside),
+    let M : Document → Type 0 = λ u. MayGoOn u l.index x.action c.in-Ok.next in
+    let may : MayGoOn s l.index x.action c.in-Ok.next = subst M (ap g.D.DocReader.document c.tables.ensures.value) c.in-Ok.ensures.ok in (
+      undo_next c.args.ctx.now start xs l.index l.ctx s l.tally l.invariant.0 x c.loop-index-test.true c.index-steps-index.is c.do_checked.new.ctx t c.in-Ok.next may
+          (sym more.denied ∙ c.in-None.is) more.carried more.done,
+      outside_then actions (x.action ∷ []) actions l.changed.items c.do_checked.new.changed.items (filled start) (filled s) (filled t)
+          (within_itself actions) (one_within xs l.index x c.loop-index-test.true c.index-steps-index.is) more.stays l.invariant.1 more.outside,
       more.whole,
       more.led,
       more.back ∙ l.invariant.4,
@@ -38,4 +38,4 @@ pub returns-clause-judged : goal.returns-clause-judged
 returns-clause-judged g c =
     let l = c.loop-index in
     let le : length c.args.steps.now ≤ l.index = omega (arith, c.loop-index-test.false) in
-    undo_ends (g.D.DocReader.document c.args.doc.now) c.args.steps.now l.index (g.D.DocReader.document l.doc) l.tally l.invariant.0 _ c.args.number le refl c.in_ok-copy_of.ensures c.new.ensures.items refl l.invariant.1
+    undo_ends c.args.ctx.now (g.D.DocReader.document c.args.doc.now) c.args.steps.now l.index l.ctx (g.D.DocReader.document l.doc) l.tally l.invariant.0 _ c.args.number le refl c.in_ok-copy_of.ensures c.new.ensures.items refl l.invariant.1

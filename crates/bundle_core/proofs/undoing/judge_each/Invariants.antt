@@ -9,7 +9,7 @@ use Rattle.bundle_core.proofs.undoing.judge_each.Given as goal
 
 abbrev pub invariant-loop-index : goal.invariant-loop-index
 invariant-loop-index g l =
-    IsUndoAt (g.D.DocReader.document l.initial.doc) l.steps l.index (g.D.DocReader.document l.doc) l.tally
+    IsUndoAt l.initial.ctx (g.D.DocReader.document l.initial.doc) l.steps l.index l.ctx (g.D.DocReader.document l.doc) l.tally
     × AreSameOutside (map action_of l.steps) l.changed.items (filled (g.D.DocReader.document l.initial.doc)) (filled (g.D.DocReader.document l.doc))
     × IsWhole (g.D.DocReader.document l.doc)
     × AllLeadBack g.D.DocTables.fits g.D.DocTables.undone l.traces.items (g.D.DocReader.document l.doc)

@@ -1,0 +1,2 @@
+pub mod DenialLemmas
+pub mod KeptLemmas

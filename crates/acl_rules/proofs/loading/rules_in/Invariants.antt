@@ -1,0 +1,7 @@
+use Rattle.std.proofs.Common.{◌≡◌, map, take}
+use Rattle.acl_rules.specs.Loaded.{rule_in}
+use Rattle.acl_rules.proofs.loading.rules_in.Given as goal
+
+abbrev pub invariant-loop-row : goal.invariant-loop-row
+invariant-loop-row g l =
+    l.made.items ≡ map (λ p. rule_in (g.D.DocReader.document l.tables) p.1) (take l.row-index l.rows)

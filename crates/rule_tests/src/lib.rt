@@ -15,4 +15,6 @@ mod formulas;
 #[cfg(test)]
 mod permission_texts;
 #[cfg(test)]
+mod resource_texts;
+#[cfg(test)]
 mod samples;

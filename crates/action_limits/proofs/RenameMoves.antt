@@ -13,8 +13,7 @@ use Rattle.doc_model.specs.declared.column.ColDef.{ColDef}
 use Rattle.doc_model.specs.declared.user_action.UserAction.{UserAction}
 use Rattle.doc_model.specs.declared.user_action.UserAction.TheVariants.{Add, Update, Remove, AddTable, RemoveTable, RenameTable, AddColumn, RemoveColumn, RenameColumn, ModifyColumn}
 use Rattle.doc_model.specs.Apply.{all_valid, apply, apply_all}
-use Rattle.doc_model.specs.ByIds.{find_id, has_id}
-use Rattle.doc_model.specs.Column.{column_id}
+use Rattle.doc_model.specs.ByIds.{has_id}
 use Rattle.doc_model.specs.CountLaws.{Sums, SumsMove, column_weight, nothing, sums_added, sums_removed}
 use Rattle.doc_model.specs.Counts.{counts, formula_bytes, total}
 use Rattle.doc_model.specs.Document.{Document, Table, table_id}
@@ -31,14 +30,13 @@ use Rattle.doc_readers.specs.Parts.{grid_at}
 use Rattle.action_limits.specs.declared.limits.Counted.{Counted}
 use Rattle.action_limits.specs.Capped.{all_moved, has_named, moved_by}
 use Rattle.action_limits.specs.Left.{TellsMaxima, is_quiet, is_renaming}
-use Rattle.action_limits.specs.Tallies.{after}
 use Rattle.action_limits.specs.Updated.{all_updated_at, is_known, is_update}
 use Rattle.name_rules.specs.FreeName.{free_name}
 use Rattle.user_actions.specs.declared.referrers.Referrer.{Referrer}
 use Rattle.user_actions.specs.CellUpdates.{column_changed, rows_changed}
 use Rattle.user_actions.specs.Marked.{direct, indirect}
 use Rattle.user_actions.specs.References.{info_to, led_to, referrers}
-use Rattle.user_actions.specs.ResourceSteps.{columns_moved, rows_about, tables_moved}
+use Rattle.user_actions.specs.ResourceSteps.{rows_about}
 use Rattle.user_actions.specs.StepLaws.{action_of}
 use Rattle.user_actions.specs.Steps.{column_ids, column_renaming, renaming, steps_of, table_ids}
 use Rattle.user_actions.proofs.LedLemmas.{IsLed, there-renaming}

@@ -1,48 +1,35 @@
 -- Sums and maxima after the steps of an action that makes no rows.
-use Rattle.std.proofs.Common.{ℕ, Bool, true, false, cond, not, ◌&&◌, ◌+◌, ◌≤◌, List, [], ◌∷◌, ◌++◌, map, length, get_or, ◌≡◌, refl, sym, ap, ◌∙◌, Option, Some, None, arith, ltb}
-use Rattle.std.proofs.lemmas.Bool.{and_parts, eqb-true, false≢true, true≢false, le-ltb}
+use Rattle.std.proofs.Common.{ℕ, true, false, ◌&&◌, ◌+◌, ◌≤◌, List, [], ◌∷◌, ◌++◌, map, length, get_or, ◌≡◌, refl, sym, ap, ◌∙◌, arith, ltb}
+use Rattle.std.proofs.lemmas.Bool.{and_parts, eqb-true, true≢false}
 use Rattle.std.specs.Bool.{◌==◌}
-use Rattle.std.specs.List.{list_all, AllByRecursion}
-use Rattle.std.specs.Option.{option_map}
-use Rattle.std.specs.Str.{bytes_eq}
+use Rattle.std.specs.List.{list_all}
 use Rattle.cell_types.specs.Conversion.{fit}
-use Rattle.cell_types.specs.NameRule.{is_name}
-use Rattle.doc_model.specs.declared.action.DocAction.{DocAction}
 use Rattle.doc_model.specs.declared.action.DocAction.TheVariants as action
 use Rattle.doc_model.specs.declared.action.Step.{Step}
-use Rattle.doc_model.specs.declared.column.ColDef.{ColDef}
 use Rattle.doc_model.specs.declared.user_action.UserAction.{UserAction}
 use Rattle.doc_model.specs.declared.user_action.UserAction.TheVariants.{Add, Update, Remove, AddTable, RemoveTable, RenameTable, AddColumn, RemoveColumn, RenameColumn, ModifyColumn}
 use Rattle.doc_model.specs.Apply.{all_valid, apply, apply_all}
-use Rattle.doc_model.specs.ByIds.{has_id}
-use Rattle.doc_model.specs.CountLaws.{SumsMove}
-use Rattle.doc_model.specs.Counts.{counts, formula_bytes}
-use Rattle.doc_model.specs.Document.{Document, Table, table_id}
+use Rattle.doc_model.specs.Counts.{counts}
+use Rattle.doc_model.specs.Document.{Document}
 use Rattle.doc_model.specs.DocumentLaws.{IsWhole}
-use Rattle.doc_model.specs.Valid.{is_new_table, schema_table, valid}
+use Rattle.doc_model.specs.Valid.{valid}
 use Rattle.doc_model.specs.ViewEdits.{if_any}
-use Rattle.doc_model.proofs.Choices.{both_true, not_true}
-use Rattle.doc_model.proofs.DocumentParts.{passes_parts}
+use Rattle.doc_model.proofs.Choices.{both_true}
 use Rattle.doc_model.proofs.InverseLaws.{IsWhole-apply}
-use Rattle.doc_model.proofs.SchemaCounts.{counts-apply}
 use Rattle.doc_readers.specs.Parts.{grid_at}
 use Rattle.action_limits.specs.declared.limits.Counted.{Counted}
-use Rattle.action_limits.specs.Capped.{all_moved, all_moved_at, capped}
+use Rattle.action_limits.specs.Capped.{all_moved, all_moved_at}
 use Rattle.action_limits.specs.Left.{AreQuietLater, TellsMaxima, is_quiet, is_renaming}
 use Rattle.user_actions.specs.Kinds.{makes_rows}
 use Rattle.user_actions.specs.StepLaws.{action_of}
 use Rattle.user_actions.specs.Marked.{direct}
-use Rattle.name_rules.specs.FreeName.{free_name}
 use Rattle.user_actions.specs.declared.referrers.Referrer.{Referrer}
 use Rattle.user_actions.specs.CellUpdates.{rows_changed}
-use Rattle.user_actions.specs.References.{cleared, clearings, info_to, led_to, referrers, rows_staying}
-use Rattle.user_actions.specs.Steps.{all_fitted, renaming, row_ids, steps_of, table_ids}
-use Rattle.user_actions.proofs.LedLemmas.{IsLed, there-renaming}
-use Rattle.action_limits.specs.Tallies.{after}
+use Rattle.user_actions.specs.References.{cleared, clearings, referrers, rows_staying}
+use Rattle.user_actions.specs.Steps.{all_fitted, row_ids, steps_of}
 use Rattle.action_limits.proofs.ClearingMoves.{all_told, removal_alike, removal_there}
-use Rattle.action_limits.proofs.RenamingMoves.{KeepsFormula, SameSums, all_same}
 use Rattle.action_limits.proofs.ModifyMoves.{TellsSteps, any_steps, modified_told, quiet-modified}
-use Rattle.action_limits.proofs.ExpansionLemmas.{IsExact, TellsSums, none_told}
+use Rattle.action_limits.proofs.ExpansionLemmas.{IsExact, TellsSums}
 use Rattle.action_limits.proofs.MaximaMoves.{IsBelow, SameMaxima, maxima-quiet}
 
 -- ---- the steps of an action

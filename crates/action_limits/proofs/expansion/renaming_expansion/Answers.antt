@@ -1,4 +1,4 @@
-use Rattle.std.proofs.Common.{◌≡◌, ◌∙◌, ap, sym, subst, true}
+use Rattle.std.proofs.Common.{◌≡◌, ◌∙◌, ap, sym, subst}
 use Rattle.std.specs.List.{list_all}
 use Rattle.action_limits.specs.Capped.{settled}
 use Rattle.action_limits.specs.Updated.{all_updated_at, is_known}

@@ -1,6 +1,5 @@
-use Rattle.std.proofs.Common.{◌≡◌, true, drop}
-use Rattle.std.specs.List.{list_all}
-use Rattle.action_limits.specs.Updated.{all_updated_at, is_known}
+use Rattle.std.proofs.Common.{◌≡◌, drop}
+use Rattle.action_limits.specs.Updated.{all_updated_at}
 use Rattle.action_limits.proofs.moves.after_updates.Given as goal
 
 -- the steps that are left lead to the sums

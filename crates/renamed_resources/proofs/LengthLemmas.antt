@@ -1,5 +1,5 @@
 -- How long names with commas between them are.
-use Rattle.std.proofs.Common.{ℕ, true, not, ◌+◌, ◌*◌, ◌≤◌, ◌&&◌, nat_le, List, [], ◌∷◌, ◌++◌, length, length-append, ◌≡◌, sym, subst, ap, ◌∙◌, codes, arith}
+use Rattle.std.proofs.Common.{ℕ, true, not, ◌+◌, ◌*◌, ◌≤◌, ◌&&◌, nat_le, List, [], ◌∷◌, ◌++◌, length, length-append, ◌≡◌, ap, codes, arith}
 use Rattle.std.proofs.Math.Utf8.{encode, encodes}
 use Rattle.std.proofs.lemmas.Bool.{and_parts, le-leb, leb-true}
 use Rattle.std.proofs.lemmas.Str.{encodes-chars, length-encode, len_utf8_bounds}

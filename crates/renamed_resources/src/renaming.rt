@@ -37,12 +37,7 @@ fn write_further(text: &mut String, name: &Name) -> Result<(), AllocError>
 }
 
 // Writes names with commas before them, with the new id in the place of the old one.
-fn write_others(
-    text: &mut String,
-    old: &Name,
-    new: &Name,
-    names: &[Name],
-) -> Result<(), AllocError>
+fn write_others(text: &mut String, old: &Name, new: &Name, names: &[Name]) -> Result<(), AllocError>
     ensures { OnOk result (string_bytes text.new
         ≡ string_bytes text.old ++ behind_commas (map (moved_id old.now new.now) names.now)) }
 {

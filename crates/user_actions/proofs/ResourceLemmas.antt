@@ -1,5 +1,5 @@
 -- The steps that move resources are valid at their places.
-use Rattle.std.proofs.Common.{ℕ, Bool, true, false, cond, not, ◌&&◌, ◌||◌, List, [], ◌∷◌, ◌++◌, map, filter, ◌≡◌, refl, sym, ap, ◌∙◌, codes, Option, Some, None}
+use Rattle.std.proofs.Common.{ℕ, Bool, true, false, cond, not, ◌||◌, List, [], ◌∷◌, ◌++◌, map, ◌≡◌, refl, sym, ap, ◌∙◌, codes, Option, Some, None}
 use Rattle.std.proofs.lemmas.Bool.{and_parts}
 use Rattle.std.proofs.lemmas.List.{map-append}
 use Rattle.std.specs.Str.{bytes_eq}
@@ -24,7 +24,6 @@ use Rattle.doc_model.specs.Valid.{is_data, passes, record_table, valid}
 use Rattle.doc_model.specs.ViewEdits.{if_any}
 use Rattle.doc_model.proofs.ByIdsLaws.{bytes_itself, found_all}
 use Rattle.doc_model.proofs.Choices.{both_true, cond_false, cond_true}
-use Rattle.doc_model.proofs.InverseLaws.{IsWhole-apply_all}
 use Rattle.doc_model.proofs.RowsLaws.{has-filter, IsAscending-filter}
 use Rattle.doc_model.proofs.SchemaLaws.{short_name}
 use Rattle.doc_model.proofs.WholeLaws.{columns_resources_apart, tables_resources_apart}

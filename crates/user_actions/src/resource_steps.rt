@@ -63,11 +63,7 @@ fn is_about<D: DocTables>(tables: &D, table: &Name, row: u32) -> bool
 }
 
 // The rows of resources that are about the table.
-fn rows_about<D: DocTables>(
-    alloc: Global,
-    tables: &D,
-    table: &Name,
-) -> Result<Vec<u32>, AllocError>
+fn rows_about<D: DocTables>(alloc: Global, tables: &D, table: &Name) -> Result<Vec<u32>, AllocError>
     requires { IsWhole (D.document tables.now) }
     ensures { IfOk result
         (λ v. v.items ≡ rows_about (grid_at (D.document tables.now) resources_id) table.now) }

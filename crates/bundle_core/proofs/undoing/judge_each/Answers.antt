@@ -5,13 +5,19 @@ use Rattle.doc_model.specs.Document.{Document}
 use Rattle.recalc.specs.Evaluated.{filled}
 use Rattle.user_actions.specs.StepLaws.{action_of}
 use Rattle.view_parts.specs.PartLaws.{AreSameOutside}
-use Rattle.bundle_core.specs.Context.{carry}
-use Rattle.bundle_core.specs.Denials.{denial_at}
+use Rattle.bundle_core.specs.Undo.{stale_at}
 use Rattle.bundle_core.specs.UndoneSteps.{MayGoOn}
 use Rattle.bundle_core.proofs.ChangedLemmas.{outside_then, within_itself}
 use Rattle.bundle_core.proofs.StepLemmas.{one_within}
-use Rattle.bundle_core.proofs.UndoneLemmas.{undo_ends, undo_next}
+use Rattle.bundle_core.proofs.UndoneLemmas.{undo_ends, undo_next, undo_refused}
 use Rattle.bundle_core.proofs.undoing.judge_each.Goals as goal
+
+pub returns-in-Err-clause-judged : goal.returns-in-Err-clause-judged
+returns-in-Err-clause-judged g c =
+    let l = c.loop-index in
+    let x = c.index-steps-index.result in
+    undo_refused c.args.ctx.now (g.D.DocReader.document c.args.doc.now) c.args.steps.now l.index l.ctx (g.D.DocReader.document l.doc) l.tally l.invariant.0 x c.loop-index-test.true c.index-steps-index.is c.in-Err.verdict
+    (ap (λ d. stale_at (g.D.DocReader.document d) l.index x.action) (sym c.tables.ensures.value) ∙ c.in-Err.ensures.err)
 
 pub loop-index-preserved : goal.loop-index-preserved
 loop-index-preserved g c =

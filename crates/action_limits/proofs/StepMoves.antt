@@ -1,5 +1,5 @@
 -- Sums and maxima after the steps of an action that makes no rows.
-use Rattle.std.proofs.Common.{ℕ, true, false, ◌&&◌, ◌+◌, ◌≤◌, List, [], ◌∷◌, ◌++◌, map, length, get_or, ◌≡◌, refl, sym, ap, ◌∙◌, arith, ltb}
+use Rattle.std.proofs.Common.{ℕ, true, false, ◌&&◌, ◌≤◌, List, [], ◌∷◌, ◌++◌, map, length, get_or, ◌≡◌, refl, sym, ap, ◌∙◌, arith, ltb}
 use Rattle.std.proofs.lemmas.Bool.{and_parts, eqb-true, true≢false}
 use Rattle.std.specs.Bool.{◌==◌}
 use Rattle.std.specs.List.{list_all}

@@ -1,7 +1,8 @@
-//! Tests of rules: their formulas, their values, their permissions and what they decide.
+//! Tests of rules: their formulas, their values, their permissions, what they decide, and which
+//! rows of the tables of rules are good.
 //!
-//! Stands on `acl_formula`, `acl_rules` and what these stand on. Nothing stands on it; it is a
-//! crate of its own, so that these are not proved a second time with their tests.
+//! Stands on `acl_formula`, `acl_rules`, `acl_rows` and what these stand on. Nothing stands on it;
+//! it is a crate of its own, so that these are not proved a second time with their tests.
 //!
 //! Promises: nothing. What is tested is what no clause says: that the tables of operators are the
 //! ones meant, and that calls succeed where there is memory.
@@ -14,5 +15,7 @@ mod decisions;
 mod formulas;
 #[cfg(test)]
 mod permission_texts;
+#[cfg(test)]
+mod rows;
 #[cfg(test)]
 mod samples;

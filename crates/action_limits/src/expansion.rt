@@ -22,9 +22,8 @@ use crate::tally::{sums_of, tally_or_limit};
 use cell_types::Name;
 use doc_model::{DocTables, LimitKind, Step, StepList, UserAction};
 use doc_readers::{columns_table, tables_table};
-use name_rules::name_of;
 use std::alloc::{AllocError, Global};
-use user_actions::{last_row, steps, table_of};
+use user_actions::{last_row, steps, table_name};
 
 /// What a user action comes to.
 #[derive(Drop)]
@@ -145,7 +144,7 @@ fn add_expansion<D: DocTables>(
     ensures { IfOk result (λ e. IsExpansion (D.document tables.now) action.now e) }
 {
     let added = {
-        let table = name_of(alloc, table_of(action))?;
+        let table = table_name(alloc, action)?;
         maxima_added(tables, &table, count)
     };
     let most = wider(maxima_before(tables, tally.within), added);
@@ -226,7 +225,7 @@ fn schema_expansion<D: DocTables>(
     ensures { IfOk result (λ e. IsExpansion (D.document tables.now) action.now e) }
 {
     let grown = {
-        let table = name_of(alloc, table_of(action))?;
+        let table = table_name(alloc, action)?;
         maxima_grown(tables, &table, action)
     };
     let most = wider(maxima_before(tables, tally.within), grown);

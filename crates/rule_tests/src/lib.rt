@@ -1,9 +1,9 @@
-//! Tests of rules: their formulas, their values, their permissions, what they decide and what
-//! renames make of the texts of their resources.
+//! Tests of rules: their formulas, their values, their permissions, what they decide, what renames
+//! make of the texts of their resources, and which rows of the tables of rules are good.
 //!
-//! Stands on `acl_formula`, `acl_rules`, `renamed_resources` and what these stand on. Nothing
-//! stands on it; it is a crate of its own, so that these are not proved a second time with their
-//! tests.
+//! Stands on `acl_formula`, `acl_rules`, `acl_rows`, `renamed_resources` and what these stand on.
+//! Nothing stands on it; it is a crate of its own, so that these are not proved a second time with
+//! their tests.
 //!
 //! Promises: nothing. What is tested is what no clause says: that the tables of operators are the
 //! ones meant, and that calls succeed where there is memory.
@@ -20,5 +20,7 @@ mod permission_texts;
 mod resource_texts;
 #[cfg(test)]
 mod resources;
+#[cfg(test)]
+mod rows;
 #[cfg(test)]
 mod samples;

@@ -1,8 +1,9 @@
--- What is named by an action that is allowed has a name.
+-- What an action that is allowed names: names, and what the document has.
 use Rattle.std.proofs.Common.{ℕ, Bool, true, false, cond, not, ◌&&◌, ◌||◌, List, [], ◌∷◌, ◌≡◌, refl, sym, ap, ◌∙◌, Option, Some, None}
-use Rattle.std.proofs.lemmas.Bool.{and_parts, true≢false}
+use Rattle.std.proofs.lemmas.Bool.{and_parts, true≢false, false≢true}
 use Rattle.std.specs.List.{list_all}
 use Rattle.std.specs.Option.{is_some}
+use Rattle.cell_types.specs.NameLength.{HasNameLength}
 use Rattle.cell_types.specs.NameRule.{is_name}
 use Rattle.doc_model.specs.declared.column.ColDef.{ColDef}
 use Rattle.doc_model.specs.declared.user_action.UserAction.{UserAction}
@@ -12,16 +13,20 @@ use Rattle.doc_model.specs.ByIds.{find_id, has_id}
 use Rattle.doc_model.specs.Column.{column_id}
 use Rattle.doc_model.specs.Document.{Table, Document, table_id}
 use Rattle.doc_model.specs.DocumentLaws.{IsWhole}
-use Rattle.doc_model.specs.MetadataIds.{is_metadata_id}
+use Rattle.doc_model.specs.Grid.{Grid}
+use Rattle.doc_model.specs.MetadataIds.{is_metadata_id, is_schema_id}
+use Rattle.doc_model.specs.Schema.{no_grid}
 use Rattle.doc_model.specs.Sound.{has_names}
-use Rattle.doc_model.specs.Valid.{is_data, passes, schema_table}
+use Rattle.doc_model.specs.Valid.{passes, record_table, schema_table}
 use Rattle.doc_model.proofs.ByIdsLaws.{found_all, found_id, has_id-find}
-use Rattle.doc_model.proofs.Choices.{both_true, each_true}
+use Rattle.doc_model.proofs.Choices.{each_true}
 use Rattle.doc_model.proofs.DocumentParts.{passes_parts}
-use Rattle.user_actions.specs.Allowed.{has_name, is_allowed, may_give, may_name}
+use Rattle.doc_readers.specs.Parts.{grid_at}
+use Rattle.user_actions.specs.Allowed.{is_allowed, may_give, may_name}
 use Rattle.user_actions.specs.Columns.{may_be_new, may_become}
 use Rattle.user_actions.specs.Kinds.{table_of}
-use Rattle.user_actions.specs.Objections.{has_base, has_good_id}
+use Rattle.user_actions.specs.Objections.{has_good_id}
+use Rattle.user_actions.proofs.NameLengths.{found_length, name_length}
 
 -- the table of a schema action
 plain_found : (s : Document) (id : List ℕ) (t : Table) → schema_table s id ≡ Some t → (is_metadata_id id ≡ false) × (find_id table_id id s ≡ Some t)
@@ -52,21 +57,20 @@ column_there t n c d found =
     ap is_name (sym (found_id column_id c t.grid.columns d found))
     ∙ found_all column_id (λ d. is_name d.id ≡ true) c t.grid.columns d (each_true (λ d. is_name d.id) t.grid.columns names) found
 
-data_named : (t : Table) → has_names t ≡ true → (c : List ℕ) → is_data t.grid c ≡ true → is_name c ≡ true
-data_named t n c h =
-    let p : (d : ColDef) × ((find_id column_id c t.grid.columns ≡ Some d) × (not d.info.is_formula ≡ true)) = passes_parts (find_id column_id c t.grid.columns) (λ d. not d.info.is_formula) h in
-    column_there t n c p.0 p.1.0
+-- the table of a record action
+record_found : (s : Document) (id : List ℕ) (test : Table → Bool) → passes (record_table s id) test ≡ true → (t : Table) × ((find_id table_id id s ≡ Some t) × (test t ≡ true))
+record_found s id test h =
+    elim (is_schema_id id) as (λ b. passes (cond b None (find_id table_id id s)) test ≡ true → (t : Table) × ((find_id table_id id s ≡ Some t) × (test t ≡ true))) [
+      | true ↦ λ e. absurd (false≢true e)
+      | false ↦ λ e. passes_parts (find_id table_id id s) test e
+    ] h
 
-columns_given : (t : Table) → has_names t ≡ true → (ks : List UserColumn) → list_all (may_give t.grid) ks ≡ true → list_all has_name ks ≡ true
-columns_given t n [] h = refl
-columns_given t n (k ∷ ks) h =
-    let p : (may_give t.grid k ≡ true) × (list_all (may_give t.grid) ks ≡ true) = and_parts (may_give t.grid k) (list_all (may_give t.grid) ks) h in
-    both_true (has_name k) (list_all has_name ks) (data_named t n k.id (and_parts (is_data t.grid k.id) (has_base k) p.0).0) (columns_given t n ks p.1)
-
-pub columns_named : (s : Document) → IsWhole s → (id : List ℕ) (before : Table → Bool) (ks : List UserColumn) → passes (schema_table s id) (λ t. before t && list_all (may_give t.grid) ks) ≡ true → list_all has_name ks ≡ true
-columns_named s w id before ks h =
-    let p : (t : Table) × ((schema_table s id ≡ Some t) × ((before t && list_all (may_give t.grid) ks) ≡ true)) = passes_parts (schema_table s id) (λ t. before t && list_all (may_give t.grid) ks) h in
-    columns_given p.0 (plain_names s w id p.0 p.1.0).1 ks (and_parts (before p.0) (list_all (may_give p.0.grid) ks) p.1.1).1
+-- the columns that are given values are data columns of it
+pub columns_given : (s : Document) (id : List ℕ) (before : Table → Bool) (ks : List UserColumn) → passes (record_table s id) (λ t. before t && list_all (may_give t.grid) ks) ≡ true → list_all (may_give (grid_at s id)) ks ≡ true
+columns_given s id before ks h =
+    let p : (t : Table) × ((find_id table_id id s ≡ Some t) × ((before t && list_all (may_give t.grid) ks) ≡ true)) = record_found s id (λ t. before t && list_all (may_give t.grid) ks) h in
+    ap (λ (o : Option Table). list_all (may_give (elim o as (λ _. Grid ColDef) [ None ↦ no_grid | Some t ↦ t.grid ])) ks) p.1.0
+    ∙ (and_parts (before p.0) (list_all (may_give p.0.grid) ks) p.1.1).1
 
 there_named : (t : Table) → has_names t ≡ true → (c : List ℕ) → has_id column_id t.grid.columns c ≡ true → is_name c ≡ true
 there_named t n c there =
@@ -97,15 +101,21 @@ new_name s id c new h =
     let p : (t : Table) × ((schema_table s id ≡ Some t) × ((has_id column_id t.grid.columns c && is_name new) ≡ true)) = passes_parts (schema_table s id) (λ t. has_id column_id t.grid.columns c && is_name new) h in
     (and_parts (has_id column_id p.0.grid.columns c) (is_name new) p.1.1).1
 
--- the table of an action that is allowed has a name
-pub action_named : (s : Document) → IsWhole s → (a : UserAction) → is_allowed s a ≡ true → is_name (table_of a) ≡ true
-action_named s w (Add table single count has_row_ids ks) h = table_named s w table (λ t. list_all (may_give t.grid) ks) h
-action_named s w (Update table single rows ks) h = table_named s w table (λ t. may_name t.grid.rows rows && list_all (may_give t.grid) ks) h
-action_named s w (Remove table single rows) h = table_named s w table (λ t. may_name t.grid.rows rows) h
-action_named s w (AddTable table cs) h = (and_parts (is_name table) (list_all has_good_id cs) (and_parts (is_name table && list_all has_good_id cs) (list_all may_be_new cs) h).0).0
-action_named s w (RemoveTable table) h = table_named s w table (λ t. true) h
-action_named s w (RenameTable table new) h = table_named s w table (λ t. is_name new) h
-action_named s w (AddColumn table c) h = table_named s w table (λ t. is_name c.id && may_be_new c) h
-action_named s w (RemoveColumn table column) h = table_named s w table (λ t. has_id column_id t.grid.columns column) h
-action_named s w (RenameColumn table column new) h = table_named s w table (λ t. has_id column_id t.grid.columns column && is_name new) h
-action_named s w (ModifyColumn table c) h = table_named s w table (λ t. passes (find_id column_id c.id t.grid.columns) (λ d. may_become d.info.is_formula c)) h
+-- the table of an action that is allowed has an id of the length of a name
+record_length : (s : Document) → IsWhole s → (id : List ℕ) (test : Table → Bool) → passes (record_table s id) test ≡ true → HasNameLength id
+record_length s w id test h = let p : (t : Table) × ((find_id table_id id s ≡ Some t) × (test t ≡ true)) = record_found s id test h in found_length s w.sound.names id p.0 p.1.0
+
+schema_length : (s : Document) → IsWhole s → (id : List ℕ) (test : Table → Bool) → passes (schema_table s id) test ≡ true → HasNameLength id
+schema_length s w id test h = name_length id (table_named s w id test h)
+
+pub action_named : (s : Document) → IsWhole s → (a : UserAction) → is_allowed s a ≡ true → HasNameLength (table_of a)
+action_named s w (Add table single count has_row_ids ks) h = record_length s w table (λ t. list_all (may_give t.grid) ks) h
+action_named s w (Update table single rows ks) h = record_length s w table (λ t. may_name t.grid.rows rows && list_all (may_give t.grid) ks) h
+action_named s w (Remove table single rows) h = record_length s w table (λ t. may_name t.grid.rows rows) h
+action_named s w (AddTable table cs) h = name_length table (and_parts (is_name table) (list_all has_good_id cs) (and_parts (is_name table && list_all has_good_id cs) (list_all may_be_new cs) h).0).0
+action_named s w (RemoveTable table) h = schema_length s w table (λ t. true) h
+action_named s w (RenameTable table new) h = schema_length s w table (λ t. is_name new) h
+action_named s w (AddColumn table c) h = schema_length s w table (λ t. is_name c.id && may_be_new c) h
+action_named s w (RemoveColumn table column) h = schema_length s w table (λ t. has_id column_id t.grid.columns column) h
+action_named s w (RenameColumn table column new) h = schema_length s w table (λ t. has_id column_id t.grid.columns column && is_name new) h
+action_named s w (ModifyColumn table c) h = schema_length s w table (λ t. passes (find_id column_id c.id t.grid.columns) (λ d. may_become d.info.is_formula c)) h

@@ -2,20 +2,23 @@ pub mod AllowedLemmas
 pub mod ApartLemmas
 pub mod ClearedLemmas
 mod FitLemmas
+mod FittedLemmas
 mod FreshIdsLemmas
 mod InfoLemmas
 mod ColumnLemmas
 pub mod LedLemmas
 pub mod ResourceLemmas
 mod LoopLemmas
+pub mod NameLengths
 mod NumberLemmas
-mod ObjectionLemmas
+pub mod ObjectionLemmas
 pub mod RecordStepLemmas
 pub mod ReferrerLemmas
+mod RuleRowLemmas
 mod ModifiedLemmas
 pub mod SchemaStepLemmas
 pub mod StepsValid
 mod UnopposedLemmas
 mod UpdateLemmas
-mod ViewLemmas
+pub mod ViewLemmas
 pub mod WalkLemmas

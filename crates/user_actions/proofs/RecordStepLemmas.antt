@@ -19,12 +19,12 @@ use Rattle.doc_model.specs.Counts.{greatest}
 use Rattle.doc_model.specs.Document.{Table, Document, table_id}
 use Rattle.doc_model.specs.DocumentLaws.{IsWhole}
 use Rattle.doc_model.specs.Grid.{Grid}
-use Rattle.doc_model.specs.MetadataIds.{is_schema_id, is_acl_id}
+use Rattle.doc_model.specs.MetadataIds.{is_schema_id}
 use Rattle.doc_model.specs.Records.{given_id}
 use Rattle.doc_model.specs.Rows.{IsAscending, all_in, has, has_no_duplicates, none_in}
 use Rattle.doc_model.specs.Schema.{no_grid}
 use Rattle.doc_model.specs.Sound.{IsSoundGrid}
-use Rattle.doc_model.specs.Valid.{from_one, gives_column, gives_data, is_data, passes, record_table, schema_table, valid}
+use Rattle.doc_model.specs.Valid.{from_one, gives_column, gives_data, is_data, passes, record_table, valid}
 use Rattle.doc_model.specs.WellFormed.{are_whole, user_id}
 use Rattle.doc_model.proofs.ByIdsLaws.{found_all}
 use Rattle.doc_model.proofs.Choices.{both_true, each_weaker, not_true}
@@ -160,29 +160,25 @@ module _ (fits : (ty : ColType) (vs : List CellValue) → list_all is_base vs �
 
   -- ---- tables
 
-  -- a record action may name a plain table
-  plain_records : (s : Document) (id : List ℕ) (test holds : Table → Bool) → ((t : Table) → find_id table_id id s ≡ Some t → test t ≡ true → holds t ≡ true)
-      → passes (schema_table s id) test ≡ true → passes (record_table s id) holds ≡ true
-  plain_records s id test holds each h =
-      elim (is_schema_id id) as (λ b. is_schema_id id ≡ b → passes (record_table s id) holds ≡ true) [
-        | true ↦ λ is. absurd (false≢true (ap (λ b. passes (cond (b || is_acl_id id) None (find_id table_id id s)) test) (sym is) ∙ h))
-        | false ↦ λ is. elim (is_acl_id id) as (λ b. is_acl_id id ≡ b → passes (record_table s id) holds ≡ true) [
-          | true ↦ λ acl. absurd (false≢true (sym (ap (λ b. passes (cond b None (find_id table_id id s)) test) (ap (λ b. b || is_acl_id id) is ∙ acl)) ∙ h))
-          | false ↦ λ acl.
-              let found : passes (find_id table_id id s) test ≡ true = sym (ap (λ b. passes (cond b None (find_id table_id id s)) test) (ap (λ b. b || is_acl_id id) is ∙ acl)) ∙ h in
-              let p : (t : Table) × ((find_id table_id id s ≡ Some t) × (test t ≡ true)) = passes_parts (find_id table_id id s) test found in
-              ap (λ b. passes (cond b None (find_id table_id id s)) holds) is ∙ ap (λ o. passes o holds) p.1.0 ∙ each p.0 p.1.0 p.1.1
-        ] refl
-      ] refl
+  -- the same table passes another test
+  same_records : (s : Document) (id : List ℕ) (test holds : Table → Bool) → ((t : Table) → find_id table_id id s ≡ Some t → test t ≡ true → holds t ≡ true)
+      → passes (record_table s id) test ≡ true → passes (record_table s id) holds ≡ true
+  same_records s id test holds each h =
+      elim (is_schema_id id) as (λ b. passes (cond b None (find_id table_id id s)) test ≡ true → passes (cond b None (find_id table_id id s)) holds ≡ true) [
+        | true ↦ λ e. e
+        | false ↦ λ e.
+            let p : (t : Table) × ((find_id table_id id s ≡ Some t) × (test t ≡ true)) = passes_parts (find_id table_id id s) test e in
+            ap (λ o. passes o holds) p.1.0 ∙ each p.0 p.1.0 p.1.1
+      ] h
 
   grid_found : (s : Document) (id : List ℕ) (t : Table) → find_id table_id id s ≡ Some t → grid_at s id ≡ t.grid
   grid_found s id t h = ap (λ (o : Option Table). elim o as (λ _. Grid ColDef) [ None ↦ no_grid | Some t ↦ t.grid ]) h
 
-  pub valid-add : (s : Document) (table : List ℕ) (count : ℕ) (ks : List UserColumn) → passes (schema_table s table) (λ t. list_all (may_give t.grid) ks) ≡ true → are_whole count ks ≡ true
+  pub valid-add : (s : Document) (table : List ℕ) (count : ℕ) (ks : List UserColumn) → passes (record_table s table) (λ t. list_all (may_give t.grid) ks) ≡ true → are_whole count ks ≡ true
       → valid s (BulkAdd table (numbers_after (last_row s table) count) (all_fitted s table ks)) ≡ true
   valid-add s table count ks may whole =
       let rows : List ℕ = numbers_after (last_row s table) count in
-      plain_records s table (λ t. list_all (may_give t.grid) ks) (λ t. has_no_duplicates rows && from_one rows && none_in rows t.grid.rows && gives_data t.grid rows (all_fitted s table ks))
+      same_records s table (λ t. list_all (may_give t.grid) ks) (λ t. has_no_duplicates rows && from_one rows && none_in rows t.grid.rows && gives_data t.grid rows (all_fitted s table ks))
       (λ t found m.
       let g : grid_at s table ≡ t.grid = grid_found s table t found in
       both_true ((has_no_duplicates rows && from_one rows) && none_in rows t.grid.rows) (gives_data t.grid rows (all_fitted s table ks))
@@ -196,10 +192,10 @@ module _ (fits : (ty : ColType) (vs : List CellValue) → list_all is_base vs �
   sound_rows s w id t found = (found_all table_id (λ t. IsSoundGrid t.grid) id s t w.sound.grids found).from_one
 
   pub valid-update : (s : Document) → IsWhole s → (table : List ℕ) (rows : List ℤ) (ks : List UserColumn)
-      → passes (schema_table s table) (λ t. may_name t.grid.rows rows && list_all (may_give t.grid) ks) ≡ true → are_whole (length rows) ks ≡ true
+      → passes (record_table s table) (λ t. may_name t.grid.rows rows && list_all (may_give t.grid) ks) ≡ true → are_whole (length rows) ks ≡ true
       → valid s (BulkUpdate table (row_ids rows) (all_fitted s table ks)) ≡ true
   valid-update s w table rows ks may whole =
-      plain_records s table (λ t. may_name t.grid.rows rows && list_all (may_give t.grid) ks) (λ t. has_no_duplicates (row_ids rows) && from_one (row_ids rows) && all_in (row_ids rows) t.grid.rows && gives_data t.grid (row_ids rows) (all_fitted s table ks))
+      same_records s table (λ t. may_name t.grid.rows rows && list_all (may_give t.grid) ks) (λ t. has_no_duplicates (row_ids rows) && from_one (row_ids rows) && all_in (row_ids rows) t.grid.rows && gives_data t.grid (row_ids rows) (all_fitted s table ks))
       (λ t found m.
       let g : grid_at s table ≡ t.grid = grid_found s table t found in
       let a : (may_name t.grid.rows rows ≡ true) × (list_all (may_give t.grid) ks ≡ true) = and_parts (may_name t.grid.rows rows) (list_all (may_give t.grid) ks) m in
@@ -211,9 +207,9 @@ module _ (fits : (ty : ColType) (vs : List CellValue) → list_all is_base vs �
       (ap (λ (x : Grid ColDef). gives_data t.grid (row_ids rows) (map (fitted x) ks)) g
       ∙ data_given t.grid (row_ids rows) ks a.1 (ap (λ n. are_whole n ks) (length-map rows (λ n. unwrap_or (row_number n) 0)) ∙ whole))) may
 
-  pub valid-remove : (s : Document) (table : List ℕ) (rows : List ℤ) → passes (schema_table s table) (λ t. may_name t.grid.rows rows) ≡ true → valid s (BulkRemove table (row_ids rows)) ≡ true
+  pub valid-remove : (s : Document) (table : List ℕ) (rows : List ℤ) → passes (record_table s table) (λ t. may_name t.grid.rows rows) ≡ true → valid s (BulkRemove table (row_ids rows)) ≡ true
   valid-remove s table rows may =
-      plain_records s table (λ t. may_name t.grid.rows rows) (λ t. has_no_duplicates (row_ids rows) && all_in (row_ids rows) t.grid.rows)
+      same_records s table (λ t. may_name t.grid.rows rows) (λ t. has_no_duplicates (row_ids rows) && all_in (row_ids rows) t.grid.rows)
       (λ t found m.
       let b : (have_no_duplicates rows ≡ true) × (list_all (is_row t.grid.rows) rows ≡ true) = and_parts (have_no_duplicates rows) (list_all (is_row t.grid.rows) rows) m in
       both_true (has_no_duplicates (row_ids rows)) (all_in (row_ids rows) t.grid.rows) (ids_once t.grid.rows rows b.0 b.1) (ids_in t.grid.rows rows b.1)) may

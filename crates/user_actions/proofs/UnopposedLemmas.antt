@@ -1,5 +1,5 @@
 -- What nothing stands against is allowed.
-use Rattle.std.proofs.Common.{ℕ, ℤ, Bool, true, false, cond, not, ◌&&◌, ◌||◌, eqb, List, [], ◌∷◌, ◌≡◌, refl, sym, ap, ◌∙◌, Option, Some, None}
+use Rattle.std.proofs.Common.{ℕ, ℤ, Bool, true, false, cond, not, ◌&&◌, ◌||◌, eqb, List, [], ◌∷◌, length, ◌≡◌, refl, sym, ap, ◌∙◌, Option, Some, None}
 use Rattle.std.proofs.lemmas.Bool.{and_parts, or_parts, eqb-true, true≢false, false≢true}
 use Rattle.std.specs.List.{list_all, list_any, AllByRecursion}
 use Rattle.std.specs.Option.{is_some}
@@ -17,7 +17,7 @@ use Rattle.doc_model.specs.Column.{column_id}
 use Rattle.doc_model.specs.Document.{Table, Document, table_id}
 use Rattle.doc_model.specs.MetadataIds.{is_schema_id, is_acl_id, is_metadata_id}
 use Rattle.doc_model.specs.Rows.{all_in, has}
-use Rattle.doc_model.specs.Valid.{is_data, passes, schema_table}
+use Rattle.doc_model.specs.Valid.{is_data, passes, record_table, schema_table}
 use Rattle.doc_model.specs.ViewEdits.{shown_id}
 use Rattle.doc_model.proofs.ByIdsLaws.{found_all, found_id, has_found, has_id-find}
 use Rattle.doc_model.proofs.Choices.{both_true}
@@ -25,7 +25,7 @@ use Rattle.doc_model.specs.declared.refusal.Refusal.{Refusal}
 use Rattle.doc_model.specs.declared.refusal.Refusal.TheVariants as refusal
 use Rattle.user_actions.specs.Allowed.{may_give, may_name}
 use Rattle.user_actions.specs.Columns.{may_be_new, may_become}
-use Rattle.user_actions.specs.Objections.{against, have_no_duplicates, has_base, has_good_id, in_records, in_schema, in_table, is_computed, is_row, is_shown, on_change, on_columns, on_rows, on_values, to_records, to_schema}
+use Rattle.user_actions.specs.Objections.{against, have_no_duplicates, has_base, has_good_id, in_records, in_schema, in_table, is_computed, is_row, is_shown, on_change, on_columns, on_rows, on_rules, on_values, to_records, to_schema}
 use Rattle.user_actions.specs.Unopposed.{IsColumnOf, IsTableOf, UnopposedLaw}
 
 -- nothing applies
@@ -55,8 +55,8 @@ table_none v table rest h =
     ] refl h
 
 -- and so in the document
-module _ (s : Document) (v : List ViewTable) (shown : AllByRecursion (IsTableOf s) v) (table : List ℕ) (plain : is_metadata_id table ≡ false) where
-  there : (t : ViewTable) → find_id shown_table_id table v ≡ Some t → (test : Table → Bool) → ((p : IsTableOf s t) → test p.table ≡ true) → passes (schema_table s table) test ≡ true
+module _ (s : Document) (v : List ViewTable) (shown : AllByRecursion (IsTableOf s) v) (table : List ℕ) (left_out : Bool) (plain : left_out ≡ false) where
+  there : (t : ViewTable) → find_id shown_table_id table v ≡ Some t → (test : Table → Bool) → ((p : IsTableOf s t) → test p.table ≡ true) → passes (cond left_out None (find_id table_id table s)) test ≡ true
   there t found test holds =
       let p : IsTableOf s t = found_all shown_table_id (IsTableOf s) table v t shown found in
       let known : find_id table_id table s ≡ Some p.table = ap (λ id. find_id table_id id s) (sym (found_id shown_table_id table v t found)) ∙ p.found in
@@ -67,16 +67,14 @@ schema_none : (s : Document) (v : List ViewTable) → AllByRecursion (IsTableOf 
 schema_none s v shown table rest test holds h =
     let a : (is_metadata_id table ≡ false) × (in_table v table rest ≡ None) = against_none (is_metadata_id table) refusal.MetaTable (in_table v table rest) h in
     let t : (t : ViewTable) × (find_id shown_table_id table v ≡ Some t) × (rest t ≡ None) = table_none v table rest a.1 in
-    there s v shown table a.0 t.0 t.1 test (λ p. holds t.0 p t.2)
+    there s v shown table (is_metadata_id table) a.0 t.0 t.1 test (λ p. holds t.0 p t.2)
 
 records_none : (s : Document) (v : List ViewTable) → AllByRecursion (IsTableOf s) v → (table : List ℕ) (rest : ViewTable → Option Refusal) (test : Table → Bool)
-    → ((t : ViewTable) (p : IsTableOf s t) → rest t ≡ None → test p.table ≡ true) → in_records v table rest ≡ None → passes (schema_table s table) test ≡ true
+    → ((t : ViewTable) (p : IsTableOf s t) → rest t ≡ None → test p.table ≡ true) → in_records v table rest ≡ None → passes (record_table s table) test ≡ true
 records_none s v shown table rest test holds h =
-    let a : (is_schema_id table ≡ false) × (against (is_acl_id table) refusal.NoSuchTable (in_table v table rest) ≡ None) = against_none (is_schema_id table) refusal.MetaTable (against (is_acl_id table) refusal.NoSuchTable (in_table v table rest)) h in
-    let b : (is_acl_id table ≡ false) × (in_table v table rest ≡ None) = against_none (is_acl_id table) refusal.NoSuchTable (in_table v table rest) a.1 in
-    let t : (t : ViewTable) × (find_id shown_table_id table v ≡ Some t) × (rest t ≡ None) = table_none v table rest b.1 in
-    let plain : is_metadata_id table ≡ false = ap (λ x. x || is_acl_id table) a.0 ∙ b.0 in
-    there s v shown table plain t.0 t.1 test (λ p. holds t.0 p t.2)
+    let a : (is_schema_id table ≡ false) × (in_table v table rest ≡ None) = against_none (is_schema_id table) refusal.MetaTable (in_table v table rest) h in
+    let t : (t : ViewTable) × (find_id shown_table_id table v ≡ Some t) × (rest t ≡ None) = table_none v table rest a.1 in
+    there s v shown table (is_schema_id table) a.0 t.0 t.1 test (λ p. holds t.0 p t.2)
 
 -- a column of the view is in the table
 module _ (tab : Table) (columns : List ViewCol) (shown : AllByRecursion (IsColumnOf tab) columns) where
@@ -147,8 +145,8 @@ rows_none s t p rows next h =
     let b : (list_all (is_row t.rows) rows ≡ true) × (next ≡ None) = needs_none (list_all (is_row t.rows) rows) refusal.NoSuchRow next a.1 in
     (both_true (have_no_duplicates rows) (list_all (is_row p.table.grid.rows) rows) a.0 (rows_known t.rows p.table.grid.rows p.rows rows b.0), b.1)
 
-values_none : (ks : List UserColumn) → on_values ks ≡ None → list_all has_base ks ≡ true
-values_none ks h = lone_none (list_all has_base ks) refusal.BadValue h
+values_none : (ks : List UserColumn) (next : Option Refusal) → on_values ks next ≡ None → list_all has_base ks ≡ true
+values_none ks next h = (needs_none (list_all has_base ks) refusal.BadValue next h).0
 
 change_none : (s : Document) (t : ViewTable) (p : IsTableOf s t) (c : UserCol) → on_change t c ≡ None → passes (find_id column_id c.id p.table.grid.columns) (λ d. may_become d.info.is_formula c) ≡ true
 change_none s t p c h =
@@ -163,15 +161,18 @@ change_none s t p c h =
 
 pub is_allowed-unopposed : UnopposedLaw
 is_allowed-unopposed s (Add table single count has_row_ids ks) u =
-    records_none s u.view u.shown table (λ t. to_records t (Add table single count has_row_ids ks)) (λ t. list_all (may_give t.grid) ks)
-    (λ t p none. columns_none s t p ks (against has_row_ids refusal.BadValue (on_values ks)) (λ n. values_none ks (against_none has_row_ids refusal.BadValue (on_values ks) n).1) none) u.none
-is_allowed-unopposed s (Update table single rows ks) u =
-    records_none s u.view u.shown table (λ t. to_records t (Update table single rows ks)) (λ t. may_name t.grid.rows rows && list_all (may_give t.grid) ks)
+    records_none s u.view u.shown table (λ t. to_records u.view t (Add table single count has_row_ids ks)) (λ t. list_all (may_give t.grid) ks)
     (λ t p none.
-    let r : (may_name p.table.grid.rows rows ≡ true) × (on_columns t ks (on_values ks) ≡ None) = rows_none s t p rows (on_columns t ks (on_values ks)) none in
-    both_true (may_name p.table.grid.rows rows) (list_all (may_give p.table.grid) ks) r.0 (columns_none s t p ks (on_values ks) (values_none ks) r.1)) u.none
+    let next : Option Refusal = on_values ks (on_rules u.view t ks [] count) in
+    columns_none s t p ks (against has_row_ids refusal.BadValue next) (λ n. values_none ks (on_rules u.view t ks [] count) (against_none has_row_ids refusal.BadValue next n).1) none) u.none
+is_allowed-unopposed s (Update table single rows ks) u =
+    records_none s u.view u.shown table (λ t. to_records u.view t (Update table single rows ks)) (λ t. may_name t.grid.rows rows && list_all (may_give t.grid) ks)
+    (λ t p none.
+    let rules : Option Refusal = on_rules u.view t ks rows (length rows) in
+    let r : (may_name p.table.grid.rows rows ≡ true) × (on_columns t ks (on_values ks rules) ≡ None) = rows_none s t p rows (on_columns t ks (on_values ks rules)) none in
+    both_true (may_name p.table.grid.rows rows) (list_all (may_give p.table.grid) ks) r.0 (columns_none s t p ks (on_values ks rules) (values_none ks rules) r.1)) u.none
 is_allowed-unopposed s (Remove table single rows) u =
-    records_none s u.view u.shown table (λ t. to_records t (Remove table single rows)) (λ t. may_name t.grid.rows rows) (λ t p none. (rows_none s t p rows None none).0) u.none
+    records_none s u.view u.shown table (λ t. to_records u.view t (Remove table single rows)) (λ t. may_name t.grid.rows rows) (λ t p none. (rows_none s t p rows None none).0) u.none
 is_allowed-unopposed s (AddTable table cs) u =
     let a : (is_metadata_id table ≡ false) × (against (not (is_name table && list_all has_good_id cs)) refusal.BadName (against (not (list_all may_be_new cs)) refusal.BadValue None) ≡ None) = against_none (is_metadata_id table) refusal.MetaTable (against (not (is_name table && list_all has_good_id cs)) refusal.BadName (against (not (list_all may_be_new cs)) refusal.BadValue None)) u.none in
     let b : ((is_name table && list_all has_good_id cs) ≡ true) × (against (not (list_all may_be_new cs)) refusal.BadValue None ≡ None) = needs_none (is_name table && list_all has_good_id cs) refusal.BadName (against (not (list_all may_be_new cs)) refusal.BadValue None) a.1 in

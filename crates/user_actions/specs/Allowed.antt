@@ -10,12 +10,9 @@ use Rattle.doc_model.specs.ByIds.{find_id, has_id}
 use Rattle.doc_model.specs.Column.{column_id}
 use Rattle.doc_model.specs.Document.{Document}
 use Rattle.doc_model.specs.Grid.{Grid}
-use Rattle.doc_model.specs.Valid.{is_data, passes, schema_table}
+use Rattle.doc_model.specs.Valid.{is_data, passes, record_table, schema_table}
 use Rattle.user_actions.specs.Columns.{may_be_new, may_become}
 use Rattle.user_actions.specs.Objections.{have_no_duplicates, has_base, has_good_id, is_row}
-
-abbrev pub has_name : UserColumn → Bool
-has_name k = is_name k.id
 
 -- whether each is a data column and is given base values
 abbrev pub may_give : Grid ColDef → UserColumn → Bool
@@ -26,11 +23,11 @@ may_name known rows = have_no_duplicates rows && list_all (is_row known) rows
 
 -- whether the document has what the action names, and the action gives what may be given
 abbrev pub is_allowed : Document → UserAction → Bool
-is_allowed s (Add table single count has_row_ids ks) = passes (schema_table s table) (λ t.
+is_allowed s (Add table single count has_row_ids ks) = passes (record_table s table) (λ t.
     list_all (may_give t.grid) ks)
-is_allowed s (Update table single rows ks) = passes (schema_table s table) (λ t.
+is_allowed s (Update table single rows ks) = passes (record_table s table) (λ t.
     may_name t.grid.rows rows && list_all (may_give t.grid) ks)
-is_allowed s (Remove table single rows) = passes (schema_table s table) (λ t.
+is_allowed s (Remove table single rows) = passes (record_table s table) (λ t.
     may_name t.grid.rows rows)
 is_allowed s (AddTable table cs) =
     is_name table && list_all has_good_id cs && list_all may_be_new cs

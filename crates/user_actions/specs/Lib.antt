@@ -6,6 +6,8 @@ pub mod ObjectionLaws
 pub mod Marked
 pub mod CellUpdates
 pub mod References
+pub mod RowsKept
+pub mod RuleRows
 pub mod Modified
 pub mod ResourceSteps
 pub mod Steps

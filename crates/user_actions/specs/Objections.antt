@@ -1,5 +1,5 @@
 -- What stands against a user action, told from the action and its user's view alone.
-use Rattle.std.specs.Prelude.{ℕ, ℤ, Bool, true, false, cond, not, ◌&&◌, List, [], ◌∷◌, Option, Some, None}
+use Rattle.std.specs.Prelude.{ℕ, ℤ, Bool, true, false, cond, not, ◌&&◌, List, [], ◌∷◌, length, Option, Some, None}
 use Rattle.std.specs.List.{list_all, list_any}
 use Rattle.std.specs.Ordering.{int_eq}
 use Rattle.cell_types.specs.NameRule.{is_name}
@@ -20,6 +20,7 @@ use Rattle.doc_model.specs.declared.refusal.Refusal.{Refusal}
 use Rattle.doc_model.specs.declared.refusal.Refusal.TheVariants as refusal
 use Rattle.user_actions.specs.Columns.{may_be_new, may_become}
 use Rattle.user_actions.specs.Kinds.{is_about_rows, table_of}
+use Rattle.user_actions.specs.RuleRows.{are_good_rows}
 
 -- the objection where it applies, or else the next one
 abbrev pub against : Bool → Refusal → Option Refusal → Option Refusal
@@ -30,11 +31,9 @@ abbrev pub in_table : List ViewTable → List ℕ → (ViewTable → Option Refu
 in_table v table rest =
     elim (find_id shown_table_id table v) [ None ↦ Some refusal.NoSuchTable | Some t ↦ rest t ]
 
--- a record action; the tables of the access rules are not built yet
+-- a record action
 abbrev pub in_records : List ViewTable → List ℕ → (ViewTable → Option Refusal) → Option Refusal
-in_records v table rest =
-    against (is_schema_id table) refusal.MetaTable
-    (against (is_acl_id table) refusal.NoSuchTable (in_table v table rest))
+in_records v table rest = against (is_schema_id table) refusal.MetaTable (in_table v table rest)
 
 -- a schema action
 abbrev pub in_schema : List ViewTable → List ℕ → (ViewTable → Option Refusal) → Option Refusal
@@ -78,8 +77,13 @@ abbrev pub has_base : UserColumn → Bool
 has_base k = list_all is_base k.values
 
 -- values that are given
-abbrev pub on_values : List UserColumn → Option Refusal
-on_values ks = against (not (list_all has_base ks)) refusal.BadValue None
+abbrev pub on_values : List UserColumn → Option Refusal → Option Refusal
+on_values ks next = against (not (list_all has_base ks)) refusal.BadValue next
+
+-- the rows that result, in the tables of access rules: those of these numbers, or so many new ones
+abbrev pub on_rules : List ViewTable → ViewTable → List UserColumn → List ℤ → ℕ → Option Refusal
+on_rules v t ks rows count =
+    against (is_acl_id t.id && not (are_good_rows v t ks rows count)) refusal.BadRule None
 
 -- a column that is named
 abbrev pub on_column : ViewTable → List ℕ → Option Refusal → Option Refusal
@@ -111,12 +115,14 @@ on_table table cs =
     (against (not (list_all may_be_new cs)) refusal.BadValue None)
 
 -- a record action on a table that is there
-abbrev pub to_records : ViewTable → UserAction → Option Refusal
-to_records t (Add table single count has_row_ids ks) =
-    on_columns t ks (against has_row_ids refusal.BadValue (on_values ks))
-to_records t (Update table single rows ks) = on_rows t rows (on_columns t ks (on_values ks))
-to_records t (Remove table single rows) = on_rows t rows None
-to_records t _ = None
+abbrev pub to_records : List ViewTable → ViewTable → UserAction → Option Refusal
+to_records v t (Add table single count has_row_ids ks) =
+    on_columns t ks
+    (against has_row_ids refusal.BadValue (on_values ks (on_rules v t ks [] count)))
+to_records v t (Update table single rows ks) =
+    on_rows t rows (on_columns t ks (on_values ks (on_rules v t ks rows (length rows))))
+to_records v t (Remove table single rows) = on_rows t rows None
+to_records v t _ = None
 
 -- a schema action on a table that is there
 abbrev pub to_schema : ViewTable → UserAction → Option Refusal
@@ -132,5 +138,5 @@ abbrev pub objection_to : List ViewTable → UserAction → Option Refusal
 objection_to v (AddTable table cs) =
     against (is_metadata_id table) refusal.MetaTable (on_table table cs)
 objection_to v a =
-    cond (is_about_rows a) (in_records v (table_of a) (λ t. to_records t a))
+    cond (is_about_rows a) (in_records v (table_of a) (λ t. to_records v t a))
     (in_schema v (table_of a) (λ t. to_schema t a))

@@ -13,8 +13,8 @@ ghost use Rattle.user_actions.specs.Marked.{direct};
 ghost use Rattle.user_actions.specs.Steps.{last_new_row, steps_of};
 
 use crate::modifying::modify_steps;
+use crate::naming::table_name;
 use crate::record_steps::{add_steps, direct, remove_steps, update_steps};
-use crate::refusing::table_of;
 use crate::schema_steps::{
     add_column_steps, add_table_steps, rename_column_steps, rename_table_steps,
 };
@@ -139,7 +139,7 @@ pub fn steps<D: DocTables>(
         (λ o. MatchOption o (4294967295 < last_new_row (D.document tables.now) action.now)
         (λ l. l ≡ steps_of (D.document tables.now) action.now)) }
 {
-    let table = name_of(alloc, table_of(action))?;
+    let table = table_name(alloc, action)?;
     if makes_rows(action) {
         let steps = growing_steps(alloc, tables, &table, action)?;
         return Ok(steps);

@@ -1,12 +1,12 @@
 //! Laws over what stands against user actions, and over their steps.
 
 ghost use Rattle.user_actions.specs.FreshIds.{FreshIdsLaw, StepsLaw};
-ghost use Rattle.user_actions.specs.ObjectionLaws.{OneTableLaw};
+ghost use Rattle.user_actions.specs.ObjectionLaws.{AskedLaw};
 ghost use Rattle.user_actions.specs.Unopposed.{UnopposedLaw};
 
-/// Why an action is refused depends on the view of the table alone that it names.
-pub fn one_table_law()
-    ensures { OneTableLaw }
+/// Why an action is refused depends on the tables of the view alone that it asks for.
+pub fn asked_law()
+    ensures { AskedLaw }
 {}
 
 /// A document allows each action that nothing stands against in some view of it.

@@ -10,21 +10,19 @@ ghost use Rattle.doc_readers.specs.Parts.{grid_at};
 ghost use Rattle.doc_model.specs.declared.action.DocAction.TheVariants.{BulkAdd, BulkRemove, BulkUpdate};
 ghost use Rattle.user_actions.specs.References.{clearings, referrers};
 ghost use Rattle.user_actions.specs.Marked.{direct};
-ghost use Rattle.user_actions.specs.Steps.{all_fitted, fitted, last_row, numbers_after, row_ids, type_in};
-ghost use Rattle.user_actions.specs.Allowed.{has_name};
+ghost use Rattle.user_actions.specs.Steps.{all_fitted, fitted, last_row, numbers_after, row_ids};
+ghost use Rattle.user_actions.specs.Allowed.{may_give};
 
 use crate::clearing::add_clearings;
 use crate::gone_rows::GoneRows;
 use crate::referrers::referrers;
 use crate::rows::row_number;
-use crate::table_readers::last_row;
+use crate::table_readers::{column_named, last_row};
 use cell_types::{CellValue, ColType, Name, RowList, ValueList, convert};
 use doc_model::{
     CellColumn, ColumnList, DocAction, DocTables, LAST_ROW_ID, Step, StepList, UserColumn,
 };
-use doc_readers::find_column;
 use list_ops::all_made;
-use name_rules::name_of;
 use std::alloc::{AllocError, Global};
 
 // So many rows after the last one.
@@ -66,37 +64,21 @@ fn fit_values(alloc: Global, ty: &ColType, values: &[CellValue]) -> Result<Value
     Ok(ValueList::from(made))
 }
 
-// The values as the column of that id holds them, or one of any type where there is none.
-fn fit_in<D: DocTables>(
-    alloc: Global,
-    tables: &D,
-    table: &Name,
-    id: &Name,
-    values: &[CellValue],
-) -> Result<ValueList, AllocError>
-    requires { IsWhole (D.document tables.now) }
-    ensures { IfOk result
-        (λ l. l ≡ map
-        (fit (type_in (grid_at (D.document tables.now) table.now) id.now)) values.now) }
-{
-    match find_column(tables, table, id) {
-        Some(known) => fit_values(alloc, &known.info.ty, values),
-        None => fit_values(alloc, &ColType::Any, values),
-    }
-}
-
+// A given column as the table holds it.
 fn fitted<D: DocTables>(
     alloc: Global,
     tables: &D,
     table: &Name,
     column: &UserColumn,
 ) -> Result<CellColumn, AllocError>
-    requires whole { IsWhole (D.document tables.now) }
-    requires name { has_name column.now ≡ true }
+    requires { may_give (grid_at (D.document tables.now) table.now) column.now ≡ true }
     ensures { IfOk result (λ k. k ≡ fitted (grid_at (D.document tables.now) table.now) column.now) }
 {
-    let id = name_of(alloc, column.id.as_str())?;
-    let values = fit_in(alloc, tables, table, &id, column.values.as_slice())?;
+    let Some(known) = column_named(tables, table, column.id.as_str()) else {
+        unreachable!()
+    };
+    let values = fit_values(alloc, &known.info.ty, column.values.as_slice())?;
+    let id = known.id.clone()?;
     Ok(CellColumn { id, values })
 }
 
@@ -107,8 +89,7 @@ fn all_fitted<D: DocTables>(
     table: &Name,
     columns: &[UserColumn],
 ) -> Result<ColumnList, AllocError>
-    requires whole { IsWhole (D.document tables.now) }
-    requires names { list_all has_name columns.now ≡ true }
+    requires { list_all (may_give (grid_at (D.document tables.now) table.now)) columns.now ≡ true }
     ensures { IfOk result (λ l. l ≡ all_fitted (D.document tables.now) table.now columns.now) }
 {
     let mut made = Vec::with_capacity(alloc, columns.len())?;
@@ -139,8 +120,8 @@ fn added<D: DocTables>(
     count: u32,
     columns: &[UserColumn],
 ) -> Result<DocAction, AllocError>
-    requires whole { IsWhole (D.document tables.now) }
-    requires names { list_all has_name columns.now ≡ true }
+    requires gives { list_all (may_give (grid_at (D.document tables.now) table.now))
+        columns.now ≡ true }
     requires fits { last + count ≤ 4294967295 }
     ensures { IfOk result
         (λ a. a ≡ BulkAdd table.now (numbers_after last count)
@@ -162,7 +143,8 @@ pub(crate) fn add_steps<D: DocTables>(
     columns: &[UserColumn],
 ) -> Result<Option<StepList>, AllocError>
     requires whole { IsWhole (D.document tables.now) }
-    requires names { list_all has_name columns.now ≡ true }
+    requires gives { list_all (may_give (grid_at (D.document tables.now) table.now))
+        columns.now ≡ true }
     ensures { IfOk result
         (λ o. MatchOption o (4294967295 < last_row (D.document tables.now) table.now + count)
         (λ l. l ≡ direct
@@ -186,8 +168,7 @@ fn update<D: DocTables>(
     rows: &[i64],
     columns: &[UserColumn],
 ) -> Result<DocAction, AllocError>
-    requires whole { IsWhole (D.document tables.now) }
-    requires names { list_all has_name columns.now ≡ true }
+    requires { list_all (may_give (grid_at (D.document tables.now) table.now)) columns.now ≡ true }
     ensures { IfOk result
         (λ a. a ≡ BulkUpdate table.now (row_ids rows.now)
         (all_fitted (D.document tables.now) table.now columns.now)) }
@@ -207,8 +188,7 @@ pub(crate) fn update_steps<D: DocTables>(
     rows: &[i64],
     columns: &[UserColumn],
 ) -> Result<StepList, AllocError>
-    requires whole { IsWhole (D.document tables.now) }
-    requires names { list_all has_name columns.now ≡ true }
+    requires { list_all (may_give (grid_at (D.document tables.now) table.now)) columns.now ≡ true }
     ensures { IfOk result
         (λ l. l ≡ if_any (row_ids rows.now)
         (direct (BulkUpdate table.now (row_ids rows.now)

@@ -9,11 +9,12 @@ ghost use Rattle.doc_model.specs.ViewEdits.{IsShown};
 ghost use Rattle.doc_model.specs.declared.refusal.Refusal.{Refusal};
 ghost use Rattle.doc_model.specs.declared.refusal.Refusal.TheVariants.{BadValue};
 ghost use Rattle.user_actions.specs.Columns.{may_be_new};
-ghost use Rattle.user_actions.specs.Kinds.{table_of};
-ghost use Rattle.user_actions.specs.Objections.{against, has_good_id, in_records, in_schema, objection_to, on_change, on_column, on_columns, on_name, on_info, on_rows, on_table, on_values, to_records, to_schema};
+ghost use Rattle.user_actions.specs.Objections.{against, has_good_id, in_records, in_schema, objection_to, on_change, on_column, on_columns, on_name, on_info, on_rows, on_rules, on_table, on_values, to_records, to_schema};
 
 use crate::columns::{may_be_new, may_become};
+use crate::naming::table_of;
 use crate::rows::{are_rows, have_no_duplicates};
+use crate::rule_rows::are_good_rows;
 use crate::tables::{find_column, find_table, has_column};
 use crate::values::{are_all_base, are_shown, is_any_computed};
 use doc_model::{Refusal, UserAction, UserCol, UserColumn, View, ViewTable};
@@ -27,13 +28,10 @@ fn records_table<'a>(tables: &'a [ViewTable], id: &str) -> Result<&'a ViewTable,
     ensures table { MatchResult result
         (λ t. (rest : ViewTable → Option Refusal) → in_records tables.now id.now rest ≡ rest t.now)
         (λ o. (rest : ViewTable → Option Refusal) → in_records tables.now id.now rest ≡ Some o) }
-    ensures ascending { MatchResult result (λ t. IsAscending t.now.rows) (λ _. Unit {0}) }
+    ensures shown { MatchResult result (λ t. IsShown (grid t.now)) (λ _. Unit {0}) }
 {
     if is_schema_id(id) {
         return Err(Refusal::MetaTable);
-    }
-    if is_acl_id(id) {
-        return Err(Refusal::NoSuchTable);
     }
     match find_table(tables, id) {
         Some(table) => Ok(table),
@@ -56,19 +54,24 @@ fn schema_table<'a>(tables: &'a [ViewTable], id: &str) -> Result<&'a ViewTable, 
     }
 }
 
-fn on_values(given: &[UserColumn]) -> Option<Refusal>
-    ensures { result ≡ on_values given.now }
+fn on_values(given: &[UserColumn], next: Option<Refusal>) -> Option<Refusal>
+    ensures { result ≡ on_values given.now next }
 {
     if !are_all_base(given) {
         return Some(Refusal::BadValue);
     }
-    None
+    next
 }
 
 // The columns that an action gives values; the next objection is that a row id is given.
-fn on_columns(table: &ViewTable, has_row_ids: bool, given: &[UserColumn]) -> Option<Refusal>
-    ensures { result
-        ≡ on_columns table.now given.now (against has_row_ids BadValue (on_values given.now)) }
+fn on_columns(
+    table: &ViewTable,
+    has_row_ids: bool,
+    given: &[UserColumn],
+    next: Option<Refusal>,
+) -> Option<Refusal>
+    ensures { result ≡ on_columns table.now given.now
+        (against has_row_ids BadValue (on_values given.now next)) }
 {
     let columns = table.columns.as_slice();
     if !are_shown(columns, given) {
@@ -80,7 +83,29 @@ fn on_columns(table: &ViewTable, has_row_ids: bool, given: &[UserColumn]) -> Opt
     if has_row_ids {
         return Some(Refusal::BadValue);
     }
-    on_values(given)
+    on_values(given, next)
+}
+
+// The rows that result, in the tables of access rules.
+fn on_rules(
+    alloc: Global,
+    tables: &[ViewTable],
+    table: &ViewTable,
+    given: &[UserColumn],
+    rows: &[i64],
+    count: usize,
+) -> Result<Option<Refusal>, AllocError>
+    requires seen { AllByRecursion (λ t. IsShown (grid t)) tables.now }
+    requires shown { IsShown (grid table.now) }
+    ensures { IfOk result (λ o. o ≡ on_rules tables.now table.now given.now rows.now count) }
+{
+    if !is_acl_id(table.id.as_str()) {
+        return Ok(None);
+    }
+    if !are_good_rows(alloc, tables, table, given, rows, count)? {
+        return Ok(Some(Refusal::BadRule));
+    }
+    Ok(None)
 }
 
 // The rows that an action names; the next objection comes from its columns.
@@ -168,21 +193,29 @@ fn on_table(table: &str, columns: &[UserCol]) -> Option<Refusal>
 // What stands against a record action.
 fn to_records(
     alloc: Global,
+    tables: &[ViewTable],
     table: &ViewTable,
     action: &UserAction,
 ) -> Result<Option<Refusal>, AllocError>
-    requires { IsAscending table.now.rows }
-    ensures { IfOk result (λ o. o ≡ to_records table.now action.now) }
+    requires seen { AllByRecursion (λ t. IsShown (grid t)) tables.now }
+    requires shown { IsShown (grid table.now) }
+    ensures { IfOk result (λ o. o ≡ to_records tables.now table.now action.now) }
 {
     match action {
         UserAction::Add {
+            count,
             has_row_ids,
             columns,
             ..
-        } => Ok(on_columns(table, *has_row_ids, columns.as_slice())),
+        } => {
+            let given = columns.as_slice();
+            let next = on_rules(alloc, tables, table, given, &[], *count as usize)?;
+            Ok(on_columns(table, *has_row_ids, given, next))
+        }
         UserAction::Update { rows, columns, .. } => {
-            let next = on_columns(table, false, columns.as_slice());
-            on_rows(alloc, table, rows.as_slice(), next)
+            let (rows, given) = (rows.as_slice(), columns.as_slice());
+            let next = on_rules(alloc, tables, table, given, rows, rows.len())?;
+            on_rows(alloc, table, rows, on_columns(table, false, given, next))
         }
         UserAction::Remove { rows, .. } => on_rows(alloc, table, rows.as_slice(), None),
         _ => Ok(None),
@@ -205,24 +238,6 @@ fn to_schema(table: &ViewTable, action: &UserAction) -> Option<Refusal>
     }
 }
 
-/// The table that the action names.
-pub fn table_of(action: &UserAction) -> &str
-    ensures { result.now ≡ table_of action.now }
-{
-    match action {
-        UserAction::Add { table, .. }
-        | UserAction::Update { table, .. }
-        | UserAction::Remove { table, .. }
-        | UserAction::AddTable { table, .. }
-        | UserAction::RemoveTable { table }
-        | UserAction::RenameTable { table, .. }
-        | UserAction::AddColumn { table, .. }
-        | UserAction::RemoveColumn { table, .. }
-        | UserAction::RenameColumn { table, .. }
-        | UserAction::ModifyColumn { table, .. } => table.as_str(),
-    }
-}
-
 // What stands against a user action.
 fn objection_to(
     alloc: Global,
@@ -241,7 +256,7 @@ fn objection_to(
         }
         UserAction::Add { .. } | UserAction::Update { .. } | UserAction::Remove { .. } => {
             match records_table(tables, table_of(action)) {
-                Ok(table) => to_records(alloc, table, action),
+                Ok(table) => to_records(alloc, tables, table, action),
                 Err(objection) => Ok(Some(objection)),
             }
         }
@@ -256,7 +271,8 @@ fn objection_to(
 /// Limits and access rules are not asked here.
 ///
 /// Errors: out of memory. Cost: the tables, the columns of the named table times those that
-/// are given, and the rows and values that are given.
+/// are given, and the rows and values that are given; in the tables of access rules also the texts
+/// of the rows that result.
 /// Source: docs/PROTOCOL.md, "refusals".
 pub fn refuse(
     alloc: Global,

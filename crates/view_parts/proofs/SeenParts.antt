@@ -1,5 +1,5 @@
 -- Parts of a view are views of wanted tables.
-use Rattle.std.proofs.Common.{ℕ, Bool, true, false, cond, ◌&&◌, List, [], ◌∷◌, map, filter, ◌≡◌, refl, sym, ap, subst, ◌∙◌, Option, Some, None, Bor}
+use Rattle.std.proofs.Common.{ℕ, Bool, true, false, cond, not, ◌&&◌, ◌||◌, List, [], ◌∷◌, map, filter, ◌≡◌, refl, sym, ap, subst, ◌∙◌, Option, Some, None, Bor}
 use Rattle.std.proofs.lemmas.Slice.Eq.{bytes_eq-Decides}
 use Rattle.std.specs.Option.{option_map, option_to_list}
 use Rattle.std.specs.Str.{bytes_eq}
@@ -13,6 +13,7 @@ use Rattle.doc_model.specs.Changes.{IsView, shown_table_id}
 use Rattle.doc_model.specs.Document.{Document, Table, table_id}
 use Rattle.doc_model.specs.LaidOut.{IsLaidOut}
 use Rattle.doc_model.specs.Grid.{Grid}
+use Rattle.doc_model.specs.MetadataIds.{resources_id}
 use Rattle.doc_model.specs.Rows.{has, IsAscending}
 use Rattle.doc_model.specs.Schema.{no_grid}
 use Rattle.doc_model.proofs.ByIdsLaws.{bytes_apart, find_absent, find-filter, find-filtered, found_has, found_id, IsByIds-by_id, IsByIds-filter, precedes_apart, same_by_ids}
@@ -20,14 +21,15 @@ use Rattle.doc_model.proofs.ByRowLaws.{AreDistinct-filter}
 use Rattle.doc_model.proofs.Choices.{each_mapped, each_weaker, filter_none, keep, map_each, map-map}
 use Rattle.doc_model.proofs.RowsLaws.{IsAscending-filter}
 use Rattle.doc_readers.specs.Parts.{grid_at}
-use Rattle.plain_view.specs.PartsOfViews.{passing, passing_cells}
+use Rattle.plain_view.specs.PartsOfViews.{part_of, passing, passing_cells}
 use Rattle.user_actions.specs.Kinds.{table_of}
+use Rattle.user_actions.specs.ObjectionLaws.{asks_for, is_about_rules}
 use Rattle.view_parts.specs.declared.changed.ChangedRows.{ChangedRows}
 use Rattle.view_parts.specs.declared.viewers.Viewer.{Viewer}
-use Rattle.view_parts.specs.declared.wanted.Wanted.TheVariants.{Affected, All}
-use Rattle.view_parts.specs.Parts.{requested_part, is_row_affected, is_affected, affected_part, rows_requested}
+use Rattle.view_parts.specs.declared.wanted.Wanted.TheVariants.{Affected, All, Requested}
+use Rattle.view_parts.specs.Parts.{requested_part, is_row_affected, is_row_requested, is_affected, affected_part, rows_requested}
 use Rattle.view_parts.specs.Shown.{is_shown, shown_table, view}
-use Rattle.view_parts.specs.Wanted.{cells_at, columns_of, shown_with, table_wanted, wanted}
+use Rattle.view_parts.specs.Wanted.{cells_at, columns_of, shown_with, wanted}
 use Rattle.view_parts.proofs.PlacedLemmas.{find-by_id}
 use Rattle.view_parts.proofs.SeenLemmas.{find_seen, IsView-one, IsView-wanted}
 use Rattle.view_parts.proofs.AffectedRows.{everywhere}
@@ -119,23 +121,36 @@ module _ (test : List ℕ → ℕ → Bool) where
 pub wanted_all : (viewer : Viewer) (s : Document) → wanted viewer All s ≡ view viewer s
 wanted_all viewer s = refl
 
+-- tables of a document that are wanted, with some of their rows, and the part of a view
+module _ (some : List ℕ → Bool) (test : List ℕ → ℕ → Bool) (viewer : Viewer) (s : Document) (laid : IsLaidOut s) where
+  abbrev some_shown : Table → ViewTable
+  some_shown t = shown_with t.id t.grid (filter (test t.id) t.grid.rows)
+
+  seen_part : by_id shown_table_id (map some_shown (filter (λ (t : Table). some t.id && is_shown viewer t.id) s)) ≡ part_of some test (view viewer s)
+  seen_part =
+      let seen : Table → Bool = λ t. is_shown viewer t.id in
+      let wanted : Table → Bool = λ t. some t.id in
+      let told : ViewTable → Bool = λ t. some t.id in
+      let shown : List Table = filter seen s in
+      let cut : ViewTable → ViewTable = λ t. passing (test t.id) t in
+      let both : List Table = filter (λ t. wanted t && seen t) s in
+      sym (
+      ap (map cut) (
+      filter-by_id shown_table_id told (map shown_table shown) (AreDistinct-shown shown (AreDistinct-filter table_id seen s laid.distinct))
+      ∙ ap (by_id shown_table_id) (filter-map told shown_table shown ∙ ap (map shown_table) (filter-filter wanted seen s)))
+      ∙ map-by_id test (map shown_table both)
+      ∙ ap (by_id shown_table_id) (
+      sym (map-map cut shown_table both)
+      ∙ map_each (λ t. cut (shown_table t)) some_shown both
+      (everywhere (λ (t : Table). cut (shown_table t) ≡ some_shown t) (λ t. passing-shown (test t.id) t) both)))
+
 pub wanted_affected : (viewer : Viewer) (actions : Bor (List DocAction)) (changed : Bor (List ChangedRows)) (s : Document) → IsLaidOut s
     → wanted viewer (Affected actions changed) s ≡ affected_part actions.now changed.now (view viewer s)
-wanted_affected viewer actions changed s laid =
-    let seen : Table → Bool = λ t. is_shown viewer t.id in
-    let affected : Table → Bool = λ t. is_affected actions.now changed.now t.id in
-    let told : ViewTable → Bool = λ t. is_affected actions.now changed.now t.id in
-    let shown : List Table = filter seen s in
-    let cut : ViewTable → ViewTable = λ t. passing (is_row_affected actions.now changed.now t.id) t in
-    sym (
-    ap (map cut) (
-    filter-by_id shown_table_id told (map shown_table shown) (AreDistinct-shown shown (AreDistinct-filter table_id seen s laid.distinct))
-    ∙ ap (by_id shown_table_id) (filter-map told shown_table shown ∙ ap (map shown_table) (filter-filter affected seen s)))
-    ∙ map-by_id (is_row_affected actions.now changed.now) (map shown_table (filter (λ t. affected t && seen t) s))
-    ∙ ap (by_id shown_table_id) (
-    sym (map-map cut shown_table (filter (λ t. affected t && seen t) s))
-    ∙ map_each (λ t. cut (shown_table t)) (table_wanted (Affected actions changed)) (filter (λ t. affected t && seen t) s)
-    (everywhere (λ (t : Table). cut (shown_table t) ≡ table_wanted (Affected actions changed) t) (λ t. passing-shown (is_row_affected actions.now changed.now t.id) t) (filter (λ t. affected t && seen t) s))))
+wanted_affected viewer actions changed s laid = seen_part (is_affected actions.now changed.now) (is_row_affected actions.now changed.now) viewer s laid
+
+pub wanted_requested : (viewer : Viewer) (action : Bor UserAction) (s : Document) → IsLaidOut s
+    → wanted viewer (Requested action) s ≡ requested_part action.now (view viewer s)
+wanted_requested viewer action s laid = seen_part (asks_for action.now) (is_row_requested action.now) viewer s laid
 
 pub IsView-affected : (viewer : Viewer) (actions : List DocAction) (changed : List ChangedRows) (s : Document) → IsLaidOut s → IsView (affected_part actions changed (view viewer s))
 IsView-affected viewer actions changed s laid =
@@ -143,50 +158,72 @@ IsView-affected viewer actions changed s laid =
     let b : Bor (List ChangedRows) = record { ref_ptr = (0, 0); now = changed } in
     subst IsView (wanted_affected viewer a b s laid) (IsView-wanted viewer (Affected a b) s laid)
 
--- ---- the part that a user action requests
+-- ---- the part that a user action requests, where it asks for the table alone that it names
 
-requested_found : (viewer : Viewer) (s : Document) → IsLaidOut s → (a : UserAction)
+-- the table that it names, with the rows that it names
+abbrev named_cut : UserAction → List ViewTable → List ViewTable
+named_cut a v = map (passing (has (rows_requested a))) (filter (λ (t : ViewTable). bytes_eq t.id (table_of a)) v)
+
+abbrev pub cut : UserAction → ViewTable → ViewTable
+cut a t = passing (is_row_requested a t.id) t
+
+-- the table that it names is cut to the rows that it names
+pub cut_named : (a : UserAction) (t : ViewTable) → bytes_eq t.id (table_of a) ≡ true → cut a t ≡ passing (has (rows_requested a)) t
+cut_named a t is = ap (λ b. passing (λ r. not b || has (rows_requested a) r) t) is
+
+named_alone : (a : UserAction) → is_about_rules a ≡ false → (v : List ViewTable) → requested_part a v ≡ named_cut a v
+named_alone a plain [] = refl
+named_alone a plain (t ∷ v) =
+    ap (λ b. map (cut a) (cond (bytes_eq t.id (table_of a) || (b && bytes_eq t.id resources_id)) (t ∷ filter (λ (t : ViewTable). asks_for a t.id) v) (filter (λ (t : ViewTable). asks_for a t.id) v))) plain
+    ∙ elim (bytes_eq t.id (table_of a)) as (λ b. bytes_eq t.id (table_of a) ≡ b → map (cut a) (cond (b || false) (t ∷ filter (λ (t : ViewTable). asks_for a t.id) v) (filter (λ (t : ViewTable). asks_for a t.id) v))
+    ≡ map (passing (has (rows_requested a))) (cond b (t ∷ filter (λ (t : ViewTable). bytes_eq t.id (table_of a)) v) (filter (λ (t : ViewTable). bytes_eq t.id (table_of a)) v))) [
+      | true ↦ λ is. ap (λ x. x ∷ requested_part a v) (cut_named a t is) ∙ ap (λ l. passing (has (rows_requested a)) t ∷ l) (named_alone a plain v)
+      | false ↦ λ _. named_alone a plain v
+    ] refl
+
+requested_found : (viewer : Viewer) (s : Document) → IsLaidOut s → (a : UserAction) → is_about_rules a ≡ false
     → requested_part a (view viewer s) ≡ map (passing (has (rows_requested a))) (option_to_list (cond (is_shown viewer (table_of a)) (option_map shown_table (find_id table_id (table_of a) s)) None))
-requested_found viewer s laid a =
-    ap (map (passing (has (rows_requested a)))) (
+requested_found viewer s laid a plain =
+    named_alone a plain (view viewer s)
+    ∙ ap (map (passing (has (rows_requested a)))) (
     filter-one shown_table_id (table_of a) (view viewer s) (IsByIds-by_id shown_table_id (map shown_table (filter (λ (t : Table). is_shown viewer t.id) s)))
     ∙ ap option_to_list (find_seen viewer s laid (table_of a)))
 
-pub requested_hidden : (viewer : Viewer) (s : Document) → IsLaidOut s → (a : UserAction) → is_shown viewer (table_of a) ≡ false → [] ≡ requested_part a (view viewer s)
-requested_hidden viewer s laid a hidden =
-    sym (requested_found viewer s laid a
+pub requested_hidden : (viewer : Viewer) (s : Document) → IsLaidOut s → (a : UserAction) → is_about_rules a ≡ false → is_shown viewer (table_of a) ≡ false → [] ≡ requested_part a (view viewer s)
+requested_hidden viewer s laid a plain hidden =
+    sym (requested_found viewer s laid a plain
     ∙ ap (λ b. map (passing (has (rows_requested a))) (option_to_list (cond b (option_map shown_table (find_id table_id (table_of a) s)) None))) hidden)
 
-pub requested_nowhere : (viewer : Viewer) (s : Document) → IsLaidOut s → (a : UserAction) → find_id table_id (table_of a) s ≡ None → [] ≡ requested_part a (view viewer s)
-requested_nowhere viewer s laid a none =
-    sym (requested_found viewer s laid a
+pub requested_nowhere : (viewer : Viewer) (s : Document) → IsLaidOut s → (a : UserAction) → is_about_rules a ≡ false → find_id table_id (table_of a) s ≡ None → [] ≡ requested_part a (view viewer s)
+requested_nowhere viewer s laid a plain none =
+    sym (requested_found viewer s laid a plain
     ∙ ap (λ o. map (passing (has (rows_requested a))) (option_to_list (cond (is_shown viewer (table_of a)) (option_map shown_table o) None))) none
     ∙ elim (is_shown viewer (table_of a)) as (λ b. map (passing (has (rows_requested a))) (option_to_list (cond b None None)) ≡ []) [ true ↦ refl | false ↦ refl ])
 
-pub requested_absent : (viewer : Viewer) (s : Document) → IsLaidOut s → (a : UserAction) → has_id table_id s (table_of a) ≡ false → [] ≡ requested_part a (view viewer s)
-requested_absent viewer s laid a none = requested_nowhere viewer s laid a (find_absent table_id (table_of a) s none)
+pub requested_absent : (viewer : Viewer) (s : Document) → IsLaidOut s → (a : UserAction) → is_about_rules a ≡ false → has_id table_id s (table_of a) ≡ false → [] ≡ requested_part a (view viewer s)
+requested_absent viewer s laid a plain none = requested_nowhere viewer s laid a plain (find_absent table_id (table_of a) s none)
 
-pub requested_seen : (viewer : Viewer) (s : Document) → IsLaidOut s → (a : UserAction) → is_shown viewer (table_of a) ≡ true → has_id table_id s (table_of a) ≡ true
+pub requested_seen : (viewer : Viewer) (s : Document) → IsLaidOut s → (a : UserAction) → is_about_rules a ≡ false → is_shown viewer (table_of a) ≡ true → has_id table_id s (table_of a) ≡ true
     → shown_with (table_of a) (grid_at s (table_of a)) (filter (has (rows_requested a)) (grid_at s (table_of a)).rows) ∷ [] ≡ requested_part a (view viewer s)
-requested_seen viewer s laid a seen there =
+requested_seen viewer s laid a plain seen there =
     let f : (t : Table) × (find_id table_id (table_of a) s ≡ Some t) = found_has table_id (table_of a) s there in
     let t : Table = f.0 in
     let its : grid_at s (table_of a) ≡ t.grid = ap (λ (o : Option Table). elim o as (λ _. Grid ColDef) [ None ↦ no_grid | Some t ↦ t.grid ]) f.1 in
     ap (λ g. shown_with (table_of a) g (filter (has (rows_requested a)) g.rows) ∷ []) its
     ∙ ap (λ i. shown_with i t.grid (filter (has (rows_requested a)) t.grid.rows) ∷ []) (sym (found_id table_id (table_of a) s t f.1))
     ∙ ap (λ w. w ∷ []) (sym (passing-shown (has (rows_requested a)) t))
-    ∙ sym (requested_found viewer s laid a
+    ∙ sym (requested_found viewer s laid a plain
     ∙ ap (λ b. map (passing (has (rows_requested a))) (option_to_list (cond b (option_map shown_table (find_id table_id (table_of a) s)) None))) seen
     ∙ ap (λ o. map (passing (has (rows_requested a))) (option_to_list (option_map shown_table o))) f.1)
 
 -- the table that was made of the rows that are requested
 module _ (viewer : Viewer) (s : Document) (laid : IsLaidOut s) (a : UserAction) (id wanted told rows seen : List ℕ) (t : ViewTable)
     (ascends : IsAscending told) (kept : rows ≡ filter (has wanted) told) (read : seen ≡ rows) (made : t ≡ shown_with id (grid_at s id) seen) where
-  pub requested_made : id ≡ table_of a → is_shown viewer id ≡ true → has_id table_id s id ≡ true → told ≡ (grid_at s id).rows → wanted ≡ rows_requested a → t ∷ [] ≡ requested_part a (view viewer s)
-  requested_made named shown there its named_rows =
+  pub requested_made : is_about_rules a ≡ false → id ≡ table_of a → is_shown viewer id ≡ true → has_id table_id s id ≡ true → told ≡ (grid_at s id).rows → wanted ≡ rows_requested a → t ∷ [] ≡ requested_part a (view viewer s)
+  requested_made plain named shown there its named_rows =
       ap (λ w. w ∷ []) (made ∙ ap (shown_with id (grid_at s id)) (read ∙ kept ∙ ap (λ l. filter (has l) told) named_rows ∙ ap (filter (has (rows_requested a))) its))
       ∙ ap (λ i. shown_with i (grid_at s i) (filter (has (rows_requested a)) (grid_at s i).rows) ∷ []) named
-      ∙ requested_seen viewer s laid a (ap (is_shown viewer) (sym named) ∙ shown) (ap (has_id table_id s) (sym named) ∙ there)
+      ∙ requested_seen viewer s laid a plain (ap (is_shown viewer) (sym named) ∙ shown) (ap (has_id table_id s) (sym named) ∙ there)
 
   pub requested_is_view : IsView (t ∷ [])
   requested_is_view =

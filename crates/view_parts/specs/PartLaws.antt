@@ -45,7 +45,7 @@ OutsideLaw =
     (s : Document) (actions : List DocAction) → IsWhole s → all_valid s actions ≡ true
     → AreSameOutside actions [] s (apply_all s actions)
 
--- what stands against a user action rests on the table and the rows alone that it names
+-- what stands against a user action rests on the tables and the rows alone that it asks for
 abbrev pub RequestedLaw : Type 0
 RequestedLaw = (v : List ViewTable) (a : UserAction) → objection_to (requested_part a v) a
     ≡ objection_to v a

@@ -1,5 +1,5 @@
 -- The part of a view that actions and changed formula cells are about.
-use Rattle.std.specs.Prelude.{ℕ, Bool, ◌&&◌, ◌||◌, List, [], map}
+use Rattle.std.specs.Prelude.{ℕ, Bool, not, ◌&&◌, ◌||◌, List, []}
 use Rattle.std.specs.List.{list_any}
 use Rattle.std.specs.Str.{bytes_eq}
 use Rattle.doc_model.specs.declared.action.DocAction.{DocAction}
@@ -8,9 +8,9 @@ use Rattle.doc_model.specs.declared.user_action.UserAction.TheVariants.{Update, 
 use Rattle.doc_model.specs.declared.view.ViewTable.{ViewTable}
 use Rattle.doc_model.specs.Rows.{has}
 use Rattle.doc_model.specs.Touched.{is_about, names_table}
-use Rattle.plain_view.specs.PartsOfViews.{part_of, passing}
+use Rattle.plain_view.specs.PartsOfViews.{part_of}
 use Rattle.user_actions.specs.Kinds.{table_of}
-use Rattle.user_actions.specs.ObjectionLaws.{only}
+use Rattle.user_actions.specs.ObjectionLaws.{asks_for}
 use Rattle.user_actions.specs.Steps.{row_ids}
 use Rattle.view_parts.specs.declared.changed.ChangedRows.{ChangedRows}
 
@@ -43,6 +43,11 @@ rows_requested (Update table single rows ks) = row_ids rows
 rows_requested (Remove table single rows) = row_ids rows
 rows_requested _ = []
 
--- the table that a user action names, with the rows that it names
+-- whether a user action asks for the row: of the table that it names one of those that it names,
+-- and of another one each
+abbrev pub is_row_requested : UserAction → List ℕ → ℕ → Bool
+is_row_requested a id r = not (bytes_eq id (table_of a)) || has (rows_requested a) r
+
+-- the tables that a user action asks for, with the rows that it asks for
 abbrev pub requested_part : UserAction → List ViewTable → List ViewTable
-requested_part a v = map (passing (has (rows_requested a))) (only (table_of a) v)
+requested_part a v = part_of (asks_for a) (is_row_requested a) v

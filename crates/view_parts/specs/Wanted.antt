@@ -19,8 +19,9 @@ use Rattle.view_parts.specs.declared.viewers.Viewer.{Viewer}
 use Rattle.doc_model.specs.Touched.{names_table}
 use Rattle.view_parts.specs.declared.changed.ChangedRows.{ChangedRows}
 use Rattle.view_parts.specs.declared.wanted.Wanted.{Wanted}
-use Rattle.view_parts.specs.declared.wanted.Wanted.TheVariants.{Affected, All}
-use Rattle.view_parts.specs.Parts.{is_row_affected, is_affected}
+use Rattle.view_parts.specs.declared.wanted.Wanted.TheVariants.{Affected, All, Requested}
+use Rattle.user_actions.specs.ObjectionLaws.{asks_for}
+use Rattle.view_parts.specs.Parts.{is_row_affected, is_row_requested, is_affected}
 use Rattle.view_parts.specs.Shown.{is_shown, shown_column}
 
 -- the cells of a row, one for each of the columns
@@ -44,12 +45,14 @@ shown_with id g rows = record {
 abbrev pub is_wanted : Wanted → List ℕ → Bool
 is_wanted All id = true
 is_wanted (Affected actions changed) id = is_affected actions.now changed.now id
+is_wanted (Requested action) id = asks_for action.now id
 
 -- the rows of a table that are wanted
 abbrev pub rows_wanted : Wanted → List ℕ → List ℕ → List ℕ
 rows_wanted All id rows = rows
 rows_wanted (Affected actions changed) id rows =
     filter (is_row_affected actions.now changed.now id) rows
+rows_wanted (Requested action) id rows = filter (is_row_requested action.now id) rows
 
 -- a wanted table, with its wanted rows
 abbrev pub table_wanted : Wanted → Table → ViewTable

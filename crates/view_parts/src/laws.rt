@@ -2,7 +2,7 @@
 
 ghost use Rattle.view_parts.specs.PartLaws.{AllowedLaw, OutsideLaw, PartLaw, RequestedLaw, ViewLaw};
 
-use user_actions::{one_table_law, unopposed_law};
+use user_actions::{asked_law, unopposed_law};
 
 /// A view of a document is a view.
 pub fn view_law()
@@ -20,11 +20,11 @@ pub fn outside_law()
     ensures { OutsideLaw }
 {}
 
-/// What stands against a user action rests on the table and the rows alone that it names.
+/// What stands against a user action rests on the tables and the rows alone that it asks for.
 pub fn requested_law()
     ensures { RequestedLaw }
 {
-    one_table_law();
+    asked_law();
 }
 
 /// A document allows what nothing stands against in a view of it, or of what it evaluates to.

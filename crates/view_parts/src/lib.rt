@@ -7,12 +7,13 @@
 //! that actions and changed formula cells are about, and `part_law` says that this part tells all
 //! changes from one document to another that holds the same elsewhere; `outside_law`: valid actions
 //! change nothing elsewhere, where no formulas are evaluated. `requested_view` is the part that a
-//! user action names, and `requested_law` says that what stands against the action rests on it
+//! user action asks for, and `requested_law` says that what stands against the action rests on it
 //! alone. `view_law`: each is a view. `allowed_law`: a document allows what nothing stands against
 //! in a view of it, or of what it evaluates to. `rows_shown` and `is_column_shown` tell of such a
 //! view without making it, and take no memory.
 //! Costs: `affected_view` and `requested_view` cost the rows that are named or changed, not those
-//! of the table, unless a schema action names it; and the square of a table's columns.
+//! of the table, unless a schema action names it; and the square of a table's columns. An action on
+//! rows of rules costs those of all resources, and a walk over the tables.
 //! Read first: specs/Viewers.antt, specs/Shown.antt and specs/Parts.antt, then whole.rt, parts.rt
 //! and wanted.rt.
 #![tactic(auto)]
@@ -21,6 +22,7 @@ mod changed;
 mod columns;
 mod laws;
 mod parts;
+mod requested;
 mod rows;
 mod tables;
 mod viewers;

@@ -1,15 +1,17 @@
 //! The parts of a view that actions and changed formula cells are about.
 
-ghost use Rattle.std.specs.Prelude.{◌≡◌, IfOk, MatchOption};
+ghost use Rattle.std.specs.Prelude.{◌≡◌, false, IfOk, MatchOption};
 ghost use Rattle.std.specs.Option.{option_to_list};
 ghost use Rattle.cell_types.specs.NameLength.{HasNameLength};
 ghost use Rattle.doc_model.specs.Changes.{IsView};
 ghost use Rattle.doc_model.specs.LaidOut.{IsLaidOut};
 ghost use Rattle.user_actions.specs.Kinds.{table_of};
-ghost use Rattle.view_parts.specs.Parts.{requested_part, affected_part, rows_requested};
+ghost use Rattle.user_actions.specs.ObjectionLaws.{is_about_rules};
+ghost use Rattle.view_parts.specs.Parts.{requested_part, affected_part};
 ghost use Rattle.view_parts.specs.Shown.{view};
 
 use crate::changed::ChangedRows;
+use crate::requested::rows_requested;
 use crate::rows::rows_among;
 use crate::tables::shown_with;
 use crate::viewers::Viewer;
@@ -18,7 +20,7 @@ use cell_types::{CellText, Name};
 use doc_model::{DocAction, DocReader, UserAction, View, ViewTable, ViewTableList};
 use doc_readers::{has_table, rows_in};
 use std::alloc::{AllocError, Global};
-use user_actions::{row_ids, table_of};
+use user_actions::{is_about_rules, table_of};
 
 /// The part of what a viewer sees of a document that these actions and changed formula cells are
 /// about: the tables that they name, with the rows that they are about.
@@ -54,18 +56,6 @@ fn requested_id(alloc: Global, action: &UserAction) -> Result<Option<Name>, Allo
     Ok(Name::try_new(text))
 }
 
-// The rows that a user action names.
-fn rows_requested(alloc: Global, action: &UserAction) -> Result<Vec<u32>, AllocError>
-    ensures { IfOk result (λ l. l.items ≡ rows_requested action.now) }
-{
-    match action {
-        UserAction::Update { rows, .. } | UserAction::Remove { rows, .. } => {
-            Ok(row_ids(alloc, rows.as_slice())?.into_vec())
-        }
-        _ => Ok(Vec::new(alloc)),
-    }
-}
-
 // The table of this id, which the action names, where it is there to be seen.
 fn named_table<D: DocReader>(
     alloc: Global,
@@ -76,6 +66,7 @@ fn named_table<D: DocReader>(
 ) -> Result<Option<ViewTable>, AllocError>
     requires laid_out { IsLaidOut (D.document tables.now) }
     requires named { id.now ≡ table_of action.now }
+    requires alone { is_about_rules action.now ≡ false }
     ensures table { IfOk result (λ o. option_to_list o
         ≡ requested_part action.now (view viewer (D.document tables.now))) }
     ensures is_view { IfOk result (λ o. IsView (option_to_list o)) }
@@ -90,13 +81,15 @@ fn named_table<D: DocReader>(
     Ok(Some(shown_with(alloc, tables, id, rows.as_slice())?))
 }
 
+// The table that an action names, where it asks for no other one.
 fn requested_table<D: DocReader>(
     alloc: Global,
     tables: &D,
     viewer: Viewer,
     action: &UserAction,
 ) -> Result<Option<ViewTable>, AllocError>
-    requires { IsLaidOut (D.document tables.now) }
+    requires laid_out { IsLaidOut (D.document tables.now) }
+    requires alone { is_about_rules action.now ≡ false }
     ensures table { IfOk result (λ o. option_to_list o
         ≡ requested_part action.now (view viewer (D.document tables.now))) }
     ensures is_view { IfOk result (λ o. IsView (option_to_list o)) }
@@ -107,9 +100,28 @@ fn requested_table<D: DocReader>(
     }
 }
 
-/// The table that a user action names, as a viewer sees it, with the rows that the action names.
+// The tables that an action on rules asks for.
+fn rules_view<D: DocReader>(
+    alloc: Global,
+    tables: &D,
+    viewer: Viewer,
+    action: &UserAction,
+) -> Result<View, AllocError>
+    requires laid_out { IsLaidOut (D.document tables.now) }
+    ensures tables { IfOk result (λ v. v.tables
+        ≡ requested_part action.now (view viewer (D.document tables.now))) }
+    ensures is_view { IfOk result (λ v. IsView v.tables) }
+{
+    let requested = wanted_tables(alloc, tables, viewer, &Wanted::Requested(action))?;
+    Ok(View {
+        tables: ViewTableList::from(requested),
+    })
+}
+
+/// The tables that a user action asks for, as a viewer sees them, with the rows that it asks for.
 ///
-/// Errors: out of memory. Cost: the cells of those rows.
+/// Errors: out of memory. Cost: the cells of those rows; where the action is about rows of rules,
+/// also those of all resources, and a walk over the tables.
 pub fn requested_view<D: DocReader>(
     alloc: Global,
     tables: &D,
@@ -121,6 +133,10 @@ pub fn requested_view<D: DocReader>(
         ≡ requested_part action.now (view viewer (D.document tables.now))) }
     ensures is_view { IfOk result (λ v. IsView v.tables) }
 {
+    if is_about_rules(action) {
+        let shown = rules_view(alloc, tables, viewer, action)?;
+        return Ok(shown);
+    }
     let mut shown = ViewTableList::new(alloc);
     if let Some(table) = requested_table(alloc, tables, viewer, action)? {
         shown.push(table)?;

@@ -1,5 +1,5 @@
-//! Views of all tables, or of those that actions and changed formula cells are about, with the rows
-//! that these are about.
+//! Views of all tables, or of those that actions and changed formula cells are about or that a user
+//! action asks for, with the rows that these are about.
 
 ghost use Rattle.std.specs.Prelude.{◌≡◌, ◌++◌, false, filter, IfOk, OnOk};
 ghost use Rattle.std.specs.List.{list_any};
@@ -12,13 +12,15 @@ ghost use Rattle.view_parts.specs.Parts.{has_changed, is_row_affected, is_affect
 ghost use Rattle.view_parts.specs.Wanted.{is_about_all, is_wholly_affected, is_wanted, rows_changed, rows_named, rows_of, rows_wanted, wanted, wanted_at, with_wanted};
 
 use crate::changed::ChangedRows;
+use crate::requested::requested_rows;
 use crate::rows::rows_among;
 use crate::tables::{put_table, shown_with, table_ids};
 use crate::viewers::Viewer;
 use cell_types::Name;
-use doc_model::{DocAction, DocReader, ViewTable};
+use doc_model::{DocAction, DocReader, UserAction, ViewTable};
 use doc_readers::rows_in;
 use std::alloc::{AllocError, Global};
+use user_actions::asks_for;
 
 /// What is wanted of a view.
 #[derive(Drop)]
@@ -29,6 +31,8 @@ pub(crate) enum Wanted<'a> {
         actions: &'a [DocAction],
         changed: &'a [ChangedRows],
     },
+    /// What a user action asks for.
+    Requested(&'a UserAction),
 }
 
 fn names_table(action: &DocAction, id: &Name) -> bool
@@ -157,6 +161,7 @@ fn is_wanted(want: &Wanted, id: &Name) -> bool
     match want {
         Wanted::All => true,
         Wanted::Affected { actions, changed } => is_affected(actions, changed, id),
+        Wanted::Requested(action) => asks_for(action, id.as_str()),
     }
 }
 
@@ -173,6 +178,7 @@ fn wanted_rows(
     let rows = match want {
         Wanted::All => Vec::from_slice(alloc, rows)?,
         Wanted::Affected { actions, changed } => affected_rows(alloc, actions, changed, id, rows)?,
+        Wanted::Requested(action) => requested_rows(alloc, action, id, rows)?,
     };
     Ok(rows)
 }

@@ -1,5 +1,4 @@
 use Rattle.std.proofs.Common.{◌≡◌, ◌∙◌, ap, map, sym, subst, true, ltb}
-use Rattle.cell_types.specs.NameRule.{is_name}
 use Rattle.doc_model.specs.Apply.{all_valid}
 use Rattle.action_limits.specs.Capped.{AreMaximaAdded, all_moved, settled}
 use Rattle.action_limits.specs.Left.{TellsMaxima}
@@ -14,17 +13,16 @@ use Rattle.action_limits.proofs.Rising.{TellsMore, most_told}
 use Rattle.user_actions.proofs.StepsValid.{all_valid-steps_of}
 use Rattle.action_limits.proofs.expansion.add_expansion.Goals as goal
 
-pub name_of-requires : goal.name_of-requires
-name_of-requires g c =
-    ap is_name c.table_of.ensures
-    ∙ action_named (g.D.DocReader.document c.args.tables.now) c.requires.whole c.args.action.now c.requires.allowed
+pub table_name-requires : goal.table_name-requires
+table_name-requires g c =
+    action_named (g.D.DocReader.document c.args.tables.now) c.requires.whole c.args.action.now c.requires.allowed
 
 pub returns-in-Some : goal.returns-in-Some
 returns-in-Some g c =
     let s = g.D.DocReader.document c.args.tables.now in
     let a = c.args.action.now in
     let ok : all_valid s (map action_of (steps_of s a)) ≡ true = all_valid-steps_of s c.requires.whole a c.requires.allowed c.requires.well_formed (add_fresh s a c.args.count c.requires.adds) in
-    let named : c.in_ok-table.table ≡ table_of a = c.in_ok-table.ensures ∙ c.table_of.ensures in
+    let named : c.in_ok-table.table ≡ table_of a = c.in_ok-table.ensures in
     let maxima : AreMaximaAdded s (table_of a) c.args.count c.maxima_added-added.result = subst (λ t. AreMaximaAdded s t c.args.count c.maxima_added-added.result) named c.maxima_added-added.ensures in
     let more : TellsMore c.maxima_added-added.result s (after s a) = add_maxima s a c.args.count c.maxima_added-added.result c.requires.whole c.requires.adds ok maxima in
     let most : TellsMaxima c.wider-most.result (after s a) = most_told s (after s a) c.maxima_before.result c.maxima_added-added.result c.wider-most.result c.maxima_before.ensures more c.wider-most.ensures.columns c.wider-most.ensures.rows c.wider-most.ensures.row_id in
@@ -37,7 +35,7 @@ returns g c =
     let s = g.D.DocReader.document c.args.tables.now in
     let a = c.args.action.now in
     let ok : all_valid s (map action_of (steps_of s a)) ≡ true = all_valid-steps_of s c.requires.whole a c.requires.allowed c.requires.well_formed (add_fresh s a c.args.count c.requires.adds) in
-    let named : c.in_ok-table.table ≡ table_of a = c.in_ok-table.ensures ∙ c.table_of.ensures in
+    let named : c.in_ok-table.table ≡ table_of a = c.in_ok-table.ensures in
     let maxima : AreMaximaAdded s (table_of a) c.args.count c.maxima_added-added.result = subst (λ t. AreMaximaAdded s t c.args.count c.maxima_added-added.result) named c.maxima_added-added.ensures in
     let more : TellsMore c.maxima_added-added.result s (after s a) = add_maxima s a c.args.count c.maxima_added-added.result c.requires.whole c.requires.adds ok maxima in
     let most : TellsMaxima c.wider-most.result (after s a) = most_told s (after s a) c.maxima_before.result c.maxima_added-added.result c.wider-most.result c.maxima_before.ensures more c.wider-most.ensures.columns c.wider-most.ensures.rows c.wider-most.ensures.row_id in

@@ -1,5 +1,4 @@
 use Rattle.std.proofs.Common.{ℕ, ◌≡◌, ◌+◌, ◌<◌, ◌≤◌, ◌∙◌, max, ap, map, sym, subst, true, ltb, arith}
-use Rattle.cell_types.specs.NameRule.{is_name}
 use Rattle.doc_model.specs.Apply.{all_valid}
 use Rattle.doc_model.specs.Counts.{counts}
 use Rattle.action_limits.specs.Capped.{all_moved, settled}
@@ -15,10 +14,9 @@ use Rattle.action_limits.proofs.Rising.{TellsMore, most_told}
 use Rattle.action_limits.proofs.SchemaGrowth.{grown_few, grown_last, grown_maxima, grown_tables}
 use Rattle.action_limits.proofs.expansion.schema_expansion.Goals as goal
 
-pub name_of-requires : goal.name_of-requires
-name_of-requires g c =
-    ap is_name c.table_of.ensures
-    ∙ action_named (g.D.DocReader.document c.args.tables.now) c.requires.whole c.args.action.now c.requires.allowed
+pub table_name-requires : goal.table_name-requires
+table_name-requires g c =
+    action_named (g.D.DocReader.document c.args.tables.now) c.requires.whole c.args.action.now c.requires.allowed
 
 pub unreachable-requires : goal.unreachable-requires
 unreachable-requires g c =

@@ -1,24 +1,26 @@
 use Rattle.std.proofs.Common.{◌∙◌, sym, ap, ℕ, ℤ, List}
 use Rattle.std.specs.List.{list_all}
 use Rattle.cell_types.specs.NameRule.{is_name}
-use Rattle.user_actions.specs.Allowed.{has_name, is_allowed, may_name}
+use Rattle.user_actions.specs.Allowed.{is_allowed, may_give, may_name}
 use Rattle.doc_model.specs.declared.action.DocAction.TheVariants.{BulkUpdate}
 use Rattle.doc_model.specs.declared.action.Step.{Step}
 use Rattle.doc_model.specs.declared.user_action.UserColumn.{UserColumn}
 use Rattle.doc_model.specs.Document.{Document}
 use Rattle.doc_model.specs.ViewEdits.{if_any}
+use Rattle.doc_readers.specs.Parts.{grid_at}
 use Rattle.user_actions.specs.Columns.{may_become}
 use Rattle.user_actions.specs.Kinds.{table_of}
 use Rattle.user_actions.specs.Marked.{direct}
 use Rattle.user_actions.specs.Steps.{all_fitted, row_ids, steps_of}
-use Rattle.user_actions.proofs.AllowedLemmas.{columns_named, column_named, only_column_named, known_column_named, new_name}
+use Rattle.user_actions.proofs.AllowedLemmas.{columns_given, column_named, only_column_named, known_column_named, new_name}
 use Rattle.user_actions.proofs.expanding.other_steps.Goals as goal
 
-pub update_steps-requires-clause-names : goal.update_steps-requires-clause-names
-update_steps-requires-clause-names g c =
+pub update_steps-requires : goal.update_steps-requires
+update_steps-requires g c =
     let s = g.D.DocReader.document c.args.tables.now in
-    ap (list_all has_name) c.as_slice.ensures
-    ∙ columns_named s c.requires.whole c.in-Update.table (λ t. may_name t.grid.rows c.in-Update.rows) c.in-Update.columns (sym (ap (is_allowed s) c.in-Update.is) ∙ c.requires.allowed)
+    ap (λ ks. list_all (may_give (grid_at s c.args.table.now)) ks) c.as_slice.ensures
+    ∙ ap (λ id. list_all (may_give (grid_at s id)) c.in-Update.columns) (c.requires.named ∙ ap table_of c.in-Update.is)
+    ∙ columns_given s c.in-Update.table (λ t. may_name t.grid.rows c.in-Update.rows) c.in-Update.columns (sym (ap (is_allowed s) c.in-Update.is) ∙ c.requires.allowed)
 
 pub remove_column_steps-requires : goal.remove_column_steps-requires
 remove_column_steps-requires g c =

@@ -1,13 +1,10 @@
-use Rattle.std.proofs.Common.{◌∙◌, ap}
-use Rattle.cell_types.specs.NameRule.{is_name}
 use Rattle.user_actions.proofs.AllowedLemmas.{action_named}
 use Rattle.user_actions.proofs.StepsValid.{all_valid-steps_of}
 use Rattle.user_actions.proofs.expanding.steps.Goals as goal
 
-pub name_of-requires : goal.name_of-requires
-name_of-requires g c =
-    ap is_name c.table_of.ensures
-    ∙ action_named (g.D.DocReader.document c.args.tables.now) c.requires.whole c.args.action.now c.requires.allowed
+pub table_name-requires : goal.table_name-requires
+table_name-requires g c =
+    action_named (g.D.DocReader.document c.args.tables.now) c.requires.whole c.args.action.now c.requires.allowed
 
 pub returns-then-makes_rows-clause-valid : goal.returns-then-makes_rows-clause-valid
 returns-then-makes_rows-clause-valid g c =

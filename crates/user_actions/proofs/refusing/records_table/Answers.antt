@@ -5,7 +5,7 @@ use Rattle.doc_model.specs.ViewEdits.{IsShown}
 use Rattle.doc_model.proofs.ByIdsLaws.{found_all}
 use Rattle.user_actions.proofs.refusing.records_table.Goals as goal
 
-pub returns-in-Some-clause-ascending : goal.returns-in-Some-clause-ascending
-returns-in-Some-clause-ascending c =
+pub returns-in-Some-clause-shown : goal.returns-in-Some-clause-shown
+returns-in-Some-clause-shown c =
     let found : find_id shown_table_id c.args.id.now c.args.tables.now ≡ Some c.in-Some.table.now = search rules in
-    (found_all shown_table_id (λ t. IsShown (grid t)) c.args.id.now c.args.tables.now c.in-Some.table.now c.requires found).is_grid.ascending
+    found_all shown_table_id (λ t. IsShown (grid t)) c.args.id.now c.args.tables.now c.in-Some.table.now c.requires found

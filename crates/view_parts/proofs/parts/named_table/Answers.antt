@@ -11,14 +11,14 @@ returns-then-not-sees-clause-table g c =
     let s = g.D.DocReader.document c.args.tables.now in
     let a = c.args.action.now in
     let named : c.args.id.now ≡ table_of a = c.requires.named in
-    requested_hidden c.args.viewer s c.requires.laid_out a (ap (is_shown c.args.viewer) (sym named) ∙ sym c.sees.ensures ∙ c.if-not-sees.true)
+    requested_hidden c.args.viewer s c.requires.laid_out a c.requires.alone (ap (is_shown c.args.viewer) (sym named) ∙ sym c.sees.ensures ∙ c.if-not-sees.true)
 
 pub returns-then-not-has_table-clause-table : goal.returns-then-not-has_table-clause-table
 returns-then-not-has_table-clause-table g c =
     let s = g.D.DocReader.document c.args.tables.now in
     let a = c.args.action.now in
     let named : c.args.id.now ≡ table_of a = c.requires.named in
-    requested_absent c.args.viewer s c.requires.laid_out a (ap (has_id table_id s) (sym named) ∙ sym c.has_table.ensures ∙ c.if-not-has_table.true)
+    requested_absent c.args.viewer s c.requires.laid_out a c.requires.alone (ap (has_id table_id s) (sym named) ∙ sym c.has_table.ensures ∙ c.if-not-has_table.true)
 
 pub returns-clause-table : goal.returns-clause-table
 returns-clause-table g c =
@@ -27,7 +27,7 @@ returns-clause-table g c =
     let named : c.args.id.now ≡ table_of a = c.requires.named in
     requested_made c.args.viewer s c.requires.laid_out a c.args.id.now c.in_ok-rows_requested.field-0.items c.rows_in.result.now c.in_ok-rows.rows.items c.as_slice.result.now c.in_ok-shown_with.field-0
     c.rows_in.ensures.ascending c.in_ok-rows.ensures c.as_slice.ensures.value c.in_ok-shown_with.ensures
-    named (sym c.sees.ensures ∙ c.if-not-sees.false) (sym c.has_table.ensures ∙ c.if-not-has_table.false) c.rows_in.ensures.value c.in_ok-rows_requested.ensures
+    c.requires.alone named (sym c.sees.ensures ∙ c.if-not-sees.false) (sym c.has_table.ensures ∙ c.if-not-has_table.false) c.rows_in.ensures.value c.in_ok-rows_requested.ensures
 
 pub returns-clause-is_view : goal.returns-clause-is_view
 returns-clause-is_view g c =

@@ -11,4 +11,4 @@ returns-in-None-clause-table g c =
     let s = g.D.DocReader.document c.args.tables.now in
     let a = c.args.action.now in
     let long : HasNameLength (table_of a) → ⊥ = subst (λ (o : Option (List ℕ)). MatchOption o (HasNameLength (table_of a) → ⊥) (λ n. n ≡ table_of a)) c.in-None.is c.in_ok-id.ensures in
-    requested_nowhere c.args.viewer s c.requires a (no_table s c.requires (table_of a) long)
+    requested_nowhere c.args.viewer s c.requires.laid_out a c.requires.alone (no_table s c.requires.laid_out (table_of a) long)

@@ -18,7 +18,7 @@ use Rattle.acl_rules.specs.declared.decision.Decision.{Decision}
 use Rattle.acl_rules.specs.declared.decision.RuleId.{RuleId}
 use Rattle.acl_rules.specs.Reading.{columns_read, is_among, narrowed}
 use Rattle.acl_rules.proofs.NarrowLemmas.{decision_narrowed}
-use Rattle.acl_checks.specs.declared.before_step.BeforeStep.TheVariants as kept
+use Rattle.acl_checks.specs.declared.before.BeforeStep.TheVariants as kept
 use Rattle.acl_checks.specs.BeforeStep.{Holds, kept_checks, kept_row, row_of}
 use Rattle.acl_checks.specs.Checks.{Check, add_checks, cell_checks, checks_of, remove_checks, row_at, row_check, update_checks}
 use Rattle.acl_checks.specs.Denials.{asked_in, decided, denial_or, first_denied}
@@ -34,6 +34,7 @@ module _ (s : Document) (table : List ℕ) (r : ℕ) where
       none : (b : Bool) (o : Option CellValue) → o ≡ None → cond b o None ≡ None
       none true o h = h
       none false o h = refl
+
       by : (b : Bool) (o : Option CellValue) → bytes_eq n c ≡ b → cell_at s table n r ≡ o
           → cell_in (kept_cells s table r names) c ≡ cond (is_among names c) (cell_at s table c r) None
           → cell_in (with_cell n o (kept_cells s table r names)) c ≡ cond (b || is_among names c) (cell_at s table c r) None
@@ -80,8 +81,8 @@ module _ (x : Ctx) (table : List ℕ) where
         let id : k.row ≡ r = ap (λ (w : RuleRow). w.id) head in
         same_parts x (cell_checks table (row_at s table r) (row_at t table r) columns) (update_checks s t table rows columns) (cell_checks table (kept_row k) (row_at t table k.row) columns) (kept_checks t table ks columns)
         (sym (cells_same (row_at s table r) (row_at t table r) columns)
-          ∙ ap (λ (w : RuleRow). first_denied x (cell_checks table w (row_at t table r) columns)) (sym head)
-          ∙ ap (λ (q : ℕ). first_denied x (cell_checks table (kept_row k) (row_at t table q) columns)) (sym id))
+        ∙ ap (λ (w : RuleRow). first_denied x (cell_checks table w (row_at t table r) columns)) (sym head)
+        ∙ ap (λ (q : ℕ). first_denied x (cell_checks table (kept_row k) (row_at t table q) columns)) (sym id))
         (rows_same rows ks (ap other_rows e))
 
   module _ (s : Document) where

@@ -9,8 +9,8 @@ use Rattle.acl_formula.specs.RuleRow.{RuleRow}
 use Rattle.acl_formula.specs.declared.user_info.AttributeRow.{AttributeRow}
 use Rattle.acl_rules.specs.declared.decision.Ctx.{Ctx}
 use Rattle.acl_rules.specs.declared.decision.RuleId.{RuleId}
-use Rattle.acl_checks.specs.declared.before_step.BeforeStep.{BeforeStep}
-use Rattle.acl_checks.specs.declared.before_step.BeforeStep.TheVariants as kept
+use Rattle.acl_checks.specs.declared.before.BeforeStep.{BeforeStep}
+use Rattle.acl_checks.specs.declared.before.BeforeStep.TheVariants as kept
 use Rattle.acl_checks.specs.Checks.{Check, add_checks, cell_checks, checks_of, row_at}
 use Rattle.acl_checks.specs.Denials.{first_denied}
 

@@ -5,6 +5,7 @@ use cell_types::{CellValue, Name};
 use doc_model::DocReader;
 
 /// A row of an evaluated document: one that was kept before an action, or one that is there.
+#[derive(Drop)]
 pub(crate) enum CheckedRow<'a, D> {
     Kept(&'a AttributeRow),
     There(&'a D, &'a Name, u32),

@@ -35,14 +35,7 @@ fn row_denied<W: RowReader>(
         (row_check perm table.now (option_map (λ c. c.now) column.entry)
         (W.told before.now) (W.told after.now))) None }
 {
-    denial(decide(
-        ctx,
-        perm,
-        Some(table),
-        column,
-        Some(before),
-        Some(after),
-    ))
+    denial(decide(ctx, perm, Some(table), column, Some(before), Some(after)))
 }
 
 /// A check of the schema: of the document, of a table, or of a column.
@@ -55,14 +48,7 @@ pub(crate) fn schema_denied(
         (schema_check (option_map (λ t. t.now) table.entry)
         (option_map (λ c. c.now) column.entry) ∷ []) }
 {
-    denial(decide::<AttributeRow>(
-        ctx,
-        Perm::S,
-        table,
-        column,
-        None,
-        None,
-    ))
+    denial(decide::<AttributeRow>(ctx, Perm::S, table, column, None, None))
 }
 
 // The checks of a row's given cells.
@@ -102,7 +88,6 @@ fn new_row_denied<W: RowReader>(
 }
 
 /// The checks of new rows, which are in the tables.
-#[tactic(auto, using(crate::proofs::DenialLemmas::found_first, crate::proofs::DenialLemmas::none_first))]
 pub(crate) fn adds_denied<D: DocReader>(
     ctx: &Ctx,
     tables: &D,
@@ -114,12 +99,7 @@ pub(crate) fn adds_denied<D: DocReader>(
         (add_checks (D.document tables.now) table.now rows.now columns.now) }
 {
     for row in rows {
-        let denied = new_row_denied(
-            ctx,
-            table,
-            columns,
-            &CheckedRow::There(tables, table, *row),
-        );
+        let denied = new_row_denied(ctx, table, columns, &CheckedRow::There(tables, table, *row));
         if let Some(rule) = denied {
             return Some(rule);
         }
@@ -128,7 +108,6 @@ pub(crate) fn adds_denied<D: DocReader>(
 }
 
 /// The checks of changed rows: each as it was kept, and as it is in the tables.
-#[tactic(auto, using(crate::proofs::DenialLemmas::found_first, crate::proofs::DenialLemmas::none_first))]
 pub(crate) fn updates_denied<D: DocReader>(
     ctx: &Ctx,
     tables: &D,

@@ -7,9 +7,12 @@ ghost use Rattle.acl_rules.specs.Reading.{narrowed};
 ghost use Rattle.acl_checks.specs.Kept.{kept_cells};
 
 use acl_formula::{AttributeRow, NamedCell, NamedCellList};
-use cell_types::{CellValue, Name, copy_of};
+use cell_types::{CellValue, Name, Sequence, copy_of};
 use doc_model::DocReader;
 use std::alloc::{AllocError, Global};
+
+/// Rows kept with some of their cells, in order.
+pub type KeptRowList = Sequence<AttributeRow>;
 
 fn named_cell(column: &Name, value: &CellValue) -> Result<NamedCell, AllocError>
     ensures { IfOk result (λ c. c ≡ record { column = column.now; value = value.now }) }
@@ -44,7 +47,6 @@ fn kept_cells<D: DocReader>(
     Ok(cells)
 }
 
-#[tactic(auto, using(crate::proofs::KeptLemmas::row_told))]
 fn kept_row<D: DocReader>(
     alloc: Global,
     tables: &D,
@@ -68,11 +70,11 @@ pub(crate) fn kept_rows<D: DocReader>(
     table: &Name,
     rows: &[u32],
     names: &[Name],
-) -> Result<Vec<AttributeRow>, AllocError>
-    ensures { IfOk result (λ kept. map kept_row kept.items
+) -> Result<KeptRowList, AllocError>
+    ensures { IfOk result (λ kept. map kept_row kept
         ≡ map (λ r. narrowed names.now (row_at (D.document tables.now) table.now r)) rows.now) }
 {
-    let mut kept = Vec::new(alloc);
+    let mut kept = KeptRowList::new(alloc);
     for row in rows {
         kept.push(kept_row(alloc, tables, table, *row, names)?)?;
     }

@@ -6,5 +6,5 @@ use Rattle.acl_checks.proofs.keeping.kept_rows.Given as goal
 
 abbrev pub invariant-loop-row : goal.invariant-loop-row
 invariant-loop-row g l =
-    map kept_row l.kept.items
+    map kept_row l.kept
     ≡ map (λ r. narrowed l.names (row_at (g.D.DocReader.document l.tables) l.table r)) (take l.row-index l.rows)

@@ -1,6 +1,6 @@
 use Rattle.std.proofs.Common.{◌∙◌, sym}
 use Rattle.acl_checks.specs.BeforeStep.{Holds}
-use Rattle.acl_checks.proofs.after_step.after_step.Goals as goal
+use Rattle.acl_checks.proofs.after.after_step.Goals as goal
 
 pub returns : goal.returns
 unfolding Holds

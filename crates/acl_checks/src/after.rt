@@ -6,7 +6,7 @@ ghost use Rattle.acl_checks.specs.BeforeStep.{Holds, answer_behind, row_of};
 ghost use Rattle.acl_checks.specs.Checks.{checks_of};
 ghost use Rattle.acl_checks.specs.Denials.{first_denied};
 
-use crate::before_step::BeforeStep;
+use crate::before::BeforeStep;
 use crate::denials::{adds_denied, updates_denied};
 use acl_rules::{Ctx, RuleId};
 use doc_model::{DocAction, DocReader};

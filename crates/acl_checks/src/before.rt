@@ -11,8 +11,7 @@ ghost use Rattle.acl_checks.specs.BeforeStep.{Holds, kept_row};
 ghost use Rattle.acl_checks.specs.Checks.{checks_of, row_at, schema_check};
 
 use crate::denials::{removes_denied, schema_denied};
-use crate::keeping::kept_rows;
-use acl_formula::AttributeRow;
+use crate::keeping::{KeptRowList, kept_rows};
 use acl_rules::{Ctx, RuleId, columns_read};
 use cell_types::Name;
 use doc_model::{DocAction, DocReader};
@@ -25,7 +24,7 @@ pub enum BeforeStep {
     /// The answer rests on nothing behind the action: the rule that denies it, if one does.
     Decided(Option<RuleId>),
     /// The rows that the action changes, as they were; none where it adds rows.
-    Rows(Vec<AttributeRow>),
+    Rows(KeptRowList),
 }
 
 // The rows that an action changes, with the columns that rules read.
@@ -35,8 +34,8 @@ fn changed_rows<D: DocReader>(
     tables: &D,
     table: &Name,
     rows: &[u32],
-) -> Result<Vec<AttributeRow>, AllocError>
-    ensures { IfOk result (λ kept. map kept_row kept.items
+) -> Result<KeptRowList, AllocError>
+    ensures { IfOk result (λ kept. map kept_row kept
         ≡ map (λ r. narrowed (columns_read ctx.now.book table.now)
         (row_at (D.document tables.now) table.now r)) rows.now) }
 {
@@ -70,7 +69,7 @@ fn before_add(alloc: Global, table: &Name) -> BeforeStep
     if is_acl_id(table.as_str()) {
         return BeforeStep::Decided(None);
     }
-    BeforeStep::Rows(Vec::new(alloc))
+    BeforeStep::Rows(KeptRowList::new(alloc))
 }
 
 // Rows that are removed are read before the action alone.

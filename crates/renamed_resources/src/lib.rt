@@ -4,9 +4,10 @@
 //! Stands on `name_rules` (names), `doc_readers`, `doc_model` and `cell_types`. Used by
 //! `user_actions`.
 //!
-//! Promises: `names_in` reads exactly the texts that list names; `table_renamed`, `columns_renamed` and `names_table` are the definitions of
-//! specs/Renamed.antt, over any cell of the table of resources, whatever it holds. There a text that
-//! would be too long for a cell stays; `length_law` says that no list of names is.
+//! Promises: `names_in` reads exactly the texts that list names; `table_renamed`, `columns_renamed`
+//! and `names_table` are the definitions of specs/Renamed.antt, over any cell of the table of
+//! resources, whatever it holds. There a text that would be too long for a cell stays;
+//! `length_law` says that no list of names is.
 //! Not promised: that memory is found.
 //! Read first: specs/NameLists.antt and specs/Renamed.antt.
 #![tactic(auto)]

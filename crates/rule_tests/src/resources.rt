@@ -52,13 +52,21 @@ fn is_text(cell: &Result<CellValue, AllocError>, want: &str) -> bool {
 #[test]
 fn lists_say_the_new_column(rt: HostRuntime) {
     for case in &LISTS {
-        assert!(rt; is_text(&list_then(rt.alloc(), case.0), case.1), "not {}", case.1);
+        assert!(rt;
+            is_text(&list_then(rt.alloc(), case.0), case.1),
+            "not {}",
+            case.1
+        );
     }
 }
 
 #[test]
 fn cells_name_the_new_table(rt: HostRuntime) {
     for case in &TABLES {
-        assert!(rt; is_text(&table_then(rt.alloc(), case.0), case.1), "not {}", case.1);
+        assert!(rt;
+            is_text(&table_then(rt.alloc(), case.0), case.1),
+            "not {}",
+            case.1
+        );
     }
 }

@@ -86,7 +86,7 @@ abbrev pub AreAlike : Document → Document → List Step → Type 0
 AreAlike s d [] = ⊤
 AreAlike s d (x ∷ steps) = (sums_removed s x.action ≡ sums_removed d x.action) × (sums_added s x.action ≡ sums_added d x.action) × IsLess d x.action × AreAlike s (apply d x.action) steps
 
-abbrev with_sums : Counted → Sums → Sums → Counted
+abbrev pub with_sums : Counted → Sums → Sums → Counted
 with_sums m g c = record {
   tables = capped (m.tables - capped g.tables + capped c.tables);
   columns = m.columns;

@@ -1,48 +1,35 @@
 -- Sums and maxima after the steps of an action that makes no rows.
-use Rattle.std.proofs.Common.{ℕ, Bool, true, false, cond, not, ◌&&◌, ◌+◌, ◌≤◌, List, [], ◌∷◌, ◌++◌, map, length, get_or, ◌≡◌, refl, sym, ap, ◌∙◌, Option, Some, None, arith, ltb}
-use Rattle.std.proofs.lemmas.Bool.{and_parts, eqb-true, false≢true, true≢false, le-ltb}
+use Rattle.std.proofs.Common.{ℕ, true, false, ◌&&◌, ◌+◌, ◌≤◌, List, [], ◌∷◌, ◌++◌, map, length, get_or, ◌≡◌, refl, sym, ap, ◌∙◌, arith, ltb}
+use Rattle.std.proofs.lemmas.Bool.{and_parts, eqb-true, true≢false}
 use Rattle.std.specs.Bool.{◌==◌}
-use Rattle.std.specs.List.{list_all, AllByRecursion}
-use Rattle.std.specs.Option.{option_map}
-use Rattle.std.specs.Str.{bytes_eq}
+use Rattle.std.specs.List.{list_all}
 use Rattle.cell_types.specs.Conversion.{fit}
-use Rattle.cell_types.specs.NameRule.{is_name}
-use Rattle.doc_model.specs.declared.action.DocAction.{DocAction}
 use Rattle.doc_model.specs.declared.action.DocAction.TheVariants as action
 use Rattle.doc_model.specs.declared.action.Step.{Step}
-use Rattle.doc_model.specs.declared.column.ColDef.{ColDef}
 use Rattle.doc_model.specs.declared.user_action.UserAction.{UserAction}
 use Rattle.doc_model.specs.declared.user_action.UserAction.TheVariants.{Add, Update, Remove, AddTable, RemoveTable, RenameTable, AddColumn, RemoveColumn, RenameColumn, ModifyColumn}
 use Rattle.doc_model.specs.Apply.{all_valid, apply, apply_all}
-use Rattle.doc_model.specs.ByIds.{has_id}
-use Rattle.doc_model.specs.CountLaws.{SumsMove}
-use Rattle.doc_model.specs.Counts.{counts, formula_bytes}
-use Rattle.doc_model.specs.Document.{Document, Table, table_id}
+use Rattle.doc_model.specs.Counts.{counts}
+use Rattle.doc_model.specs.Document.{Document}
 use Rattle.doc_model.specs.DocumentLaws.{IsWhole}
-use Rattle.doc_model.specs.Valid.{is_new_table, schema_table, valid}
+use Rattle.doc_model.specs.Valid.{valid}
 use Rattle.doc_model.specs.ViewEdits.{if_any}
-use Rattle.doc_model.proofs.Choices.{both_true, not_true}
-use Rattle.doc_model.proofs.DocumentParts.{passes_parts}
+use Rattle.doc_model.proofs.Choices.{both_true}
 use Rattle.doc_model.proofs.InverseLaws.{IsWhole-apply}
-use Rattle.doc_model.proofs.SchemaCounts.{counts-apply}
 use Rattle.doc_readers.specs.Parts.{grid_at}
 use Rattle.action_limits.specs.declared.limits.Counted.{Counted}
-use Rattle.action_limits.specs.Capped.{all_moved, all_moved_at, capped}
-use Rattle.action_limits.specs.Left.{AreQuietLater, TellsMaxima, is_quiet, renames_table}
+use Rattle.action_limits.specs.Capped.{all_moved, all_moved_at}
+use Rattle.action_limits.specs.Left.{AreQuietLater, TellsMaxima, is_quiet, is_renaming}
 use Rattle.user_actions.specs.Kinds.{makes_rows}
 use Rattle.user_actions.specs.StepLaws.{action_of}
 use Rattle.user_actions.specs.Marked.{direct}
-use Rattle.name_rules.specs.FreeName.{free_name}
 use Rattle.user_actions.specs.declared.referrers.Referrer.{Referrer}
 use Rattle.user_actions.specs.CellUpdates.{rows_changed}
-use Rattle.user_actions.specs.References.{cleared, clearings, info_to, led_to, referrers, rows_staying}
-use Rattle.user_actions.specs.Steps.{all_fitted, renaming, row_ids, steps_of, table_ids}
-use Rattle.user_actions.proofs.LedLemmas.{IsLed, there-renaming}
-use Rattle.action_limits.specs.Tallies.{after}
+use Rattle.user_actions.specs.References.{cleared, clearings, referrers, rows_staying}
+use Rattle.user_actions.specs.Steps.{all_fitted, row_ids, steps_of}
 use Rattle.action_limits.proofs.ClearingMoves.{all_told, removal_alike, removal_there}
-use Rattle.action_limits.proofs.RenamingMoves.{KeepsFormula, SameSums, all_same}
 use Rattle.action_limits.proofs.ModifyMoves.{TellsSteps, any_steps, modified_told, quiet-modified}
-use Rattle.action_limits.proofs.ExpansionLemmas.{IsExact, TellsSums, none_told}
+use Rattle.action_limits.proofs.ExpansionLemmas.{IsExact, TellsSums}
 use Rattle.action_limits.proofs.MaximaMoves.{IsBelow, SameMaxima, maxima-quiet}
 
 -- ---- the steps of an action
@@ -50,10 +37,6 @@ use Rattle.action_limits.proofs.MaximaMoves.{IsBelow, SameMaxima, maxima-quiet}
 few_if_any : (rows : List ℕ) (x : Step) → length (if_any rows x) ≤ 1
 few_if_any [] x = omega arith
 few_if_any (r ∷ rows) x = omega arith
-
-few_unless : (b : Bool) (x : Step) → length (cond b [] (x ∷ [])) ≤ 1
-few_unless true x = omega arith
-few_unless false x = omega arith
 
 removal_told : (s : Document) (m : Counted) → IsWhole s → IsExact m s → (table gone : List ℕ) → all_valid s (map action_of (direct (action.BulkRemove table gone) ∷ clearings s table gone (referrers s table table false))) ≡ true
     → TellsSteps s m (direct (action.BulkRemove table gone) ∷ clearings s table gone (referrers s table table false))
@@ -64,7 +47,7 @@ removal_told s m whole exact table gone v =
     let told : (all_moved_at s m steps ≡ all_moved s m steps) × TellsSums (all_moved s m steps) (apply_all s (map action_of steps)) = all_told s s m steps whole exact v (removal_alike s whole table gone parts.0 parts.1) in
     record { there = removal_there s whole table gone parts.0; alike = told.0; sums = told.1 }
 
-pub other_told : (s : Document) (a : UserAction) (m : Counted) → IsWhole s → makes_rows a ≡ false → renames_table a ≡ false → IsExact m s → all_valid s (map action_of (steps_of s a)) ≡ true → TellsSteps s m (steps_of s a)
+pub other_told : (s : Document) (a : UserAction) (m : Counted) → IsWhole s → makes_rows a ≡ false → is_renaming a ≡ false → IsExact m s → all_valid s (map action_of (steps_of s a)) ≡ true → TellsSteps s m (steps_of s a)
 other_told s (Add table single count has_row_ids ks) m whole other stays exact v = absurd (true≢false other)
 other_told s (Update table single rows ks) m whole other stays exact v = any_steps s m (steps_of s (Update table single rows ks)) (few_if_any (row_ids rows) (direct (action.BulkUpdate table (row_ids rows) (all_fitted s table ks)))) whole exact v
 other_told s (Remove table single rows) m whole other stays exact v = removal_told s m whole exact table (row_ids rows) v
@@ -73,12 +56,12 @@ other_told s (RemoveTable table) m whole other stays exact v = any_steps s m (st
 other_told s (RenameTable table new) m whole other stays exact v = absurd (true≢false stays)
 other_told s (AddColumn table c) m whole other stays exact v = absurd (true≢false other)
 other_told s (RemoveColumn table column) m whole other stays exact v = any_steps s m (steps_of s (RemoveColumn table column)) (omega arith) whole exact v
-other_told s (RenameColumn table column new) m whole other stays exact v = any_steps s m (steps_of s (RenameColumn table column new)) (few_unless (bytes_eq column new) _) whole exact v
+other_told s (RenameColumn table column new) m whole other stays exact v = absurd (true≢false stays)
 other_told s (ModifyColumn table c) m whole other stays exact v = modified_told s m whole exact table c v
 
 -- ---- and the maxima
 
-same_all : (s : Document) (steps : List Step) → IsWhole s → all_valid s (map action_of steps) ≡ true → list_all (λ (x : Step). is_quiet x.action) steps ≡ true → SameMaxima s (apply_all s (map action_of steps))
+pub same_all : (s : Document) (steps : List Step) → IsWhole s → all_valid s (map action_of steps) ≡ true → list_all (λ (x : Step). is_quiet x.action) steps ≡ true → SameMaxima s (apply_all s (map action_of steps))
 same_all s [] whole v fit = record { columns = refl; rows = refl; row_id = refl }
 same_all s (x ∷ steps) whole v fit =
     let parts : (valid s x.action ≡ true) × (all_valid (apply s x.action) (map action_of steps) ≡ true) = and_parts (valid s x.action) (all_valid (apply s x.action) (map action_of steps)) v in
@@ -87,7 +70,7 @@ same_all s (x ∷ steps) whole v fit =
     let others : SameMaxima (apply s x.action) (apply_all (apply s x.action) (map action_of steps)) = same_all (apply s x.action) steps (IsWhole-apply s x.action whole parts.0) parts.1 each.1 in
     record { columns = others.columns ∙ one.columns; rows = others.rows ∙ one.rows; row_id = others.row_id ∙ one.row_id }
 
-maxima_from : (s d : Document) (e : Counted) → SameMaxima s d → TellsMaxima e s → TellsMaxima e d
+pub maxima_from : (s d : Document) (e : Counted) → SameMaxima s d → TellsMaxima e s → TellsMaxima e d
 maxima_from s d e same told = record {
   columns = told.columns ∙ ap (ltb 1024) (sym same.columns);
   rows = told.rows ∙ ap (ltb 1000000) (sym same.rows);
@@ -131,7 +114,7 @@ clear_quiet s table gone [] = refl
 clear_quiet s table gone (k ∷ ks) =
     any_quiet (rows_changed (grid_at s k.table) k.column.id (cleared gone k.column.info.ty) (rows_staying s table gone k.table)) _ (clearings s table gone ks) refl (clear_quiet s table gone ks)
 
-pub other_quiet : (s : Document) (a : UserAction) → makes_rows a ≡ false → renames_table a ≡ false → AreQuietLater (steps_of s a)
+pub other_quiet : (s : Document) (a : UserAction) → makes_rows a ≡ false → is_renaming a ≡ false → AreQuietLater (steps_of s a)
 other_quiet s (Add table single count has_row_ids ks) other stays = absurd (true≢false other)
 other_quiet s (Update table single rows ks) other stays = few_quiet (steps_of s (Update table single rows ks)) (few_if_any (row_ids rows) (direct (action.BulkUpdate table (row_ids rows) (all_fitted s table ks))))
 other_quiet s (Remove table single rows) other stays = clear_quiet s table (row_ids rows) (referrers s table table false)
@@ -140,82 +123,8 @@ other_quiet s (RemoveTable table) other stays = refl
 other_quiet s (RenameTable table new) other stays = absurd (true≢false stays)
 other_quiet s (AddColumn table c) other stays = absurd (true≢false other)
 other_quiet s (RemoveColumn table column) other stays = refl
-other_quiet s (RenameColumn table column new) other stays = few_quiet (steps_of s (RenameColumn table column new)) (few_unless (bytes_eq column new) _)
+other_quiet s (RenameColumn table column new) other stays = absurd (true≢false stays)
 other_quiet s (ModifyColumn table c) other stays = quiet_later (steps_of s (ModifyColumn table c)) (quiet-modified table (grid_at s table) c)
-
--- ---- a table that is renamed
-
-led_quiet : (new : List ℕ) (ks : List Referrer) → list_all (λ (x : Step). is_quiet x.action) (map (led_to new) ks) ≡ true
-led_quiet new [] = refl
-led_quiet new (k ∷ ks) = led_quiet new ks
-
-led_keeps : (d : Document) (new : List ℕ) (ks : List Referrer) → AllByRecursion (IsLed d) ks → AllByRecursion (KeepsFormula d) (map (led_to new) ks)
-led_keeps d new [] h = tt
-led_keeps d new (k ∷ ks) h = (
-  record {
-    table = k.table;
-    column = k.column.id;
-    info = info_to new k.column.info;
-    is = refl;
-    plain = h.0.plain;
-    kept = ap (λ (o : Option ColDef). elim o as (λ _. ℕ) [ None ↦ 0 | Some d ↦ formula_bytes d ]) h.0.found;
-  },
-  led_keeps d new ks h.1,
-)
-
--- the counts are as they were
-pub record SameCounts (s d : Document) : Type 0 where
-  pub sums : SameSums s d
-  pub maxima : SameMaxima s d
-
-same_counts : (s : Document) → SameCounts s s
-same_counts s = record { sums = record { tables = refl; cells = refl; weight = refl }; maxima = record { columns = refl; rows = refl; row_id = refl } }
-
-rename_same : (s : Document) → IsWhole s → (table new : List ℕ) → all_valid s (map action_of (renaming s table new)) ≡ true → SameCounts s (apply_all s (map action_of (renaming s table new)))
-rename_same s whole table new v =
-    let a : DocAction = action.RenameTable table new in
-    let led : List Step = map (led_to new) (referrers s table new true) in
-    let parts : (valid s a ≡ true) × (all_valid (apply s a) (map action_of led) ≡ true) = and_parts (valid s a) (all_valid (apply s a) (map action_of led)) v in
-    let p : (t : Table) × ((schema_table s table ≡ Some t) × (is_new_table s new ≡ true)) = passes_parts (schema_table s table) (λ _. is_new_table s new) parts.0 in
-    let new_parts : (not (has_id table_id s new) ≡ true) × (is_name new ≡ true) = and_parts (not (has_id table_id s new)) (is_name new) p.1.1 in
-    let there : AllByRecursion (IsLed (apply s a)) (referrers s table new true) = there-renaming s whole table new new_parts.1 (not_true (has_id table_id s new) new_parts.0) parts.0 in
-    let rest : SameSums (apply s a) (apply_all (apply s a) (map action_of led)) = all_same (apply s a) led (IsWhole-apply s a whole parts.0) parts.1 (led_keeps (apply s a) new (referrers s table new true) there) in
-    let moved : SumsMove s (apply s a) a = counts-apply s a whole parts.0 in
-    let mt : (counts (apply s a)).tables + 0 ≡ (counts s).tables + 0 = moved.tables in
-    let mc : (counts (apply s a)).cells + 0 ≡ (counts s).cells + 0 = moved.cells in
-    let mw : (counts (apply s a)).weight + 0 ≡ (counts s).weight + 0 = moved.weight in
-    record {
-      sums = record { tables = rest.tables ∙ omega (arith, mt); cells = rest.cells ∙ omega (arith, mc); weight = rest.weight ∙ omega (arith, mw) };
-      maxima = same_all s (renaming s table new) whole v (both_true (is_quiet a) (list_all (λ (x : Step). is_quiet x.action) led) refl (led_quiet new (referrers s table new true)));
-    }
-
-unless_same : (s : Document) (b : Bool) (steps : List Step) → (all_valid s (map action_of steps) ≡ true → SameCounts s (apply_all s (map action_of steps))) → all_valid s (map action_of (cond b [] steps)) ≡ true → SameCounts s (apply_all s (map action_of (cond b [] steps)))
-unless_same s true steps h v = same_counts s
-unless_same s false steps h v = h v
-
-renaming_same : (s : Document) → IsWhole s → (a : UserAction) → renames_table a ≡ true → all_valid s (map action_of (steps_of s a)) ≡ true → SameCounts s (after s a)
-renaming_same s whole (RenameTable table new) renames v = unless_same s (bytes_eq table new) (renaming s table (free_name (table_ids s) new)) (rename_same s whole table (free_name (table_ids s) new)) v
-renaming_same s whole (Add table single count has_row_ids ks) renames v = absurd (false≢true renames)
-renaming_same s whole (Update table single rows ks) renames v = absurd (false≢true renames)
-renaming_same s whole (Remove table single rows) renames v = absurd (false≢true renames)
-renaming_same s whole (AddTable table cs) renames v = absurd (false≢true renames)
-renaming_same s whole (RemoveTable table) renames v = absurd (false≢true renames)
-renaming_same s whole (AddColumn table c) renames v = absurd (false≢true renames)
-renaming_same s whole (RemoveColumn table column) renames v = absurd (false≢true renames)
-renaming_same s whole (RenameColumn table column new) renames v = absurd (false≢true renames)
-renaming_same s whole (ModifyColumn table c) renames v = absurd (false≢true renames)
-
-pub renaming_told : (s : Document) → IsWhole s → (a : UserAction) → renames_table a ≡ true → all_valid s (map action_of (steps_of s a)) ≡ true → (m e : Counted) → IsExact m s → TellsMaxima e s → TellsSums m (after s a) × TellsMaxima e (after s a)
-renaming_told s whole a renames v m e exact most =
-    let same : SameCounts s (after s a) = renaming_same s whole a renames v in
-    let told : TellsSums m s = none_told s m exact in (
-      record {
-        tables = told.tables ∙ ap capped (sym same.sums.tables);
-        cells = told.cells ∙ ap capped (sym same.sums.cells);
-        weight = told.weight ∙ ap capped (sym same.sums.weight);
-      },
-      maxima_from s (after s a) e same.maxima most,
-    )
 
 pub below_within : (s : Document) → Rattle.action_limits.specs.Tallies.are_within (counts s) ≡ true → IsBelow s 1024 1000000 4294967295
 below_within s h =

@@ -73,7 +73,8 @@ abbrev pub AreQuietLater : List Step → Type 0
 AreQuietLater [] = Unit {0}
 AreQuietLater (step ∷ steps) = list_all (λ (step : Step). is_quiet step.action) steps ≡ true
 
--- whether the action renames a table
-abbrev pub renames_table : UserAction → Bool
-renames_table (user.RenameTable table new) = true
-renames_table _ = false
+-- whether the action renames a table or a column
+abbrev pub is_renaming : UserAction → Bool
+is_renaming (user.RenameTable table new) = true
+is_renaming (user.RenameColumn table column new) = true
+is_renaming _ = false

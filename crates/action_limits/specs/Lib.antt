@@ -3,3 +3,4 @@ pub mod Capped
 pub mod Brought
 pub mod Grown
 pub mod Left
+pub mod Updated

@@ -10,14 +10,14 @@ ghost use Rattle.action_limits.specs.Capped.{AddsSo, AreMaximaAdded, capped, max
 ghost use Rattle.user_actions.specs.Kinds.{makes_rows};
 ghost use Rattle.action_limits.specs.Grown.{AreMaximaDescribed, AreMaximaGrown, grows_schema, new_tables};
 ghost use Rattle.user_actions.specs.Kinds.{table_of};
-ghost use Rattle.action_limits.specs.Left.{AreQuietLater, TellsMaxima, renames_table};
+ghost use Rattle.action_limits.specs.Left.{AreQuietLater, TellsMaxima, is_renaming};
 ghost use Rattle.user_actions.specs.StepLaws.{action_of};
 ghost use Rattle.action_limits.specs.Tallies.{IsExpansion, IsTally, are_within};
 
 use crate::Tally;
 use crate::limits::{Counted, first_passed, no_counts, wider};
 use crate::maxima::{columns_with_one, maxima_after, maxima_before, rows_described, rows_with};
-use crate::moves::after_steps;
+use crate::moves::{after_steps, after_updates};
 use crate::tally::{sums_of, tally_or_limit};
 use cell_types::Name;
 use doc_model::{DocTables, LimitKind, Step, StepList, UserAction};
@@ -59,8 +59,8 @@ fn maxima_after_steps<D: DocTables>(tables: &D, within: bool, steps: &[Step]) ->
     maxima_after(tables, within, &steps[0].action)
 }
 
-// What the renaming of a table comes to. It moves no counts: a column that refers to the table has
-// another type, and the formula that it had.
+// What a renaming comes to. Of its steps the update of resources alone moves counts: a column that
+// refers to the table has another type, and the formula that it had.
 fn renaming_expansion<D: DocTables>(
     alloc: Global,
     tables: &D,
@@ -71,17 +71,18 @@ fn renaming_expansion<D: DocTables>(
     requires allowed { is_allowed (D.document tables.now) action.now ≡ true }
     requires well_formed { has_whole_columns action.now ≡ true }
     requires tally { IsTally (D.document tables.now) tally }
-    requires renames { renames_table action.now ≡ true }
+    requires renames { is_renaming action.now ≡ true }
     ensures { IfOk result (λ e. IsExpansion (D.document tables.now) action.now e) }
 {
     let Some(steps) = steps(alloc, tables, action)? else {
         unreachable!()
     };
     let most = maxima_before(tables, tally.within);
-    Ok(settled(steps, sums_of(tally), most))
+    let sums = after_updates(tables, sums_of(tally), steps.as_slice());
+    Ok(settled(steps, sums, most))
 }
 
-// What an action comes to that makes no rows and renames no table.
+// What an action comes to that makes no rows and is no renaming.
 fn other_expansion<D: DocTables>(
     alloc: Global,
     tables: &D,
@@ -93,7 +94,7 @@ fn other_expansion<D: DocTables>(
     requires well_formed { has_whole_columns action.now ≡ true }
     requires tally { IsTally (D.document tables.now) tally }
     requires other { makes_rows action.now ≡ false }
-    requires stays { renames_table action.now ≡ false }
+    requires stays { is_renaming action.now ≡ false }
     ensures { IfOk result (λ e. IsExpansion (D.document tables.now) action.now e) }
 {
     let Some(steps) = steps(alloc, tables, action)? else {
@@ -245,7 +246,7 @@ fn schema_expansion<D: DocTables>(
 /// Errors: out of memory.
 /// Cost: the rows and values that are given; a column that changes costs all its cells, and a new
 /// id the ids beside it. Where records go or a table is renamed, a walk over all columns, and where
-/// records go over all cells of those that refer to the table. Where a table was above its bounds
+/// records go over all cells of those that refer to the table; a renaming costs the resources. Where a table was above its bounds
 /// before, a walk over all tables and columns.
 /// Source: docs/DEFINITIONS.md, "action_limits".
 pub fn expand<D: DocTables>(
@@ -265,7 +266,9 @@ pub fn expand<D: DocTables>(
         UserAction::AddTable { .. } | UserAction::AddColumn { .. } => {
             schema_expansion(alloc, tables, tally, action)
         }
-        UserAction::RenameTable { .. } => renaming_expansion(alloc, tables, tally, action),
+        UserAction::RenameTable { .. } | UserAction::RenameColumn { .. } => {
+            renaming_expansion(alloc, tables, tally, action)
+        }
         _ => other_expansion(alloc, tables, tally, action),
     }
 }

@@ -8,6 +8,7 @@ ghost use Rattle.doc_model.specs.DocumentLaws.{IsWhole};
 ghost use Rattle.doc_model.specs.declared.column.CellColumn.{CellColumn};
 ghost use Rattle.doc_readers.specs.Parts.{grid_at};
 ghost use Rattle.action_limits.specs.Capped.{IsCapped, all_moved, all_moved_at, capped, has_named, is_there, moved_by};
+ghost use Rattle.action_limits.specs.Updated.{all_updated_at, is_known, updated_by};
 
 use crate::limits::{Counted, no_counts};
 use crate::weighing::{
@@ -188,6 +189,32 @@ pub(crate) fn after_steps<D: DocTables>(tables: &D, before: Counted, steps: &[St
     let mut sums = before;
     for step in steps {
         sums = after_action(tables, sums, &step.action);
+    }
+    sums
+}
+
+// The sums after a step; they are as before where it updates no records.
+fn after_update<D: DocTables>(tables: &D, before: Counted, step: &Step) -> Counted
+    requires whole { IsWhole (D.document tables.now) }
+    requires known { is_known (D.document tables.now) step.now ≡ true }
+    ensures { result ≡ updated_by (D.document tables.now) before step.now }
+{
+    match &step.action {
+        DocAction::BulkUpdate { .. } => after_action(tables, before, &step.action),
+        _ => before,
+    }
+}
+
+/// The sums after steps of which the updates of records alone move them, each taken at the document
+/// before all of them. The tables of the others need not be there.
+pub(crate) fn after_updates<D: DocTables>(tables: &D, before: Counted, steps: &[Step]) -> Counted
+    requires whole { IsWhole (D.document tables.now) }
+    requires known { list_all (is_known (D.document tables.now)) steps.now ≡ true }
+    ensures { result ≡ all_updated_at (D.document tables.now) before steps.now }
+{
+    let mut sums = before;
+    for step in steps {
+        sums = after_update(tables, sums, step);
     }
     sums
 }

@@ -1,7 +1,9 @@
-//! Tests of rules: their formulas, their values, their permissions and what they decide.
+//! Tests of rules: their formulas, their values, their permissions, what they decide and what
+//! renames make of the texts of their resources.
 //!
-//! Stands on `acl_formula`, `acl_rules` and what these stand on. Nothing stands on it; it is a
-//! crate of its own, so that these are not proved a second time with their tests.
+//! Stands on `acl_formula`, `acl_rules`, `renamed_resources` and what these stand on. Nothing
+//! stands on it; it is a crate of its own, so that these are not proved a second time with their
+//! tests.
 //!
 //! Promises: nothing. What is tested is what no clause says: that the tables of operators are the
 //! ones meant, and that calls succeed where there is memory.
@@ -14,5 +16,7 @@ mod decisions;
 mod formulas;
 #[cfg(test)]
 mod permission_texts;
+#[cfg(test)]
+mod resources;
 #[cfg(test)]
 mod samples;

@@ -6,6 +6,7 @@ mod FreshIdsLemmas
 mod InfoLemmas
 mod ColumnLemmas
 pub mod LedLemmas
+pub mod ResourceLemmas
 mod LoopLemmas
 mod NumberLemmas
 mod ObjectionLemmas

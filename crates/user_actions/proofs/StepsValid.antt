@@ -9,7 +9,7 @@ use Rattle.doc_model.specs.declared.action.DocAction.TheVariants as action
 use Rattle.doc_model.specs.declared.action.Step.{Step}
 use Rattle.doc_model.specs.declared.user_action.UserAction.{UserAction}
 use Rattle.doc_model.specs.declared.user_action.UserAction.TheVariants.{Add, Update, Remove, AddTable, RemoveTable, RenameTable, AddColumn, RemoveColumn, RenameColumn, ModifyColumn}
-use Rattle.doc_model.specs.Apply.{all_valid, apply}
+use Rattle.doc_model.specs.Apply.{all_valid, apply, apply_all}
 use Rattle.doc_model.specs.Document.{Document, Table, table_id}
 use Rattle.doc_model.specs.DocumentLaws.{IsWhole}
 use Rattle.doc_model.specs.Valid.{schema_table, valid}
@@ -17,6 +17,7 @@ use Rattle.doc_model.specs.ViewEdits.{if_any}
 use Rattle.doc_model.specs.WellFormed.{has_whole_columns}
 use Rattle.doc_model.proofs.Choices.{both_true}
 use Rattle.doc_model.proofs.DocumentParts.{passes_parts}
+use Rattle.doc_model.proofs.InverseLaws.{IsWhole-apply, IsWhole-apply_all}
 use Rattle.name_rules.specs.FreeName.{free_name}
 use Rattle.user_actions.specs.Allowed.{is_allowed}
 use Rattle.user_actions.specs.Columns.{may_be_new}
@@ -24,12 +25,14 @@ use Rattle.user_actions.specs.StepLaws.{action_of, HasFresh}
 use Rattle.user_actions.specs.Marked.{direct}
 use Rattle.user_actions.specs.Objections.{has_good_id}
 use Rattle.user_actions.specs.References.{clearings, led_to, referrers}
-use Rattle.user_actions.specs.Steps.{all_fitted, column_ids, column_said, last_row, numbers_after, renaming, row_ids, steps_of, table_ids, table_said}
+use Rattle.user_actions.specs.ResourceSteps.{columns_moved, tables_moved}
+use Rattle.user_actions.specs.Steps.{all_fitted, column_ids, column_renaming, column_said, last_row, numbers_after, renaming, row_ids, steps_of, table_ids, table_said}
 use Rattle.user_actions.proofs.ClearedLemmas.{valid_clearings}
 use Rattle.user_actions.proofs.LedLemmas.{valid-renaming}
 use Rattle.user_actions.proofs.FitLemmas.{all_base-fit, is_base-fit}
 use Rattle.user_actions.proofs.RecordStepLemmas.{valid-add, valid-update, valid-remove}
 use Rattle.user_actions.proofs.ModifiedLemmas.{valid-modified}
+use Rattle.user_actions.proofs.ResourceLemmas.{kept-led, kept-rename_column, kept-rename_table, valid-behind, valid-columns_moved, valid-tables_moved}
 use Rattle.user_actions.proofs.SchemaStepLemmas.{is_taken-ids, valid-add_table, valid-remove_table, valid-rename_table, valid-add_column, valid-remove_column, valid-rename_column}
 
 -- one action
@@ -42,10 +45,6 @@ any_valid s [] a h = refl
 any_valid s (r ∷ rows) a h = one_valid s a h
 
 -- none where the ids are the same
-other_valid : (s : Document) (b : Bool) (a : DocAction) → (b ≡ false → valid s a ≡ true) → all_valid s (map action_of (cond b [] (direct a ∷ []))) ≡ true
-other_valid s true a h = refl
-other_valid s false a h = one_valid s a (h refl)
-
 unless_valid : (s : Document) (b : Bool) (steps : List Step) → (b ≡ false → all_valid s (map action_of steps) ≡ true) → all_valid s (map action_of (cond b [] steps)) ≡ true
 unless_valid s true steps h = refl
 unless_valid s false steps h = h refl
@@ -66,15 +65,24 @@ all_valid-steps_of s w (RenameTable table new) h whole fresh =
     (λ differs.
     let n : List ℕ = free_name (table_ids s) new in
     let a : DocAction = action.RenameTable table n in
+    let led : List Step = map (led_to n) (referrers s table n true) in
     let v : valid s a ≡ true = valid-rename_table s table n (λ t. is_name new) h (fresh differs).0 (fresh differs).1 in
-    both_true (valid s a) (all_valid (apply s a) (map action_of (map (led_to n) (referrers s table n true)))) v
-    (valid-renaming s w table n (λ t. is_name new) h (fresh differs).1 (sym (is_taken-ids table_id s n) ∙ (fresh differs).0) v))
+    let vs : all_valid s (map action_of (direct a ∷ led)) ≡ true = both_true (valid s a) (all_valid (apply s a) (map action_of led)) v
+    (valid-renaming s w table n (λ t. is_name new) h (fresh differs).1 (sym (is_taken-ids table_id s n) ∙ (fresh differs).0) v) in
+    valid-behind s (direct a ∷ led) (tables_moved s table n) vs
+    (valid-tables_moved s (apply_all s (map action_of (direct a ∷ led))) w (IsWhole-apply_all s (map action_of (direct a ∷ led)) w vs)
+    (kept-led n (apply s a) (referrers s table n true) ∙ kept-rename_table s table n) table n (fresh differs).1))
 all_valid-steps_of s w (AddColumn table c) h whole fresh =
     let p : (t : Table) × ((schema_table s table ≡ Some t) × ((is_name c.id && may_be_new c) ≡ true)) = passes_parts (schema_table s table) (λ t. is_name c.id && may_be_new c) h in
     one_valid s (action.AddColumn table (column_said s table c))
     (valid-add_column s table c (λ t. is_name c.id && may_be_new c) h (and_parts (is_name c.id) (may_be_new c) p.1.1).1 fresh.0 fresh.1)
 all_valid-steps_of s w (RemoveColumn table column) h whole fresh = one_valid s (action.RemoveColumn table column) (valid-remove_column s table column h)
 all_valid-steps_of s w (RenameColumn table column new) h whole fresh =
-    other_valid s (bytes_eq column new) (action.RenameColumn table column (free_name (column_ids s table) new))
-    (λ differs. valid-rename_column s table column new (free_name (column_ids s table) new) h (fresh differs).0 (fresh differs).1)
+    unless_valid s (bytes_eq column new) (column_renaming s table column (free_name (column_ids s table) new))
+    (λ differs.
+    let n : List ℕ = free_name (column_ids s table) new in
+    let a : DocAction = action.RenameColumn table column n in
+    let v : valid s a ≡ true = valid-rename_column s table column new n h (fresh differs).0 (fresh differs).1 in
+    both_true (valid s a) (all_valid (apply s a) (map action_of (columns_moved s table column n))) v
+    (valid-columns_moved s (apply s a) w (IsWhole-apply s a w v) (kept-rename_column s table column n) table column n))
 all_valid-steps_of s w (ModifyColumn table c) h whole fresh = valid-modified is_base-fit s w table c h

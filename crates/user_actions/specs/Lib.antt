@@ -7,6 +7,7 @@ pub mod Marked
 pub mod CellUpdates
 pub mod References
 pub mod Modified
+pub mod ResourceSteps
 pub mod Steps
 pub mod StepLaws
 pub mod Allowed

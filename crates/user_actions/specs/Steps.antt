@@ -27,6 +27,7 @@ use Rattle.user_actions.specs.Columns.{info_said, new_info}
 use Rattle.user_actions.specs.Marked.{direct}
 use Rattle.user_actions.specs.Modified.{modified}
 use Rattle.user_actions.specs.References.{clearings, led_to, referrers}
+use Rattle.user_actions.specs.ResourceSteps.{columns_moved, tables_moved}
 
 -- the greatest row of a table, 0 where it has none
 abbrev pub last_row : Document → List ℕ → ℕ
@@ -80,10 +81,16 @@ table_said s table cs =
     action.AddTable (free_name (table_ids s) table) (last_row s tables_id + 1)
     (new_columns [] (last_row s columns_id) cs)
 
--- a table under a new id, and then the columns that refer to it
+-- a table under a new id, then the columns that refer to it, and the resources that name it
 abbrev pub renaming : Document → List ℕ → List ℕ → List Step
 renaming s table new =
     direct (action.RenameTable table new) ∷ map (led_to new) (referrers s table new true)
+    ++ tables_moved s table new
+
+-- a column under a new id, and then the resources that list it
+abbrev pub column_renaming : Document → List ℕ → List ℕ → List ℕ → List Step
+column_renaming s table column new =
+    direct (action.RenameColumn table column new) ∷ columns_moved s table column new
 
 -- the document actions of a user action; a rename to the own id is none
 abbrev pub steps_of : Document → UserAction → List Step
@@ -103,7 +110,7 @@ steps_of s (user.AddColumn table c) = direct (action.AddColumn table (column_sai
 steps_of s (user.RemoveColumn table column) = direct (action.RemoveColumn table column) ∷ []
 steps_of s (user.RenameColumn table column new) =
     cond (bytes_eq column new) []
-    (direct (action.RenameColumn table column (free_name (column_ids s table) new)) ∷ [])
+    (column_renaming s table column (free_name (column_ids s table) new))
 steps_of s (user.ModifyColumn table c) = modified table (grid_at s table) c
 
 -- the greatest of the new rows of an action, 0 where it makes none

@@ -1,8 +1,8 @@
 //! User actions: why one is refused, and the document actions that it stands for.
 //!
 //! Stands on `doc_model` (documents, views and user actions), `doc_readers` (what a store tells),
-//! `name_rules` (free ids), `cell_types` and `list_ops`. Used by `view_parts`, `action_limits` and
-//! the core.
+//! `renamed_resources` (what rules are about after renames), `name_rules` (free ids), `cell_types`
+//! and `list_ops`. Used by `view_parts`, `action_limits` and the core.
 //!
 //! Promises: `refuse` answers the first objection of specs/Objections.antt, from the action and the
 //! view alone; `one_table_law` says that the view of the table that the action names is enough.
@@ -28,6 +28,7 @@ mod modifying;
 mod record_steps;
 mod referrers;
 mod refusing;
+mod resource_steps;
 mod rows;
 mod schema_steps;
 mod table_readers;

@@ -10,12 +10,13 @@ ghost use Rattle.name_rules.specs.FreeName.{IsFresh, free_name};
 ghost use Rattle.user_actions.specs.Objections.{has_good_id};
 ghost use Rattle.user_actions.specs.StepLaws.{AreFresh};
 ghost use Rattle.user_actions.specs.Marked.{direct};
-ghost use Rattle.user_actions.specs.Steps.{column_ids, column_said, last_row, new_column, new_columns, renaming, table_ids, table_said};
+ghost use Rattle.user_actions.specs.Steps.{column_ids, column_renaming, column_said, last_row, new_column, new_columns, renaming, table_ids, table_said};
 
 use crate::columns::new_info_said;
 use crate::leading::add_led;
 use crate::record_steps::direct;
 use crate::referrers::referrers;
+use crate::resource_steps::{add_columns_moved, add_tables_moved};
 use crate::table_readers::{column_ids, last_row, table_ids};
 use cell_types::Name;
 use doc_model::{ColDef, ColDefList, DocAction, DocTables, LAST_ROW_ID, StepList, UserCol};
@@ -221,7 +222,7 @@ fn renamed_table(alloc: Global, table: &Name, new: &Name) -> Result<StepList, Al
     direct(alloc, action)
 }
 
-// A table under a new id, and then the columns that refer to it.
+// A table under a new id, then the columns that refer to it, and the resources that name it.
 fn renaming<D: DocTables>(
     alloc: Global,
     tables: &D,
@@ -234,6 +235,7 @@ fn renaming<D: DocTables>(
     let mut steps = renamed_table(alloc, table, new)?;
     let known = referrers(alloc, tables, table, new, true)?;
     add_led(new, &known, &mut steps)?;
+    add_tables_moved(alloc, tables, table, new, &mut steps)?;
     Ok(steps)
 }
 
@@ -265,15 +267,34 @@ pub(crate) fn rename_table_steps<D: DocTables>(
 fn renamed_column(
     alloc: Global,
     table: &Name,
-    column: &str,
-    new: Name,
+    column: &Name,
+    new: &Name,
 ) -> Result<StepList, AllocError>
-    requires { is_name column.now ≡ true }
-    ensures { IfOk result (λ l. l ≡ direct (RenameColumn table.now column.now new) ∷ []) }
+    ensures { IfOk result (λ l. l ≡ direct (RenameColumn table.now column.now new.now) ∷ []) }
 {
-    let column = name_of(alloc, column)?;
-    let table = table.clone()?;
-    direct(alloc, DocAction::RenameColumn { table, column, new })
+    let action = DocAction::RenameColumn {
+        table: table.clone()?,
+        column: column.clone()?,
+        new: new.clone()?,
+    };
+    direct(alloc, action)
+}
+
+// A column under a new id, and then the resources that list it.
+fn column_renaming<D: DocTables>(
+    alloc: Global,
+    tables: &D,
+    table: &Name,
+    column: &Name,
+    new: &Name,
+) -> Result<StepList, AllocError>
+    requires { IsWhole (D.document tables.now) }
+    ensures { IfOk result
+        (λ l. l ≡ column_renaming (D.document tables.now) table.now column.now new.now) }
+{
+    let mut steps = renamed_column(alloc, table, column, new)?;
+    add_columns_moved(alloc, tables, table, column, new, &mut steps)?;
+    Ok(steps)
 }
 
 /// The steps that rename a column.
@@ -292,14 +313,15 @@ pub(crate) fn rename_column_steps<D: DocTables>(
         → IsFresh (column_ids (D.document tables.now) table.now) new.now) }
     ensures made { IfOk result
         (λ l. l ≡ cond (bytes_eq column.now new.now) []
-        (direct (RenameColumn table.now column.now
-        (free_name (column_ids (D.document tables.now) table.now) new.now)) ∷ [])) }
+        (column_renaming (D.document tables.now) table.now column.now
+        (free_name (column_ids (D.document tables.now) table.now) new.now))) }
 {
     if column == new {
         return Ok(StepList::new(alloc));
     }
     let new = new_column_id(alloc, tables, table, new)?;
-    let steps = renamed_column(alloc, table, column, new)?;
+    let column = name_of(alloc, column)?;
+    let steps = column_renaming(alloc, tables, table, &column, &new)?;
     Ok(steps)
 }
 

@@ -1,0 +1,3 @@
+pub mod BaseLemmas
+mod LengthLemmas
+mod TextLemmas

@@ -1,0 +1,3 @@
+pub mod NameLists
+pub mod Renamed
+pub mod LengthLaw

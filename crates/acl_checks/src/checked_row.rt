@@ -5,7 +5,6 @@ use cell_types::{CellValue, Name};
 use doc_model::DocReader;
 
 /// A row of an evaluated document: one that was kept before an action, or one that is there.
-#[derive(Clone, Copy)]
 pub(crate) enum CheckedRow<'a, D> {
     Kept(&'a AttributeRow),
     There(&'a D, &'a Name, u32),
@@ -18,7 +17,7 @@ impl<D: DocReader> RowReader for CheckedRow<'_, D> {
 
     fn id(&self) -> u32 {
         match self {
-            CheckedRow::Kept(row) => row.id(),
+            CheckedRow::Kept(row) => row.row,
             CheckedRow::There(_, _, row) => *row,
         }
     }

@@ -163,9 +163,10 @@ module _ (names : List (List ℕ)) where
 
   rules_covered : (rules : List BookRule) → AllByRecursion IsIn (rules_read rules) → AllByRecursion RuleCovered rules
   rules_covered [] h = tt
-  rules_covered (b ∷ rules) h =
-      ( formula_covered b.rule.formula (all_left IsIn (formula_reads b.rule.formula) (rules_read rules) h)
-      , rules_covered rules (all_right IsIn (formula_reads b.rule.formula) (rules_read rules) h) )
+  rules_covered (b ∷ rules) h = (
+    formula_covered b.rule.formula (all_left IsIn (formula_reads b.rule.formula) (rules_read rules) h),
+    rules_covered rules (all_right IsIn (formula_reads b.rule.formula) (rules_read rules) h),
+  )
 
 -- a name stays, and a new one comes
 any_left : (f : List ℕ → Bool) (xs ys : List (List ℕ)) → list_any f xs ≡ true → list_any f (xs ++ ys) ≡ true
@@ -218,11 +219,14 @@ module _ (book : List BookRule) (table : List ℕ) where
   part_covered f within = subst (AllByRecursion (RuleCovered read_names)) (filter_wider f (λ (b : BookRule). is_on table b.resource) within book)
       (all_filtered (RuleCovered read_names) f (filter (λ (b : BookRule). is_on table b.resource) book) on_covered)
 
-  chain_covered : (column : Option (List ℕ)) → AllByRecursion (RuleCovered read_names) (chain_of book (Some table) column)
-  chain_covered None = all_both (RuleCovered read_names) (rules_of (of_table table) book) (rules_of of_document book)
+  table_covered : AllByRecursion (RuleCovered read_names) (rules_of (of_table table) book ++ rules_of of_document book)
+  table_covered = all_both (RuleCovered read_names) (rules_of (of_table table) book) (rules_of of_document book)
       (part_covered (λ (b : BookRule). is_of (of_table table) b.resource) (λ b h. table_within table b.resource h)) document_covered
+
+  chain_covered : (column : Option (List ℕ)) → AllByRecursion (RuleCovered read_names) (chain_of book (Some table) column)
+  chain_covered None = table_covered
   chain_covered (Some c) = all_both (RuleCovered read_names) (rules_of (of_column table c) book) (rules_of (of_table table) book ++ rules_of of_document book)
-      (part_covered (λ (b : BookRule). is_of (of_column table c) b.resource) (λ b h. column_within table c b.resource h)) (chain_covered None)
+      (part_covered (λ (b : BookRule). is_of (of_column table c) b.resource) (λ b h. column_within table c b.resource h)) table_covered
 
   -- no other column of the row before has a part in what is decided
   pub decision_narrowed : (x : Asked) (p : Perm) (column : Option (List ℕ)) → decision_in (narrowed_before (columns_read book table) x) p (chain_of book (Some table) column) ≡ decision_in x p (chain_of book (Some table) column)

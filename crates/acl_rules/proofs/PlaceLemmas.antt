@@ -1,12 +1,13 @@
 -- Things by their places, and rules beside resources.
-use Rattle.std.proofs.Common.{◌≡◌, ◌∙◌, ap, refl, sym, ℕ, zero, suc, ◌+◌, ◌<◌, arith, take, get_or, Bool, true, false, cond, List, [], ◌∷◌, ◌++◌, length, filter, Option, Some, None, Vec, Global, bytes_eq}
+use Rattle.std.proofs.Common.{◌≡◌, ◌∙◌, ap, refl, sym, ℕ, zero, suc, ◌+◌, ◌<◌, ◌==◌, arith, take, get_or, Bool, true, false, cond, List, [], ◌∷◌, ◌++◌, length, filter, Option, Some, None, Vec, Global, bytes_eq}
 use Rattle.std.specs.List.{slice_get}
+use Rattle.std.proofs.lemmas.Bool.{eqb-true, false_from_ne_true}
 use Rattle.std.proofs.lemmas.Slice.Eq.{bytes_eq-Decides}
 use Rattle.std.proofs.lemmas.Grind.{common_steps, take_at_read}
 use Rattle.acl_rules.specs.declared.resource.Resource.{Resource}
 use Rattle.acl_rules.specs.declared.rule.Rule.{Rule}
 use Rattle.acl_rules.specs.Places.{listed, picked, places_from, places_of}
-use Rattle.acl_rules.specs.RuleBook.{BookRule, paired, rules_in}
+use Rattle.acl_rules.specs.RuleBook.{BookRule, has_no_rules, paired, rules_in}
 
 module _ {X : Type 0} (f : X → Bool) where
   -- one more at the end
@@ -57,6 +58,12 @@ pub rules_paired : (rules : List Rule) (resources : List (Option Resource)) → 
 rules_paired [] resources same = refl
 rules_paired (r ∷ rules) [] same = absurd (omega arith)
 rules_paired (r ∷ rules) (q ∷ resources) same = ap (λ (rest : List Rule). r ∷ rest) (rules_paired rules resources (omega arith))
+
+-- no rules make no book
+pub none_paired : (rules : List Rule) (resources : List (Option Resource)) → length rules ≡ length resources → (length rules == 0) ≡ has_no_rules (paired rules resources)
+none_paired [] resources same = refl
+none_paired (r ∷ rules) [] same = absurd (omega arith)
+none_paired (r ∷ rules) (q ∷ resources) same = false_from_ne_true (length (r ∷ rules) == 0) (λ e. let none = eqb-true (length (r ∷ rules)) 0 e in omega (arith, none))
 
 pub places_paired : (f : Option Resource → Bool) (n : ℕ) (rules : List Rule) (resources : List (Option Resource)) → length rules ≡ length resources
     → places_from (λ (b : BookRule). f b.resource) n (paired rules resources) ≡ places_from f n resources

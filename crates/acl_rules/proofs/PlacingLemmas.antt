@@ -38,8 +38,10 @@ tied x y h i = by (int_cmp x.0 y.0) (nat_cmp x.1 y.1) refl refl (int_ranks x.0 y
   where
     back : int_cmp y.0 x.0 ≡ ordering_reverse (int_cmp x.0 y.0)
     back = int_cmp_total.antisymm y.0 x.0
+
     back_row : nat_cmp y.1 x.1 ≡ ordering_reverse (nat_cmp x.1 y.1)
     back_row = nat_cmp_total.antisymm y.1 x.1
+
     by : (o p : Ordering) → int_cmp x.0 y.0 ≡ o → nat_cmp x.1 y.1 ≡ p → MatchOrdering (int_cmp x.0 y.0) (x.0 <ℤ y.0) (x.0 ≡ y.0) (y.0 <ℤ x.0) → MatchOrdering (nat_cmp x.1 y.1) (x.1 < y.1) (x.1 ≡ y.1) (y.1 < x.1) → x ≡ y
     by Less p e f m n = absurd (cc)
     by Greater p e f m n = let b = back in absurd (cc)
@@ -50,20 +52,26 @@ tied x y h i = by (int_cmp x.0 y.0) (nat_cmp x.1 y.1) refl refl (int_ranks x.0 y
         let row : x.1 ≡ y.1 = subst (λ (o : Ordering). MatchOrdering o (x.1 < y.1) (x.1 ≡ y.1) (y.1 < x.1)) f n in
         λ k. (place k, row k)
 
+-- a pair is not below one of no greater place and a lesser row
+behind : (x y : ℤ × ℕ) → int_lt x.0 y.0 ≡ false → y.1 < x.1 → below x y ≡ false
+behind x y e later = by (int_lt y.0 x.0) (x.1 == y.1) refl refl
+  where
+    greater : nat_lt x.1 y.1 ≡ false
+    greater = le-ltb x.1 y.1 (omega (arith, later))
+
+    by : (a b : Bool) → int_lt y.0 x.0 ≡ a → (x.1 == y.1) ≡ b → below x y ≡ false
+    by true b f g = cc
+    by false true f g = let h = greater in cc
+    by false false f g = let h = greater in cc
+
+-- a pair is below one of a greater place
+ahead : (x y : ℤ × ℕ) → int_lt x.0 y.0 ≡ true → below x y ≡ true
+ahead x y e = cc
+
 module _ (s : Document) where
   -- the same of rows
   abbrev row_below : ℕ → ℕ → Bool
   row_below q r = below (placed s q) (placed s r)
-
-  behind : (q r : ℕ) → int_lt (place_of s q) (place_of s r) ≡ false → r < q → row_below q r ≡ false
-  behind q r e later = by (int_lt (place_of s r) (place_of s q)) (q == r) refl refl
-    where
-      greater : nat_lt q r ≡ false
-      greater = le-ltb q r (omega (arith, later))
-      by : (a b : Bool) → int_lt (place_of s r) (place_of s q) ≡ a → (q == r) ≡ b → row_below q r ≡ false
-      by true b f g = cc
-      by false true f g = let h = greater in cc
-      by false false f g = let h = greater in cc
 
   all_put : (P : ℕ → Type 0) (r : ℕ) (rows : List ℕ) → P r → AllByRecursion P rows → AllByRecursion P (put_by_place s r rows)
   all_put P r [] h all = (h, tt)
@@ -86,10 +94,10 @@ module _ (s : Document) where
     where
       by : (b : Bool) → int_lt (place_of s q) (place_of s r) ≡ b → Rises row_below (put_by_place s r rows) → Rises row_below (cond b (q ∷ put_by_place s r rows) (r ∷ q ∷ rows))
       by true e rest =
-          let first : row_below q r ≡ true = cc in
+          let first : row_below q r ≡ true = ahead (placed s q) (placed s r) e in
           (all_put (λ z. row_below z q ≡ false) r rows (order.one_way (placed s q) (placed s r) first) h.0, rest)
       by false e rest =
-          let first = behind q r e later.0 in
+          let first = behind (placed s q) (placed s r) e later.0 in
           ((first, all_chained q r rows first h.0), h)
 
   place_rises : (rows : List ℕ) → IsAscending rows → Rises row_below (by_place s rows)

@@ -19,9 +19,10 @@ module _ {X : Type 0} (lt : X → X → Bool) where
 
   far_rises : (xs : List X) → ((i j : ℕ) (d : X) → i ≤ j → j < length xs → lt (get_or xs j d) (get_or xs i d) ≡ false) → Rises xs
   far_rises [] h = tt
-  far_rises (x ∷ xs) h =
-      ( each_from (λ y. lt y x ≡ false) xs (λ k d w. h 0 (suc k) d (omega arith) (omega (arith, w)))
-      , far_rises xs (λ i j d a b. h (suc i) (suc j) d (omega (arith, a)) (omega (arith, b))) )
+  far_rises (x ∷ xs) h = (
+    each_from (λ y. lt y x ≡ false) xs (λ k d w. h 0 (suc k) d (omega arith) (omega (arith, w))),
+    far_rises xs (λ i j d a b. h (suc i) (suc j) d (omega (arith, a)) (omega (arith, b))),
+  )
 
   pub sorted_rises : IsStrictWeakOrder lt → (xs : List X) → IsSortedBy lt xs → Rises xs
   sorted_rises o xs h = far_rises xs (sorted_far lt o xs h)
@@ -38,6 +39,7 @@ module _ {X : Type 0} (lt : X → X → Bool) where
       where
         there : sum_by (one_if x) (z ∷ zs) ≡ one_if x z + sum_by (one_if x) zs
         there = sum_by-cons (one_if x) z zs
+
         by : (a b : Bool) → lt x z ≡ a → lt z x ≡ b → (0 < sum_by (one_if x) zs → lt x y ≡ false) → lt x y ≡ false
         by false false e f later = ap (λ (w : X). lt w y) (tied x z e f) ∙ all.0
         by true b e f later = later (let none : one_if x z ≡ 0 = ap (λ (c : Bool). cond c 0 (cond (lt z x) 0 1)) e in omega (arith, some, there, none))
@@ -52,8 +54,10 @@ module _ {X : Type 0} (lt : X → X → Bool) where
       where
         left : sum_by (one_if x) (x ∷ xs) ≡ one_if x x + sum_by (one_if x) xs
         left = sum_by-cons (one_if x) x xs
+
         right : sum_by (one_if x) (y ∷ ys) ≡ one_if x y + sum_by (one_if x) ys
         right = sum_by-cons (one_if x) y ys
+
         by : (b : Bool) → lt x y ≡ b → lt x y ≡ false
         by false e = e
         by true e =

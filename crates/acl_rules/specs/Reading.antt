@@ -1,5 +1,5 @@
 -- Which columns of the row before a change rules read: those that their formulas mention as `rec.N`.
-use Rattle.std.specs.Prelude.{ℕ, Bool, option_map, cond, List, [], ◌∷◌, ◌++◌, filter, Option, Some, None, bytes_eq}
+use Rattle.std.specs.Prelude.{ℕ, Bool, option_map, cond, List, [], ◌∷◌, ◌++◌, filter, Option, Some, None, bytes_eq, slice_get}
 use Rattle.std.specs.List.{list_any}
 use Rattle.formula_parse.specs.Tree.{Tree}
 use Rattle.acl_formula.specs.Asked.{Asked}
@@ -30,6 +30,16 @@ formula_reads (Some tree) = mentions_read (mentioned tree)
 abbrev pub rules_read : List BookRule → List (List ℕ)
 rules_read [] = []
 rules_read (b ∷ rules) = formula_reads b.rule.formula ++ rules_read rules
+
+-- those that a rule reads, where there is one
+abbrev pub rule_reads : Option BookRule → List (List ℕ)
+rule_reads None = []
+rule_reads (Some b) = formula_reads b.rule.formula
+
+-- those that the rules at these places read
+abbrev pub places_read : List BookRule → List ℕ → List (List ℕ)
+places_read book [] = []
+places_read book (place ∷ places) = rule_reads (slice_get book place) ++ places_read book places
 
 -- the rules about a table, its columns or the document
 abbrev pub rules_about : List ℕ → List BookRule → List BookRule

@@ -60,10 +60,11 @@ impl RuleBook {
     /// Whether there is no rule.
     ///
     /// Memory: none.
+    #[tactic(auto, using(crate::proofs::PlaceLemmas::none_paired))]
     pub fn is_empty(&self) -> bool
         ensures { result ≡ has_no_rules self.now }
     {
-        self.rules.is_empty()
+        self.rules.as_slice().is_empty()
     }
 
     // The rule at a place, with what it is about.

@@ -171,7 +171,6 @@ fn resources_in<D: DocReader>(
 }
 
 // The rules in these rows.
-#[tactic(auto, using(crate::proofs::LoadedLemmas::book_paired))]
 fn book_in<D: DocReader>(
     alloc: Global,
     tables: &D,
@@ -184,7 +183,10 @@ fn book_in<D: DocReader>(
 {
     let rules = rules_in(alloc, tables, ids, rows)?;
     match resources_in(alloc, tables, ids, rows) {
-        Ok(resources) => RuleBook::new(alloc, rules, resources),
+        Ok(resources) => {
+            let book = RuleBook::new(alloc, rules, resources)?;
+            Ok(book)
+        }
         Err(error) => {
             drop(rules);
             Err(error)
@@ -197,11 +199,11 @@ fn book_in<D: DocReader>(
 /// Errors: out of memory.
 /// Memory: the rules, and while it runs a pair of numbers for each. Cost: sorting the rules, and
 /// reading their texts.
-#[tactic(auto, unfolding(crate::specs::Loaded::book_of), using(crate::proofs::LoadedLemmas::book_placed))]
 pub fn load<D: DocReader>(alloc: Global, tables: &D) -> Result<RuleBook, AllocError>
     ensures { IfOk result (λ book. book ≡ book_of (D.document tables.now)) }
 {
     let ids = rule_ids(alloc)?;
     let rows = rows_by_place(alloc, tables, &ids)?;
-    book_in(alloc, tables, &ids, rows.as_slice())
+    let book = book_in(alloc, tables, &ids, rows.as_slice())?;
+    Ok(book)
 }

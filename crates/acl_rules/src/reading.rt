@@ -1,10 +1,9 @@
 //! Columns that rules read of the row before a change.
 
-ghost use Rattle.std.specs.Prelude.{◌≡◌, [], ◌∷◌, IfOk, OnOk};
+ghost use Rattle.std.specs.Prelude.{◌≡◌, IfOk, OnOk, slice_get};
 ghost use Rattle.std.specs.List.{list_any};
 ghost use Rattle.std.specs.Str.{bytes_eq};
-ghost use Rattle.acl_rules.specs.Places.{picked};
-ghost use Rattle.acl_rules.specs.Reading.{columns_read, formula_reads, mentions_read, read_by, rules_read, with_name, with_names};
+ghost use Rattle.acl_rules.specs.Reading.{columns_read, formula_reads, mentions_read, places_read, read_by, rule_reads, with_name, with_names};
 
 use crate::book::RuleBook;
 use acl_formula::{Mention, RuleTree};
@@ -57,7 +56,7 @@ fn note_formula(names: &mut NameList, formula: &Option<RuleTree>) -> Result<(), 
 // What the rule at a place reads, if there is one.
 fn note_place(names: &mut NameList, book: &RuleBook, place: usize) -> Result<(), AllocError>
     ensures { OnOk result
-        (names.new ≡ with_names names.old (rules_read (picked book.now (place ∷ [])))) }
+        (names.new ≡ with_names names.old (rule_reads (slice_get book.now place))) }
 {
     match book.rule_at(place) {
         Some((rule, _)) => note_formula(names, &rule.formula),
@@ -65,14 +64,9 @@ fn note_place(names: &mut NameList, book: &RuleBook, place: usize) -> Result<(),
     }
 }
 
-#[tactic(auto, using(crate::proofs::ReadingLemmas::first_read))]
-fn note_places(
-    names: &mut NameList,
-    book: &RuleBook,
-    places: &[usize],
-) -> Result<(), AllocError>
-    ensures { OnOk result
-        (names.new ≡ with_names names.old (rules_read (picked book.now places.now))) }
+#[tactic(auto, using(crate::proofs::ReadingLemmas::names_append))]
+fn note_places(names: &mut NameList, book: &RuleBook, places: &[usize]) -> Result<(), AllocError>
+    ensures { OnOk result (names.new ≡ with_names names.old (places_read book.now places.now)) }
 {
     for place in places {
         note_place(names, book, *place)?;

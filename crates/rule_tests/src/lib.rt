@@ -18,5 +18,6 @@ mod formulas;
 mod permission_texts;
 #[cfg(test)]
 mod resources;
+mod resource_texts;
 #[cfg(test)]
 mod samples;

@@ -4,9 +4,9 @@
     tools/try_edits.py NAME..
 
 An edit costs the gate a check, so crates/NAME/must-fail/ has the few that tell most, and tools/edits/NAME/
-the others. This copies the repository to a scratch folder, puts the spare edits of the named crates in the
-place of the gate's, and runs `rt ci` of these crates there, which takes the proofs that the gate kept and
-fails where an edit is not refused. It ends with that command's status.
+the others. This copies the repository, with what its checks kept, to a scratch folder beside it, puts the
+spare edits of the named crates in the place of the gate's, and runs `rt must-fail` of these crates there,
+which fails where an edit is not refused. It ends with that command's status.
 """
 
 import os
@@ -19,10 +19,15 @@ ROOT = os.path.dirname(os.path.dirname(os.path.abspath(__file__)))
 
 
 def copy_with_spare_edits(to, names):
-    """Copies what `rt` reads, with the spare edits of these crates for the gate's."""
+    """Copies what `rt` reads, with the spare edits of these crates for the gate's. What checks kept is linked."""
     for name in ("crates.txt", "HANDLES"):
         shutil.copy(os.path.join(ROOT, name), to)
-    shutil.copytree(os.path.join(ROOT, "crates"), os.path.join(to, "crates"), ignore=shutil.ignore_patterns("out"))
+    crates = os.path.join(ROOT, "crates")
+    shutil.copytree(crates, os.path.join(to, "crates"), ignore=shutil.ignore_patterns("out"))
+    for name in os.listdir(crates):
+        kept = os.path.join(crates, name, "out", "rlib")
+        if os.path.isdir(kept) and name not in names:
+            shutil.copytree(kept, os.path.join(to, "crates", name, "out", "rlib"), copy_function=os.link)
     for name in names:
         place = os.path.join(to, "crates", name, "must-fail")
         shutil.rmtree(place, ignore_errors=True)
@@ -34,9 +39,9 @@ def main(names):
     if not names or lacking:
         print(f"{lacking[0]} has no spare edits" if lacking else __doc__, file=sys.stderr)
         return 2
-    with tempfile.TemporaryDirectory(prefix="jackclover-edits-") as to:
+    with tempfile.TemporaryDirectory(prefix="edits-", dir=os.path.join(ROOT, ".git")) as to:
         copy_with_spare_edits(to, names)
-        return subprocess.run(["rt", "ci", *names], cwd=to).returncode
+        return subprocess.run(["rt", "must-fail", *names], cwd=to).returncode
 
 
 if __name__ == "__main__":

@@ -1,5 +1,5 @@
 -- Which JSON is a user, and how it is read.
-use Rattle.std.specs.Prelude.{◌≡◌, ℕ, List, codes, Bool, true, ◌&&◌, nat_lt, nat_le, length, Option, Some, None, is_some, option_and_then, if◌then◌else◌}
+use Rattle.std.specs.Prelude.{◌≡◌, ℕ, List, codes, Bool, true, ◌&&◌, ◌||◌, nat_lt, nat_le, length, Option, Some, None, is_some, option_and_then, if◌then◌else◌}
 use Rattle.std.specs.Str.{bytes_eq}
 use Rattle.serde_json.specs.Data.{Data, object, string, member, no_members}
 use Rattle.serde_json.specs.Find.{as_object, get_member}
@@ -11,10 +11,14 @@ use Rattle.action_lines.specs.Steps.{◌>>=◌}
 use Rattle.action_lines.specs.Fields.{field, field_text, is_done}
 use Rattle.action_lines.specs.Numbers.{int_data, is_id, id_from}
 
--- access and sizes of a good user; owners alone are good so far
+-- whether the access is one that is read so far: owners and editors
+abbrev pub is_read_so_far : List ℕ → Bool
+is_read_so_far access = bytes_eq access (codes "owners") || bytes_eq access (codes "editors")
+
+-- access and sizes of a good user
 abbrev pub fits : List ℕ → List ℕ → List ℕ → List ℕ → Bool
 fits access email name token =
-    bytes_eq access (codes "owners") && nat_le (length email) 256 && nat_le (length name) 256
+    is_read_so_far access && nat_le (length email) 256 && nat_le (length name) 256
     && nat_lt 0 (length token) && nat_le (length token) 64
 
 -- {"user":{"access":a,"email":text,"id":n,"name":text,"token":text}}

@@ -1,7 +1,7 @@
 //! Users, as lines spell them.
 ghost use Rattle.std.specs.Prelude.{◌≡◌, IfOk};
 ghost use Rattle.serde_json.specs.View.{view};
-ghost use Rattle.grist_json.specs.Users.{fits, user_fields, user_from, has_user, line_from, user_at, Tells};
+ghost use Rattle.grist_json.specs.Users.{fits, is_read_so_far, user_fields, user_from, has_user, line_from, user_at, Tells};
 
 use crate::json_text::json_of;
 use action_lines::{Fields, id_of};
@@ -26,11 +26,19 @@ pub enum UserLine {
     Other,
 }
 
-// Access and sizes of a good user. Owners alone are good so far.
+// Whether the access is one that is read so far: until views are censored, those who see all tables
+// of the document.
+fn is_read_so_far(access: &str) -> bool
+    ensures { result ≡ is_read_so_far access.now }
+{
+    access == "owners" || access == "editors"
+}
+
+// Access and sizes of a good user.
 fn fits(access: &str, email: &str, name: &str, token: &str) -> bool
     ensures { result ≡ fits access.now email.now name.now token.now }
 {
-    access == "owners"
+    is_read_so_far(access)
         && email.len() <= MAX_FIELD_BYTES
         && name.len() <= MAX_FIELD_BYTES
         && !token.is_empty()

@@ -89,7 +89,8 @@ const USERS: &str = concat!(
 {"user":{"access":"owners","email":"b@x.org","id":2,"name":"B","token":""}} => bad
 {"user":{"access":"admins","email":"b@x.org","id":2,"name":"B","token":"tb"}} => bad
 {"user":{"access":null,"email":"nel@x.org","id":4,"name":"Nel","token":"tn"}} => bad
-{"user":{"access":"editors","email":"e","id":1,"name":"E","token":"te"}} => bad
+{"user":{"access":"editors","email":"e","id":1,"name":"E","token":"te"}} => E e 1 te
+{"user":{"access":"viewers","email":"v","id":1,"name":"V","token":"tv"}} => bad
 nonsense => -
 {"line":{"method":"sync"},"session":"s1"} => -"#,
 );

@@ -1,4 +1,4 @@
--- Where nothing can be denied: no rule is in force, and the one behind all others allows everything.
+-- Where nothing can be denied: no rule is in force, and the one behind all others allows all.
 use Rattle.std.specs.Prelude.{◌≡◌, Bool, true, codes, ◌&&◌, ◌||◌, List, None}
 use Rattle.acl_rules.specs.declared.decision.Ctx.{Ctx}
 use Rattle.acl_rules.specs.Decided.{is_access}

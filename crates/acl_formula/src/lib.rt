@@ -1,8 +1,8 @@
 //! Texts of access rules: what a rule's formula comes to, and what a permission text says.
 //!
 //! Stands on `cell_types` (values), `doc_model` (users), `formula_lex` and `formula_parse` (trees)
-//! and `value_ops` (the operators that its values are defined by). Nothing uses it yet: it is for
-//! what decides by rules.
+//! and `value_ops` (the operators that its values are defined by). Used by `acl_rules` and by what
+//! tests and asks rules.
 //!
 //! Promises: which texts are formulas of rules is a function, `parse_rule` reads them so, and tells
 //! a fault only where there is none. `eval_rule` gives what specs/RuleTruths.antt says for each

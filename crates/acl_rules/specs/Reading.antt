@@ -1,4 +1,4 @@
--- Which columns of the row before a change rules read: those that their formulas mention as `rec.N`.
+-- Which columns of the row before a change rules read: those that they mention as `rec.N`.
 use Rattle.std.specs.Prelude.{ℕ, Bool, option_map, cond, List, [], ◌∷◌, ◌++◌, filter, Option, Some, None, bytes_eq, slice_get}
 use Rattle.std.specs.List.{list_any}
 use Rattle.formula_parse.specs.Tree.{Tree}

@@ -1,14 +1,16 @@
 //! Access rules: which rule decides a permission, and what it decides.
 //!
 //! Stands on `acl_formula` (what a rule's formula comes to, permissions, users), `doc_model`
-//! (actions), `name_rules` and `cell_types`. Nothing uses it yet: it is for a core that denies.
+//! (documents, actions), `formula_parse`, `name_rules` and `cell_types`. Used by `acl_checks`,
+//! `acl_rows` and the core.
 //!
 //! Promises: `decide` gives the one answer of specs/Decided.antt for each book of rules, user and
 //! row, and takes no memory; `rule_ref` names the rule that denied. `carry` moves the rules that
 //! are about a table or a column along with a rename of it, and leaves them where memory is
-//! wanting. `read_resource` reads exactly the texts that say what a rule is about.
+//! wanting. `read_resource` reads exactly the texts that say what a rule is about, and `load` the
+//! rules of a document (specs/Loaded.antt).
 //! Not promised: that a rule means what its author meant, or how fast a decision is; by its code it
-//! looks only at rules about the table and the document. Rules are not read from a document yet.
+//! looks only at rules about the table and the document.
 //! Read first: specs/Chain.antt and specs/Decided.antt, then book.rt and decision.rt.
 #![tactic(auto)]
 

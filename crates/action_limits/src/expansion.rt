@@ -245,8 +245,8 @@ fn schema_expansion<D: DocTables>(
 /// Errors: out of memory.
 /// Cost: the rows and values that are given; a column that changes costs all its cells, and a new
 /// id the ids beside it. Where records go or a table is renamed, a walk over all columns, and where
-/// records go over all cells of those that refer to the table; a renaming costs the resources. Where a table was above its bounds
-/// before, a walk over all tables and columns.
+/// records go over all cells of those that refer to the table; a renaming costs the resources.
+/// Where a table was above its bounds before, a walk over all tables and columns.
 /// Source: docs/DEFINITIONS.md, "action_limits".
 pub fn expand<D: DocTables>(
     alloc: Global,

@@ -54,8 +54,8 @@ abbrev pub IsDoneAction : Ctx → Document → ℕ → UserAction → Ctx → Do
 IsDoneAction x s i a y t changed (judged.Accepted n) = IsDonePlan x s i a y t changed n
 IsDoneAction x s i a y t changed (judged.Refused v) = refusal_at x s i a ≡ Some v
 
--- so many actions were judged from the start on: some steps are done, and others follow, after which
--- the rules are carried along as far
+-- so many actions were judged from the start on: some steps are done, and others follow, after
+-- which the rules are carried along as far
 pub record IsAt (x : Ctx) (start : Document) (requested : List UserAction) (i : ℕ)
     (y : Ctx) (s : Document) (done next : List Step) (created : List Created)
     (tally : Tally) : Type 0 where

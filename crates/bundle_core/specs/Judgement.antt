@@ -36,8 +36,8 @@ abbrev pub opposed : ℕ → Option Refusal → Option LimitKind → Option Bare
 opposed i (Some this) kind = Some (Refused this (Some i))
 opposed i None kind = limited i kind
 
--- why an action is refused whatever the rules are: by the user's view of the document there, or by a
--- limit that the document after its steps passes
+-- why an action is refused whatever the rules are: by the user's view of the document there, or by
+-- a limit that the document after its steps passes
 abbrev pub opposed_at : User → Document → ℕ → UserAction → Option BareVerdict
 opposed_at user s i a = opposed i (objection_to (view user s) a) (over (after s a))
 

@@ -65,7 +65,8 @@ has_few_ids s = nat_le (length s) (2 ^ 60) && list_all has_few_columns s
 abbrev pub UndoLaw : Type 0
 UndoLaw =
     (users : List User) (s : Document) (history : List Entry) (e : Entry) (between : List Entry)
-    (u : Entry) → IsWhole s → has_few_ids s ≡ true → list_all entry_asks_so (history ++ e ∷ []) ≡ true
+    (u : Entry) → IsWhole s → has_few_ids s ≡ true
+    → list_all entry_asks_so (history ++ e ∷ []) ≡ true
     → (let before = run users (opening s) history in
     let last = run users (step users before e) between in
     IsUndoNext users before e between u → LeadsBackTo before.document (verdicts users last u))

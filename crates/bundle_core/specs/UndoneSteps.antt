@@ -13,7 +13,8 @@ use Rattle.bundle_core.specs.Judgement.{with_before}
 use Rattle.bundle_core.specs.JudgedBundles.{after_steps}
 use Rattle.bundle_core.specs.Undo.{judge_undo, stale_at}
 
--- nothing but a rule stands against the action at that index, and this is the tally of the document after it
+-- nothing but a rule stands against the action at that index, and this is the tally of the document
+-- after it
 pub record MayGoOn (s : Document) (i : ℕ) (a : DocAction) (t : Tally) : Type 0 where
   pub valid : valid s a ≡ true
   pub fresh : stale_at s i a ≡ None

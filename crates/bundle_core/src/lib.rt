@@ -4,8 +4,8 @@
 //! `recalc` (its formula cells evaluated), `user_actions` (refusals), `action_limits` (steps and
 //! limits), `acl_rules` and `acl_checks` (which rule denies a step), `undo_bundles` (a session's
 //! bundles with their inverses), `view_parts` and `plain_view` (what users see and are told) and
-//! `grist_json` (the texts of lines). What an entry comes to is said in specs/State.antt, and what a
-//! bundle and an undo come to in specs/Judgement.antt and specs/Undo.antt, over plain lists, for
+//! `grist_json` (the texts of lines). What an entry comes to is said in specs/State.antt, and what
+//! a bundle and an undo come to in specs/Judgement.antt and specs/Undo.antt, over plain lists, for
 //! every document; what users see is the document with the value of each formula cell in its place.
 //!
 //! Promises: `Core::step` gives the lines that the state after the history says, and adds the

@@ -121,8 +121,8 @@ fn makes_rows(action: &UserAction) -> bool
 ///
 /// Errors: out of memory. Cost: the rows and values that are given; a column that changes costs all
 /// its cells, and a new id the ids beside it. Where records go or a table is renamed, a walk over
-/// all columns, and where records go over all cells of those that refer to the table; a rename walks
-/// over the resources.
+/// all columns, and where records go over all cells of those that refer to the table; a rename
+/// walks over the resources.
 /// Source: docs/DEFINITIONS.md, "user_actions".
 pub fn steps<D: DocTables>(
     alloc: Global,

@@ -1,8 +1,8 @@
 //! Plan: whole runs of `replay`, each a script: a line behind `> ` comes, a line behind `< ` is
 //! given. What a run answers where it finds memory, which no clause says
-//! (`answers_as_the_protocol_says`), bundles that are done, refused and undone among them, and
-//! formula cells that change; and how it ends at its words, its users and the faults of what it was
-//! handed (`ends_at_the_first_event`). The lines are those of the protocol, worked out by hand.
+//! (`answers_as_the_protocol_says`), bundles that are done, refused, denied and undone among them,
+//! and formula cells that change; and how it ends at its words, its users and the faults of what it
+//! was handed (`ends_at_the_first_event`). The lines are those of the protocol, worked out by hand.
 
 use grist_run::{Status, run};
 use io_edges::{MemSink, MemSource};
@@ -52,7 +52,7 @@ fn ends_as_told(alloc: Global, case: &Case) -> bool {
     end == case.end && written.as_slice() == want.as_slice()
 }
 
-static ANSWERED: [&str; 3] = [
+static ANSWERED: [&str; 4] = [
     "",
     r#"> {"user":{"access":"owners","email":"a","id":1,"name":"Ann","token":"ta"}}
 >    
@@ -119,6 +119,32 @@ static ANSWERED: [&str; 3] = [
 < {"line":{"error":{"code":3,"name":"NotOpen"}},"session":"s1"}
 > {"line":{"method":"fetchTable","table":"Table1"},"session":"s1"}
 < {"line":{"error":{"code":1,"name":"BadLine"}},"session":"s1"}"#,
+    r#"> {"user":{"access":"owners","email":"a","id":1,"name":"Ann","token":"ta"}}
+> {"user":{"access":"editors","email":"e","id":2,"name":"Ed","token":"te"}}
+> {"line":{"method":"openDoc","token":"ta"},"session":"s1"}
+< {"line":{"ok":{"actions":[["AddTable","Table1",[{"formula":"","id":"A","isFormula":false,"type":"Any"},{"formula":"","id":"B","isFormula":false,"type":"Any"},{"formula":"","id":"C","isFormula":false,"type":"Any"}]],["AddTable","_grist_ACLResources",[{"formula":"","id":"colIds","isFormula":false,"type":"Text"},{"formula":"","id":"tableId","isFormula":false,"type":"Text"}]],["AddTable","_grist_ACLRules",[{"formula":"","id":"aclFormula","isFormula":false,"type":"Text"},{"formula":"","id":"memo","isFormula":false,"type":"Text"},{"formula":"","id":"permissionsText","isFormula":false,"type":"Text"},{"formula":"","id":"resource","isFormula":false,"type":"Ref:_grist_ACLResources"},{"formula":"","id":"rulePos","isFormula":false,"type":"Int"},{"formula":"","id":"userAttributes","isFormula":false,"type":"Text"}]]]}},"session":"s1"}
+> {"line":{"method":"openDoc","token":"te"},"session":"s2"}
+< {"line":{"ok":{"actions":[["AddTable","Table1",[{"formula":"","id":"A","isFormula":false,"type":"Any"},{"formula":"","id":"B","isFormula":false,"type":"Any"},{"formula":"","id":"C","isFormula":false,"type":"Any"}]]]}},"session":"s2"}
+> {"line":{"actions":[["AddRecord","Table1",null,{"A":1}],["AddRecord","_grist_ACLResources",null,{"colIds":"*","tableId":"Table1"}],["AddRecord","_grist_ACLRules",null,{"aclFormula":"newRec.A == 2","memo":"no 2","permissionsText":"-U","resource":1}],["AddRecord","_grist_ACLRules",null,{"aclFormula":"rec.A == 3","memo":"no 3","permissionsText":"-C","resource":1}]],"method":"applyUserActions"},"session":"s1"}
+< {"line":{"actions":[["BulkAddRecord","Table1",[1],{"A":[1],"B":[null],"C":[null]}],["BulkAddRecord","_grist_ACLResources",[1],{"colIds":["*"],"tableId":["Table1"]}],["BulkAddRecord","_grist_ACLRules",[1,2],{"aclFormula":["newRec.A == 2","rec.A == 3"],"memo":["no 2","no 3"],"permissionsText":["-U","-C"],"resource":[1,1],"rulePos":[0,0],"userAttributes":["",""]}]],"seq":1},"session":"s1"}
+< {"line":{"ok":{"bundle":1,"retValues":[1,1,1,2]}},"session":"s1"}
+> {"line":{"actions":[["UpdateRecord","Table1",1,{"A":2}]],"method":"applyUserActions"},"session":"s2"}
+< {"line":{"actions":[["BulkAddRecord","Table1",[1],{"A":[1],"B":[null],"C":[null]}]],"seq":1},"session":"s2"}
+< {"line":{"error":{"action":0,"code":20,"memo":"no 2","name":"Denied","rule":1}},"session":"s2"}
+> {"line":{"actions":[["RenameTable","Table1","X"],["UpdateRecord","X",1,{"A":2}]],"method":"applyUserActions"},"session":"s2"}
+< {"line":{"error":{"action":1,"code":20,"memo":"no 2","name":"Denied","rule":1}},"session":"s2"}
+> {"line":{"actions":[["UpdateRecord","Table1",1,{"A":3}]],"method":"applyUserActions"},"session":"s2"}
+< {"line":{"actions":[["BulkUpdateRecord","Table1",[1],{"A":[3]}]],"seq":2},"session":"s2"}
+< {"line":{"ok":{"bundle":1,"retValues":[null]}},"session":"s2"}
+> {"line":{"actions":[["RemoveRecord","Table1",1]],"method":"applyUserActions"},"session":"s2"}
+< {"line":{"actions":[["BulkRemoveRecord","Table1",[1]]],"seq":3},"session":"s2"}
+< {"line":{"ok":{"bundle":2,"retValues":[null]}},"session":"s2"}
+> {"line":{"bundle":2,"method":"undo"},"session":"s2"}
+< {"line":{"error":{"action":0,"code":20,"memo":"no 3","name":"Denied","rule":2}},"session":"s2"}
+> {"line":{"method":"sync"},"session":"s1"}
+< {"line":{"actions":[["BulkUpdateRecord","Table1",[1],{"A":[3]}]],"seq":2},"session":"s1"}
+< {"line":{"actions":[["BulkRemoveRecord","Table1",[1]]],"seq":3},"session":"s1"}
+< {"line":{"ok":null},"session":"s1"}"#,
 ];
 
 #[test]

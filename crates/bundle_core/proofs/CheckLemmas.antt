@@ -8,10 +8,10 @@ use Rattle.doc_model.specs.Document.{Document}
 use Rattle.recalc.specs.Evaluated.{filled}
 use Rattle.acl_rules.specs.declared.decision.Ctx.{Ctx}
 use Rattle.acl_rules.specs.Carried.{carried}
-use Rattle.acl_rules.specs.RuleBook.{BookRule}
+use Rattle.acl_rules.specs.RuleBook.{BookRule, has_no_rules}
 use Rattle.acl_checks.specs.Checks.{checks_of}
 use Rattle.acl_checks.specs.Denials.{first_denied}
-use Rattle.acl_checks.specs.Unchecked.{UncheckedLaw, are_unchecked, has_no_rules}
+use Rattle.acl_checks.specs.Unchecked.{UncheckedLaw, are_unchecked}
 use Rattle.bundle_core.specs.declared.bare_verdict.BareVerdict.{BareVerdict}
 use Rattle.bundle_core.specs.Context.{carry, carry_all}
 use Rattle.bundle_core.specs.Denials.{denial_at, denial_of, denied_by, denying_row, or_else}

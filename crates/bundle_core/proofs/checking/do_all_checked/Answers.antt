@@ -1,4 +1,4 @@
-use Rattle.std.proofs.Common.{◌∷◌, [], ◌≤◌, map, length, sym, ap, ◌∙◌, arith}
+use Rattle.std.proofs.Common.{◌∷◌, [], ◌≤◌, map, length, sym, ◌∙◌, arith}
 use Rattle.recalc.specs.Evaluated.{filled}
 use Rattle.recalc.specs.WayBack.{IsWayBack}
 use Rattle.doc_model.proofs.Choices.{length_map}

@@ -1,10 +1,7 @@
-use Rattle.std.proofs.Common.{◌≡◌, ◌≤◌, ◌∷◌, [], map, get_or, length, refl, sym, ap, subst, ◌∙◌, arith}
-use Rattle.doc_model.specs.declared.action.Step.{Step}
-use Rattle.doc_model.specs.Apply.{apply}
+use Rattle.std.proofs.Common.{◌≤◌, ◌∷◌, [], map, length, refl, sym, ap, subst, ◌∙◌, arith}
 use Rattle.doc_model.specs.Document.{Document}
 use Rattle.recalc.specs.Evaluated.{filled}
 use Rattle.user_actions.specs.StepLaws.{action_of}
-use Rattle.view_parts.specs.PartLaws.{AreSameOutside}
 use Rattle.bundle_core.specs.Undo.{stale_at}
 use Rattle.bundle_core.specs.UndoneSteps.{MayGoOn}
 use Rattle.bundle_core.proofs.ChangedLemmas.{outside_then, within_itself}

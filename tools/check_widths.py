@@ -10,7 +10,7 @@ import sys
 
 ROOT = os.path.dirname(os.path.dirname(os.path.abspath(__file__)))
 WIDEST = 100
-ONE_LINE = ("use ", "ghost use ", "pub use ", "#[", "> {", "< {")
+ONE_LINE = ("use ", "ghost use ", "pub use ", "#[", "> {", "< {", "+ {")
 
 
 def wide_lines():

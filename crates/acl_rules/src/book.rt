@@ -67,8 +67,10 @@ impl RuleBook {
         self.rules.as_slice().is_empty()
     }
 
-    // The rule at a place, with what it is about.
-    pub(crate) fn rule_at(&self, place: usize) -> Option<(&Rule, &Option<Resource>)>
+    /// The rule at a place, with what it is about.
+    ///
+    /// Memory: none.
+    pub fn rule_at(&self, place: usize) -> Option<(&Rule, &Option<Resource>)>
         ensures { MatchOption result (slice_get self.now place ≡ None) (λ found.
             slice_get self.now place
             ≡ Some (record { rule = found.0.now; resource = found.1.now })) }
@@ -101,17 +103,21 @@ impl RuleBook {
         Ok(())
     }
 
-    // Where the rules stand that are about the table or columns of it.
+    /// Where the rules stand that are about the table or columns of it.
+    ///
+    /// Memory: none.
     #[tactic(auto, using(crate::proofs::PlaceLemmas::places_paired))]
-    pub(crate) fn places_on(&self, table: &str) -> &[usize]
+    pub fn places_on(&self, table: &str) -> &[usize]
         ensures { result.now ≡ places_of (λ (b : BookRule). is_on table.now b.resource) self.now }
     {
         self.resources.places_on(table)
     }
 
-    // Where the rules stand that are about the document.
+    /// Where the rules stand that are about the document.
+    ///
+    /// Memory: none.
     #[tactic(auto, using(crate::proofs::PlaceLemmas::places_paired))]
-    pub(crate) fn places_on_document(&self) -> &[usize]
+    pub fn places_on_document(&self) -> &[usize]
         ensures { result.now ≡ places_of (λ (b : BookRule). is_of of_document b.resource) self.now }
     {
         self.resources.places_on_document()

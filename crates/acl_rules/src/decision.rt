@@ -55,8 +55,10 @@ fn is_match(perm: Perm, permissions: &PermSet, truth: RuleTruth) -> bool
     }
 }
 
-// Whether the rule decides the permission. The formula is asked last.
-pub(crate) fn decides<W: RowReader>(
+/// Whether the rule decides the permission. The formula is asked last.
+///
+/// Memory: none.
+pub fn decides<W: RowReader>(
     perm: Perm,
     rule: &Rule,
     user: &UserInfo,
@@ -96,7 +98,9 @@ fn is_allowed_so(user: &User, perm: Perm) -> bool
 }
 
 /// What the rule behind all others decides.
-pub(crate) fn built_in(user: &User, perm: Perm) -> Decision
+///
+/// Memory: none.
+pub fn built_in(user: &User, perm: Perm) -> Decision
     ensures { result ≡ built_in user.now.access perm }
 {
     if is_allowed_so(user, perm) {

@@ -6,7 +6,7 @@ ghost use Rattle.acl_rules.specs.Loaded.{by_place, rule_rows};
 ghost use Rattle.acl_rules.specs.Placing.{placed};
 ghost use Rattle.acl_rules.specs.RuleIds.{AreRuleIds};
 
-use crate::rule_ids::RuleIds;
+use crate::rule_ids::{RuleIds, rule_ids};
 use crate::told_cells::number_in;
 use doc_model::DocReader;
 use std::alloc::{AllocError, Global};
@@ -58,4 +58,19 @@ pub(crate) fn rows_by_place<D: DocReader>(
     let mut sorted = placed_rows(alloc, tables, ids, rule_rows(tables, ids))?;
     sorted.sort()?;
     Ok(sorted)
+}
+
+/// The rows of a document's rules with their places, in the order in which rules are asked.
+///
+/// Errors: out of memory.
+/// Memory: a pair of numbers for each rule. Cost: sorting them.
+pub fn rules_by_place<D: DocReader>(
+    alloc: Global,
+    tables: &D,
+) -> Result<Vec<(i64, u32)>, AllocError>
+    ensures { IfOk result (λ v. v.items ≡ map (placed (D.document tables.now))
+        (by_place (D.document tables.now) (rule_rows (D.document tables.now)))) }
+{
+    let ids = rule_ids(alloc)?;
+    rows_by_place(alloc, tables, &ids)
 }

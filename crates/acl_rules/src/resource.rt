@@ -24,7 +24,7 @@ pub enum Resource {
 
 /// A part of a chain: the rules of a column of a table, of a whole table, or of the document.
 #[derive(Clone, Copy)]
-pub(crate) enum Part<'a> {
+pub enum Part<'a> {
     Column(&'a str, &'a str),
     Table(&'a str),
     Document,
@@ -52,7 +52,9 @@ fn are_all(columns: &Columns) -> bool
 }
 
 /// Whether a rule about this is of that part. A rule about nothing is of none.
-pub(crate) fn is_of(part: Part<'_>, resource: &Option<Resource>) -> bool
+///
+/// Memory: none.
+pub fn is_of(part: Part<'_>, resource: &Option<Resource>) -> bool
     ensures { result ≡ is_of (part_in part.entry) resource.now }
 {
     match (part, resource) {

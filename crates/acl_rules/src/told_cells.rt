@@ -9,7 +9,9 @@ use cell_types::{CellValue, Name};
 use doc_model::DocReader;
 
 /// The text that a cell holds; Null is the empty one.
-pub(crate) fn text_in<'a, D: DocReader>(
+///
+/// Memory: none.
+pub fn text_in<'a, D: DocReader>(
     tables: &'a D,
     table: &Name,
     column: &Name,

@@ -10,13 +10,13 @@ use Rattle.doc_model.specs.Document.{Document}
 use Rattle.doc_model.specs.DocumentLaws.{IsWhole}
 use Rattle.doc_model.proofs.Choices.{each_mapped}
 use Rattle.undo_bundles.specs.BundleLog.{Log, empty_log}
-use Rattle.bundle_core.specs.BareVerdicts.{reply_of}
-use Rattle.bundle_core.specs.declared.bare_verdict.BareVerdict.{BareVerdict}
+use Rattle.bundle_core.specs.Replies.{reply_of}
+use Rattle.bundle_judge.specs.declared.bare_verdict.BareVerdict.{BareVerdict}
 use Rattle.bundle_core.specs.Dispatch.{state_of, IsSpot, Answers}
 use Rattle.bundle_core.specs.Mailbox.{Mailbox, quiet, shows_view, own, replies, emptied, posted_if_any}
 use Rattle.bundle_core.specs.SessionState.{SessionState, open_of}
 use Rattle.bundle_core.specs.State.{State, Open, Holder, Verdicts, session_name, session_of, mailbox_of, answered, from_closed, from_open, from_lagging, verdicts, posted_all, with_session, step, given}
-use Rattle.bundle_core.specs.View.{view}
+use Rattle.bundle_judge.specs.View.{view}
 use Rattle.bundle_core.proofs.ViewLaws.{changes-again}
 use Rattle.bundle_core.proofs.Spots.{find_absent_at, find_at, without_absent, without_at, index_absent, index_at}
 

@@ -12,14 +12,14 @@ use Rattle.doc_model.specs.Document.{Document}
 use Rattle.doc_model.specs.DocumentLaws.{IsWhole}
 use Rattle.doc_model.proofs.Choices.{each_mapped}
 use Rattle.grist_json.specs.Lines.{stream_text}
-use Rattle.bundle_core.specs.BareVerdicts.{reply_of}
+use Rattle.bundle_core.specs.Replies.{reply_of}
 use Rattle.undo_bundles.specs.BundleLog.{Log}
-use Rattle.bundle_core.specs.declared.bare_verdict.BareVerdict.{BareVerdict}
+use Rattle.bundle_judge.specs.declared.bare_verdict.BareVerdict.{BareVerdict}
 use Rattle.bundle_core.specs.Dispatch.{state_of, IsSpot, Answers}
 use Rattle.bundle_core.specs.Mailbox.{Mailbox, says, emptied, posted_if_any, is_full}
 use Rattle.bundle_core.specs.SessionState.{SessionState, open_of, IsReady, after_post, line_for, posted_state}
 use Rattle.bundle_core.specs.State.{State, Open, Holder, Verdicts, session_name, posted_to, with_session}
-use Rattle.bundle_core.specs.View.{view}
+use Rattle.bundle_judge.specs.View.{view}
 use Rattle.bundle_core.proofs.Answering.{open_with, with_opens, opens, opens-append, opens_below, step_by, given_by, ComesTo, verdicts_open, mailbox_open}
 use Rattle.bundle_core.proofs.Spots.{index_at}
 use Rattle.bundle_core.proofs.ViewLaws.{same_view}

@@ -13,15 +13,15 @@ use Rattle.doc_model.specs.Document.{Document}
 use Rattle.doc_model.proofs.Choices.{length_map}
 use Rattle.grist_json.specs.Lines.{reply_text}
 use Rattle.undo_bundles.specs.BundleLog.{empty_log}
-use Rattle.bundle_core.specs.BareVerdicts.{reply_of}
-use Rattle.bundle_core.specs.declared.bare_verdict.BareVerdict.TheVariants as verdict
+use Rattle.bundle_core.specs.Replies.{reply_of}
+use Rattle.bundle_judge.specs.declared.bare_verdict.BareVerdict.TheVariants as verdict
 use Rattle.bundle_core.specs.Core.{is_gone}
 use Rattle.bundle_core.specs.Dispatch.{state_of, Misses, Answers}
 use Rattle.bundle_core.specs.Mailbox.{shows_view, replies}
 use Rattle.bundle_core.specs.Requests.{refusal_closed}
 use Rattle.bundle_core.specs.SessionState.{SessionState, open_of}
 use Rattle.bundle_core.specs.State.{State, Verdicts, answered, refusal, from_closed, user_of, session_bound}
-use Rattle.bundle_core.specs.View.{view}
+use Rattle.bundle_judge.specs.View.{view}
 use Rattle.bundle_core.proofs.Answering.{answers_closed, answers_gone, answers_opened, open_with}
 
 code_closed : (users : List User) (st : State) (r : Request) → is_gone r ≡ false → ((token : List ℕ) → r ≡ request.Open token → ⊥) → from_closed users st r ≡ answered st.document None (refusal (refusal_closed r))

@@ -73,6 +73,10 @@ verdicts_gone users st e is =
       ]
     ]
 
+-- it is no bundle
+pub gone_none : (users : List User) (st : State) (e : Entry) → e.request ≡ request.Gone → (verdicts users st e).is_bundle ≡ false
+gone_none users st e is = ap (λ (v : Verdicts). v.is_bundle) (verdicts_gone users st e is)
+
 -- the end of a connection counts nothing
 gone_good : (n : ℕ) (users : List User) (st : State) (e : Entry) → e.request ≡ request.Gone → IsGood n st.open_sessions → IsGood n (step users st e).open_sessions
 gone_good n users st e is g =

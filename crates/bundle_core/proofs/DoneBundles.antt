@@ -47,17 +47,17 @@ use Rattle.acl_rules.specs.declared.decision.Ctx.{Ctx}
 use Rattle.action_limits.specs.Tallies.{after}
 use Rattle.view_parts.specs.PartLaws.{AllowedLaw}
 use Rattle.view_parts.specs.Viewers.{viewer_of}
-use Rattle.bundle_core.specs.declared.bare_verdict.BareVerdict.TheVariants as verdict
-use Rattle.bundle_core.specs.declared.bare_verdict.BareVerdict.{BareVerdict}
-use Rattle.bundle_core.specs.declared.created.Created.{Created}
-use Rattle.bundle_core.specs.Context.{carry, carry_all, context}
-use Rattle.bundle_core.specs.Denials.{denial_at, denial_of, denied_by, denying_row, or_else}
-use Rattle.bundle_core.specs.JudgedBundles.{after_steps}
-use Rattle.bundle_core.specs.Judgement.{Judgement, accepted, refused, created_at, judge, judge_from, limited, opposed, opposed_at, refusal_at, with_before}
-use Rattle.bundle_core.specs.Undo.{judge_own_undo, judge_undo, stale_at, unfit_at}
+use Rattle.bundle_judge.specs.declared.bare_verdict.BareVerdict.TheVariants as verdict
+use Rattle.bundle_judge.specs.declared.bare_verdict.BareVerdict.{BareVerdict}
+use Rattle.bundle_judge.specs.declared.created.Created.{Created}
+use Rattle.bundle_judge.specs.Context.{carry, carry_all, context}
+use Rattle.bundle_judge.specs.Denials.{denial_at, denial_of, denied_by, denying_row, or_else}
+use Rattle.bundle_judge.specs.JudgedBundles.{after_steps}
+use Rattle.bundle_judge.specs.Judgement.{Judgement, accepted, refused, created_at, judge, judge_from, limited, opposed, opposed_at, refusal_at, with_before}
+use Rattle.bundle_judge.specs.Undo.{judge_own_undo, judge_undo, stale_at, unfit_at}
 use Rattle.bundle_core.specs.UndoLaw.{LimitsLeaveFewIds, NewDocumentHasFewIds, has_few_columns, has_few_ids, may_be_asked}
-use Rattle.bundle_core.specs.View.{view}
-use Rattle.bundle_core.proofs.JudgmentLemmas.{all_valid-append, apply_all-append}
+use Rattle.bundle_judge.specs.View.{view}
+use Rattle.bundle_judge.proofs.JudgmentLemmas.{all_valid-append, apply_all-append}
 
 -- ---- a whole document with few ids, and steps from one to another
 

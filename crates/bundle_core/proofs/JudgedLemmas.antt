@@ -1,5 +1,5 @@
 -- What requests of an open session were judged to be.
-use Rattle.std.proofs.Common.{◌≡◌, ℕ, List, Option, Some, None, Result, Ok, Err, IsOk, true, refl, sym, ap, subst}
+use Rattle.std.proofs.Common.{◌≡◌, ℕ, List, Option, Some, None, Result, Ok, Err, IsOk, refl, sym, ap, subst}
 use Rattle.doc_model.specs.declared.action.Step.{Step}
 use Rattle.doc_model.specs.declared.request.Request.{Request}
 use Rattle.doc_model.specs.declared.request.Request.TheVariants as request
@@ -8,14 +8,15 @@ use Rattle.doc_model.specs.declared.user_action.UserAction.{UserAction}
 use Rattle.doc_model.specs.Document.{Document}
 use Rattle.undo_bundles.specs.declared.log.LogFault.{LogFault}
 use Rattle.undo_bundles.specs.BundleLog.{undo_of}
-use Rattle.bundle_core.specs.declared.judging.JudgedBundle.{JudgedBundle}
-use Rattle.bundle_core.specs.declared.judging.JudgedBundle.TheVariants as judged
+use Rattle.bundle_judge.specs.declared.judging.JudgedBundle.{JudgedBundle}
+use Rattle.bundle_judge.specs.declared.judging.JudgedBundle.TheVariants as judged
 use Rattle.bundle_core.specs.Judged.{IsJudgedFor, IsOwn, state_with}
-use Rattle.bundle_core.specs.JudgedBundles.{IsJudgedBundle}
-use Rattle.bundle_core.specs.Judgement.{Judgement, accepted, judge}
+use Rattle.bundle_judge.specs.JudgedBundles.{IsJudgedBundle}
+use Rattle.bundle_judge.specs.Judgement.{Judgement, accepted, judge}
+use Rattle.bundle_core.specs.KeptBundles.{actions_asked}
 use Rattle.bundle_core.specs.Noting.{MayBeUndone}
 use Rattle.bundle_core.specs.State.{Holder, from_open}
-use Rattle.bundle_core.specs.Undo.{judge_own_undo}
+use Rattle.bundle_judge.specs.Undo.{judge_own_undo}
 
 undoes_none : (b : JudgedBundle) (j : Judgement) (s : Document) (h : Holder) → IsJudgedBundle j None s b → IsOwn b h
 undoes_none (judged.Refused v) j s h k = tt
@@ -36,7 +37,8 @@ pub judged_bundle : (h : Holder) (s : Document) (r : Request) (actions : List Us
 judged_bundle h s r actions b asks k = record {
   judgement = judge h.user s actions;
   undone = None;
-  asks = λ os. ap (from_open (state_with s os) h true) asks;
+  asks = λ os kept. ap (from_open (state_with s os) h kept) asks;
+  actions = ap (actions_asked h s) asks;
   judged = k;
   own = undoes_none b (judge h.user s actions) s h k;
 }
@@ -45,7 +47,8 @@ pub judged_undo : (h : Holder) (s : Document) (r : Request) (number : ℕ) (b : 
 judged_undo h s r number b asks k = record {
   judgement = judge_own_undo h.user (undo_of h.log number) s;
   undone = Some number;
-  asks = λ os. ap (from_open (state_with s os) h true) asks;
+  asks = λ os kept. ap (from_open (state_with s os) h kept) asks;
+  actions = ap (actions_asked h s) asks;
   judged = k;
   own = undoes_own b s h number k;
 }

@@ -17,15 +17,15 @@ use Rattle.doc_model.proofs.ByIdsLaws.{IsByIds-put_by_id, IsByIds-filter, found_
 use Rattle.doc_model.proofs.Choices.{each_weaker, each_filter, each_mapped, length_map}
 use Rattle.doc_model.specs.declared.limit.LimitKind.TheVariants as limit
 use Rattle.grist_json.specs.Lines.{stream_text}
-use Rattle.bundle_core.specs.declared.bare_verdict.BareVerdict.TheVariants as verdict
+use Rattle.bundle_judge.specs.declared.bare_verdict.BareVerdict.TheVariants as verdict
 use Rattle.undo_bundles.specs.BundleLog.{count, empty_log, marked, undo_of}
 use Rattle.undo_bundles.specs.InverseSteps.{inverse_steps}
 use Rattle.undo_bundles.proofs.LogLaws.{marked_count, noted_count}
-use Rattle.bundle_core.specs.Judgement.{Judgement, accepted, refused, judge}
-use Rattle.bundle_core.specs.Undo.{judge_own_undo}
+use Rattle.bundle_judge.specs.Judgement.{Judgement, accepted, refused, judge}
+use Rattle.bundle_judge.specs.Undo.{judge_own_undo}
 use Rattle.bundle_core.specs.Mailbox.{Mailbox, Outcome, quiet, shows_view, says, own, due, posted, posted_if_any, emptied, is_full}
 use Rattle.bundle_core.specs.State.{State, Open, Holder, Verdicts, session_name, session_of, mailbox_of, posted_to, posted_all, with_session, turn_of, step, verdicts, from_closed, from_open, from_lagging, opened, bundle_of, user_of, answered, refusal, session_bound}
-use Rattle.bundle_core.specs.View.{view}
+use Rattle.bundle_judge.specs.View.{view}
 
 -- nothing of a session is counted past n
 pub record IsBelow (n : ℕ) (o : Open) : Type 0 where

@@ -5,7 +5,7 @@ use Rattle.std.specs.List.{AllByRecursion}
 use Rattle.doc_model.specs.declared.action.Step.{Step}
 use Rattle.doc_model.specs.declared.entry.Entry.{Entry}
 use Rattle.doc_model.specs.declared.refusal.Refusal.{Refusal}
-use Rattle.doc_model.specs.declared.refusal.Refusal.TheVariants.{BadLine, LineTooLong, AlreadyOpen, Lagged}
+use Rattle.doc_model.specs.declared.refusal.Refusal.TheVariants.{BadLine, LineTooLong, AlreadyOpen, Lagged, StoreFault}
 use Rattle.doc_model.specs.declared.request.Request.{Request}
 use Rattle.doc_model.specs.declared.request.Request.TheVariants as request
 use Rattle.doc_model.specs.declared.user.User.{User}
@@ -18,22 +18,23 @@ use Rattle.doc_model.specs.Document.{Document}
 use Rattle.doc_model.specs.DocumentLaws.{IsWhole}
 use Rattle.doc_model.specs.NewDocument.{new_document}
 use Rattle.doc_model.proofs.Choices.{length_map}
-use Rattle.bundle_core.specs.BareVerdicts.{reply_of}
-use Rattle.bundle_core.specs.declared.bare_verdict.BareVerdict.TheVariants as verdict
-use Rattle.bundle_core.specs.declared.bare_verdict.BareVerdict.{BareVerdict}
-use Rattle.bundle_core.specs.declared.created.Created.{Created}
+use Rattle.bundle_core.specs.Replies.{reply_of}
+use Rattle.bundle_judge.specs.declared.bare_verdict.BareVerdict.TheVariants as verdict
+use Rattle.bundle_judge.specs.declared.bare_verdict.BareVerdict.{BareVerdict}
+use Rattle.bundle_judge.specs.declared.created.Created.{Created}
 use Rattle.bundle_core.specs.Core.{is_gone}
 use Rattle.bundle_core.specs.Dispatch.{AreSame, state_of, IsSpot, Finds, Answers, Leaves, Stays, Bundles, bundle_number, bundle_reply, user_at, values_told}
 use Rattle.undo_bundles.specs.BundleLog.{Log, count, empty_log, noted}
 use Rattle.undo_bundles.specs.InverseSteps.{inverse_steps}
 use Rattle.bundle_core.specs.Judged.{AsksFor}
-use Rattle.bundle_core.specs.Judgement.{Judgement, accepted, refused}
-use Rattle.bundle_core.specs.Created.{told_of}
+use Rattle.bundle_judge.specs.Judgement.{Judgement, accepted, refused}
+use Rattle.bundle_judge.specs.Created.{told_of}
 use Rattle.bundle_core.specs.Mailbox.{quiet}
 use Rattle.bundle_core.specs.Requests.{refusal_open}
 use Rattle.bundle_core.specs.SessionState.{SessionState, open_of, IsReady, posted_state}
 use Rattle.bundle_core.specs.State.{State, Open, Holder, Verdicts, answered, refusal, from_open, from_lagging, accepted_as, bundle_of, step, given, with_undone}
-use Rattle.bundle_core.specs.View.{view}
+use Rattle.bundle_core.specs.Turns.{Refuses}
+use Rattle.bundle_judge.specs.View.{view}
 use Rattle.bundle_core.proofs.Answering.{with_opens, answers_leaving, answers_parting, answers_staying, open_of-fields, holder_of-fields}
 use Rattle.bundle_core.proofs.Bundling.{answers_bundle}
 use Rattle.bundle_core.proofs.ClosedLemmas.{answers_by}
@@ -130,7 +131,7 @@ module _ (users : List User) (s : Document) (xs : List SessionState) (p : ℕ) (
       → j ≡ refused v → Stays xs new p (reply_of v) lines → Answers users s s xs new e lines
   find_refused undone j v new lines w asks kept quick judged b =
       find_stays v new lines w (comes_open (answered s (Some x.holder) v) quick
-      (λ l. ap (λ k. from_open (state_of s l) x.holder k e.request) kept ∙ asks (map (open_of s) l) ∙ ap (bundle_of x.holder undone s true) judged)) b
+      (λ l. ap (λ k. from_open (state_of s l) x.holder k e.request) kept ∙ asks (map (open_of s) l) true ∙ ap (bundle_of x.holder undone s true) judged)) b
 
 -- ---- bundles
 
@@ -204,7 +205,7 @@ module _ (users : List User) (s s' : Document) (xs : List SessionState) (p : ℕ
       ≡ bundle_of y.holder undone s true (accepted s' steps ms) =
       ap (λ l. if l then from_lagging (state_of s whole) e.request else from_open (state_of s whole) y.holder e.kept e.request) quick'
       ∙ ap (λ t. from_open (state_of s whole) y.holder t e.request) kept
-      ∙ asks' (map (open_of s) whole)
+      ∙ asks' (map (open_of s) whole) true
       ∙ ap (bundle_of y.holder undone s true) judged in
       let number : bundle_number xs p ≡ count y.holder.log + 1 = bundle_number-is xs p d f.within ∙ ap (λ (h : Holder). count h.log + 1) (sym holders) in
       let same_reply : bundle_reply xs p undone s' ms ≡ reply_of v =
@@ -221,6 +222,30 @@ module _ (users : List User) (s s' : Document) (xs : List SessionState) (p : ℕ
       answers_same users s s' xs qs new e lines b.same
       (answers_by _ _ _ _ _ _ _ _ (o.given_lines d ∙ ap (λ r. y.waiting ++ option_to_list line ++ r ∷ []) same_reply)
       (subst Q (sym o.stands) (subst P (around qs p d within) h)))
+
+finds_same : (name : List ℕ) (xs qs : List SessionState) (p : ℕ) → AreSame xs qs → Finds name xs p → Finds name qs p
+finds_same name xs qs p same f = record {
+  within = omega (arith, same_length xs qs same, f.within);
+  named = λ d. ap (λ (o : Open). o.session) (same_at xs qs p d same) ∙ f.named d;
+  spot = spot_same name p xs qs same f.spot;
+}
+
+-- an accepted bundle that the keeper did not keep
+pub find_unkept : (users : List User) (s s' : Document) (xs : List SessionState) (p : ℕ) (e : Entry) (f : Finds e.session xs p) (d : SessionState) (undone : Option ℕ) (j : Judgement) (steps : List Step) (ms : List Created) (new : List SessionState) (lines : List (List ℕ))
+    → IsWhole s → AsksFor (get_or xs p d).holder s e.request undone j → e.kept ≡ false → (get_or xs p d).lagging ≡ false → j ≡ accepted s' steps ms
+    → Refuses xs new p (reply_of (refusal StoreFault)) lines → Answers users s s xs new e lines
+find_unkept users s s' xs p e f d undone j steps ms new lines w asks kept quick judged b =
+    let qs = b.prepared in
+    let y = get_or qs p d in
+    let one : open_of new_document y ≡ open_of new_document (get_or xs p d) = same_at xs qs p d b.same in
+    let holders : y.holder ≡ (get_or xs p d).holder = ap (λ (o : Open). o.holder) one in
+    let quick' : y.lagging ≡ false = ap (λ (o : Open). o.mailbox.lagging) one ∙ quick in
+    let asks' : AsksFor y.holder s e.request undone j = let P : Holder → Type 0 = λ h. AsksFor h s e.request undone j in subst P (sym holders) asks in
+    let f' : Finds e.session qs p = finds_same e.session xs qs p b.same f in
+    answers_same users s s xs qs new e lines b.same
+    (find_stays users s qs p e f' d (refusal StoreFault) new lines w
+    (comes_open users s qs p e f' d (answered s (Some y.holder) (refusal StoreFault)) quick'
+    (λ l. ap (λ k. from_open (state_of s l) y.holder k e.request) kept ∙ asks' (map (open_of s) l) false ∙ ap (bundle_of y.holder undone s false) judged)) b.stays)
 
 -- two promises of one answer, taken together
 pub ok_both : {X E : Type 0} (r : Result X E) (P Q R : X → Type 0) → ((x : X) → P x → Q x → R x) → IfOk r P → IfOk r Q → IfOk r R

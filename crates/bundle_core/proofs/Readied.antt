@@ -8,15 +8,15 @@ use Rattle.doc_model.proofs.Choices.{each_mapped, each_unmapped}
 use Rattle.doc_model.specs.Document.{Document}
 use Rattle.view_parts.specs.declared.viewers.Viewer.{Viewer}
 use Rattle.view_parts.specs.Viewers.{viewer_of}
-use Rattle.bundle_core.specs.BareVerdicts.{reply_of}
+use Rattle.bundle_core.specs.Replies.{reply_of}
 use Rattle.undo_bundles.specs.BundleLog.{count}
-use Rattle.bundle_core.specs.declared.created.Created.{Created}
+use Rattle.bundle_judge.specs.declared.created.Created.{Created}
 use Rattle.bundle_core.specs.Dispatch.{AreSame, bundle_number, bundle_reply, user_at, values_told}
-use Rattle.bundle_core.specs.Created.{told_of}
+use Rattle.bundle_judge.specs.Created.{told_of}
 use Rattle.bundle_core.specs.SessionState.{SessionState, open_of, IsReady, MayPost, line_for}
 use Rattle.bundle_core.specs.State.{Open, accepted_as}
 use Rattle.bundle_core.specs.ViewChanges.{is_among}
-use Rattle.bundle_core.specs.View.{view}
+use Rattle.bundle_judge.specs.View.{view}
 
 -- what holds of the sessions as open ones holds of them when more is ready
 pub each_same : (P : Open → Type 0) (old new : List SessionState) → AreSame old new → AllByRecursion (λ x. P (open_of new_document x)) old → AllByRecursion (λ x. P (open_of new_document x)) new

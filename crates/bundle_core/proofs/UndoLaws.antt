@@ -11,9 +11,9 @@ use Rattle.undo_bundles.specs.BundleLog.{Log, count, noted, undo_of}
 use Rattle.undo_bundles.specs.InverseSteps.{inverse_steps}
 use Rattle.user_actions.specs.FreshIds.{StepsLaw}
 use Rattle.view_parts.specs.PartLaws.{AllowedLaw}
-use Rattle.bundle_core.specs.Judgement.{Judgement, accepted, refused}
+use Rattle.bundle_judge.specs.Judgement.{Judgement, accepted, refused}
 use Rattle.bundle_core.specs.State.{Holder, Open, State, Verdicts, bundle_of, from_closed, from_lagging, from_open, opening, records_kept, run, session_of, step, verdicts}
-use Rattle.bundle_core.specs.Undo.{judge_own_undo}
+use Rattle.bundle_judge.specs.Undo.{judge_own_undo}
 use Rattle.bundle_core.specs.UndoLaw.{IsUndoNext, LeadsBackTo, UndoLaw, entry_asks_so}
 use Rattle.bundle_core.proofs.DoneBundles.{BundlesAreDone, IsFine, IsKept, TakesBack, back_own, done_judge}
 use Rattle.bundle_core.proofs.TurnLaws.{IsBundle, log_after, log_in, log_kept, log_of, turn}

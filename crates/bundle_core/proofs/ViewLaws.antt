@@ -21,7 +21,7 @@ use Rattle.view_parts.proofs.SeenParts.{IsView-affected}
 use Rattle.view_parts.proofs.ViewLemmas.{IsView-view}
 use Rattle.bundle_core.specs.declared.view_changes.SeenPart.{SeenPart}
 use Rattle.bundle_core.specs.declared.view_changes.ToldChanges.{ToldChanges}
-use Rattle.bundle_core.specs.View.{view}
+use Rattle.bundle_judge.specs.View.{view}
 use Rattle.bundle_core.specs.ViewChanges.{IsSeen, changes_since, is_among, seen_part, told_to}
 
 pub is_view : (user : User) (s : Document) → IsWhole s → IsView (view user s)

@@ -11,8 +11,8 @@ use Rattle.doc_model.specs.DocumentLaws.{IsWhole}
 use Rattle.doc_model.specs.NewDocument.{new_document}
 use Rattle.action_limits.specs.declared.tally.Tally.{Tally}
 use Rattle.action_limits.specs.Tallies.{IsTally}
-use Rattle.bundle_core.specs.declared.history_core.Opening.{Opening}
-use Rattle.bundle_core.specs.declared.history_core.Opening.TheVariants.{NewDocument}
+use Rattle.bundle_core.specs.declared.loading.Opening.{Opening}
+use Rattle.bundle_core.specs.declared.loading.Opening.TheVariants.{Copied, NewDocument}
 use Rattle.bundle_core.specs.Dispatch.{kept_name, state_of, IsCounted}
 use Rattle.bundle_core.specs.SessionState.{SessionState}
 use Rattle.bundle_core.specs.State.{State, opening, run, session_of, given}
@@ -67,6 +67,10 @@ with_entry c e =
 abbrev pub entry_of : List ℕ → Request → ℕ → Bool → Entry
 entry_of session r size kept = record { session = session; request = r; size = size; kept = kept }
 
+-- the entry, kept or not
+abbrev pub marked : Entry → Bool → Entry
+marked e kept = entry_of e.session e.request e.size kept
+
 -- the entry had room, these lines were given at it, and it was added
 pub record IsStep (old new : CoreState) (e : Entry) (lines : List (List ℕ)) : Type 0 where
   pub has_room : is_full old.history e.request e.size ≡ false
@@ -84,6 +88,7 @@ counted es = min (length es) entry_bound
 -- the document that a core began with
 abbrev pub document_of : Opening → Document
 document_of NewDocument = new_document
+document_of (Copied s) = s
 
 -- what a core keeps is the state that its history leads to; each open session was opened by an
 -- entry, and there is one entry more at most for its end

@@ -7,15 +7,15 @@ use Rattle.doc_model.specs.declared.verdict.RetValue.{RetValue}
 use Rattle.doc_model.specs.declared.view.ViewAction.{ViewAction}
 use Rattle.doc_model.specs.Document.{Document}
 use Rattle.doc_model.specs.ByIds.{precedes}
-use Rattle.bundle_core.specs.BareVerdicts.{reply_of}
+use Rattle.bundle_core.specs.Replies.{reply_of}
 use Rattle.undo_bundles.specs.BundleLog.{count}
 use Rattle.bundle_core.specs.declared.session.BundleNote.{BundleNote}
 use Rattle.bundle_core.specs.SessionState.{SessionState, open_of, IsEmptied, IsReady, posted_state}
-use Rattle.bundle_core.specs.declared.created.Created.{Created}
-use Rattle.bundle_core.specs.Created.{told_of}
+use Rattle.bundle_judge.specs.declared.created.Created.{Created}
+use Rattle.bundle_judge.specs.Created.{told_of}
 use Rattle.bundle_core.specs.State.{State, accepted_as, step, given}
 use Rattle.bundle_core.specs.Noting.{log_after}
-use Rattle.bundle_core.specs.View.{view}
+use Rattle.bundle_judge.specs.View.{view}
 
 abbrev pub kept_name : SessionState → List ℕ
 kept_name x = x.session

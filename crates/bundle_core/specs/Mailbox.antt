@@ -10,8 +10,8 @@ use Rattle.doc_model.specs.declared.view.ViewAction.{ViewAction}
 use Rattle.doc_model.specs.declared.view.ViewTable.{ViewTable}
 use Rattle.doc_model.specs.Changes.{changes}
 use Rattle.grist_json.specs.Lines.{reply_text, stream_text}
-use Rattle.bundle_core.specs.BareVerdicts.{reply_of}
-use Rattle.bundle_core.specs.declared.bare_verdict.BareVerdict.{BareVerdict}
+use Rattle.bundle_core.specs.Replies.{reply_of}
+use Rattle.bundle_judge.specs.declared.bare_verdict.BareVerdict.{BareVerdict}
 
 -- the view now, the number of stream lines made, those that wait, and whether one could not be made
 pub record Mailbox : Type 0 where

@@ -3,7 +3,7 @@ use Rattle.std.specs.Prelude.{ℕ, ⊤, ◌<◌, Option, Some, None, IsOk}
 use Rattle.doc_model.specs.Document.{Document}
 use Rattle.undo_bundles.specs.BundleLog.{Log, noted, undo_of}
 use Rattle.undo_bundles.specs.InverseSteps.{inverse_steps}
-use Rattle.bundle_core.specs.declared.judging.BundlePlan.{BundlePlan}
+use Rattle.bundle_judge.specs.declared.judging.BundlePlan.{BundlePlan}
 use Rattle.bundle_core.specs.declared.session.BundleNote.{BundleNote}
 use Rattle.bundle_core.specs.SessionState.{SessionState}
 use Rattle.bundle_core.specs.State.{with_undone}

@@ -15,13 +15,13 @@ use Rattle.doc_model.specs.Document.{Document}
 use Rattle.doc_model.specs.declared.verdict.RetValue.{RetValue}
 use Rattle.undo_bundles.specs.BundleLog.{Log, count, empty_log, marked, noted, undo_of}
 use Rattle.undo_bundles.specs.InverseSteps.{inverse_steps}
-use Rattle.bundle_core.specs.declared.bare_verdict.BareVerdict.TheVariants as verdict
-use Rattle.bundle_core.specs.declared.bare_verdict.BareVerdict.{BareVerdict}
-use Rattle.bundle_core.specs.Judgement.{Judgement, accepted, refused, judge}
-use Rattle.bundle_core.specs.Undo.{judge_own_undo}
-use Rattle.bundle_core.specs.Created.{told_of}
+use Rattle.bundle_judge.specs.declared.bare_verdict.BareVerdict.TheVariants as verdict
+use Rattle.bundle_judge.specs.declared.bare_verdict.BareVerdict.{BareVerdict}
+use Rattle.bundle_judge.specs.Judgement.{Judgement, accepted, refused, judge}
+use Rattle.bundle_judge.specs.Undo.{judge_own_undo}
+use Rattle.bundle_judge.specs.Created.{told_of}
 use Rattle.bundle_core.specs.Mailbox.{Mailbox, Outcome, quiet, shows_view, says, Turn, due, own}
-use Rattle.bundle_core.specs.View.{view}
+use Rattle.bundle_judge.specs.View.{view}
 
 -- who has a session open, and the bundles of it that were accepted
 pub record Holder : Type 0 where

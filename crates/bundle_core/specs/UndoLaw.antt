@@ -13,7 +13,7 @@ use Rattle.doc_model.specs.DocumentLaws.{IsWhole}
 use Rattle.doc_model.specs.NewDocument.{new_document}
 use Rattle.doc_model.specs.WellFormed.{is_well_formed}
 use Rattle.user_actions.specs.FreshIds.{new_columns_of}
-use Rattle.bundle_core.specs.declared.bare_verdict.BareVerdict.TheVariants as verdict
+use Rattle.bundle_judge.specs.declared.bare_verdict.BareVerdict.TheVariants as verdict
 use Rattle.bundle_core.specs.Mailbox.{Outcome, says}
 use Rattle.bundle_core.specs.State.{State, Verdicts, opening, records_kept, run, step, verdicts}
 

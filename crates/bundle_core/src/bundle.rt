@@ -11,26 +11,26 @@ ghost use Rattle.doc_model.specs.declared.user.User.{User};
 ghost use Rattle.recalc.specs.Evaluated.{filled};
 ghost use Rattle.view_parts.specs.PartLaws.{AreSameOutside};
 ghost use Rattle.view_parts.specs.Viewers.{viewer_of};
-ghost use Rattle.bundle_core.specs.BareVerdicts.{reply_of};
-ghost use Rattle.bundle_core.specs.Dispatch.{AreSame, Bundles, Posts, bundle_number, bundle_reply};
-ghost use Rattle.bundle_core.specs.Created.{told_of};
-ghost use Rattle.bundle_core.specs.JudgedBundles.{after_steps, told_changes};
+ghost use Rattle.bundle_records.specs.Ledger.{IsNextRecord};
+ghost use Rattle.bundle_core.specs.Replies.{reply_of};
+ghost use Rattle.bundle_core.specs.Dispatch.{AreSame, Posts, bundle_number, bundle_reply};
+ghost use Rattle.bundle_judge.specs.Created.{told_of};
+ghost use Rattle.bundle_judge.specs.JudgedBundles.{after_steps, told_changes};
 ghost use Rattle.bundle_core.specs.Noting.{HasBundleRoom, MayBeUndone, note_of};
-ghost use Rattle.bundle_core.specs.State.{accepted_as};
+ghost use Rattle.bundle_core.specs.State.{accepted_as, refusal};
+ghost use Rattle.bundle_core.specs.Turns.{IsAcceptance};
 ghost use Rattle.bundle_core.specs.SessionState.{SessionState, IsReady, MayPost, posted_state};
 ghost use Rattle.bundle_core.specs.ViewChanges.{is_among, told_by};
-ghost use Rattle.bundle_core.specs.View.{view};
-ghost use Rattle.bundle_core.specs.Rollback.{AllLeadBack, gone_back};
+ghost use Rattle.bundle_judge.specs.View.{view};
+ghost use Rattle.bundle_judge.specs.Rollback.{AllLeadBack, gone_back};
 
-use crate::bare_verdict::BareVerdict;
-use crate::created::all_told;
-use crate::judging::BundlePlan;
-use crate::rollback::{do_for_good, go_back_all};
 use crate::session::{BundleNote, OpenSession};
-use crate::split_steps::SplitSteps;
-use crate::turns::{post_all, prepare_all, reply_with};
+use crate::turns::{post_all, prepare_all, reply_with, stay_ready};
 use crate::view_changes::{ToldChanges, see_parts, tell_changes, viewers_of};
-use doc_model::{DocTables, RetValueList, StepList};
+use bundle_judge::{BareVerdict, BundlePlan, SplitSteps, all_told, do_for_good, go_back_all};
+use bundle_records::RecordLedger;
+use doc_keeper::{KeepFault, Keeper};
+use doc_model::{DocTables, Refusal, RetValueList, StepList};
 use grist_json::Line;
 use recalc::{Doc, Trace};
 use std::alloc::{AllocError, Global};
@@ -43,6 +43,15 @@ pub(crate) struct ReadyBundle {
     pub note: BundleNote,
 }
 
+/// What is ready of an accepted bundle before it is kept: its record, and the reply where the
+/// keeper fails.
+#[derive(Drop)]
+struct KeepReady {
+    bundle: ReadyBundle,
+    record: Line,
+    refusal: Line,
+}
+
 /// What was done and what is told of it.
 #[derive(Drop)]
 struct DoneSteps {
@@ -50,15 +59,26 @@ struct DoneSteps {
     told: Vec<ToldChanges>,
 }
 
-/// Does the steps of a bundle of the session of that index, and posts every other open session
-/// the line that tells them. All memory is taken before anything that can be seen changes.
-pub(crate) fn accept<D: DocTables>(
+/// What became of an accepted bundle, and the lines that its session is given.
+#[derive(Drop)]
+pub(crate) enum Acceptance {
+    /// It is done and kept.
+    Done(Vec<Line>),
+    /// The keeper failed, and nothing is done.
+    Unkept(Vec<Line>),
+}
+
+/// Does the steps of a bundle of the session of that index, gives its record to the keeper, and
+/// posts every other open session the line that tells them. All memory is taken before the keeper
+/// is called; where it fails, what was done is gone back over, and the session is told so.
+pub(crate) fn accept<D: DocTables, K: Keeper>(
     alloc: Global,
     doc: &mut Doc<D>,
     sessions: &mut Vec<OpenSession>,
+    records: &mut RecordLedger<K>,
     index: usize,
     plan: &BundlePlan,
-) -> Result<Vec<Line>, AllocError>
+) -> Result<Acceptance, AllocError>
     requires within { index < length sessions.old.items }
     requires whole { IsWhole (D.document doc.old) }
     requires valid { all_valid (D.document doc.old) (map action_of plan.now.steps) ≡ true }
@@ -69,24 +89,96 @@ pub(crate) fn accept<D: DocTables>(
     requires few_bundles { AllByRecursion (λ x. count x.holder.log < 2 ^ 62) sessions.old.items }
     requires own { (d : SessionState)
         → MayBeUndone plan.now.undone (get_or sessions.old.items index d).holder.log }
-    ensures document { OnOk result
-        (D.document doc.new ≡ after_steps (D.document doc.old) plan.now.steps) }
-    ensures sessions { IfOk result (λ v. Bundles sessions.old.items sessions.new.items index
-        (told_changes (D.document doc.old) (map action_of plan.now.steps))
-        (note_of (D.document doc.old) plan.now)
-        (bundle_reply sessions.old.items index plan.now.undone
-        (after_steps (D.document doc.old) plan.now.steps) plan.now.created.items)
-        v.items) }
+    ensures ok { IfOk result (λ a. IsAcceptance (D.document doc.old) (D.document doc.new)
+        sessions.old.items sessions.new.items records.old records.new index plan.now a) }
+    ensures later { records.old.faults ≤ records.new.faults }
     ensures err_document { OnErr result (D.document doc.new ≡ D.document doc.old) }
     ensures err { OnErr result (AreSame sessions.old.items sessions.new.items) }
+    ensures err_told { OnErr result (records.new.told ≡ records.old.told) }
 {
     let mut traces = Vec::new(alloc);
-    match ready_bundle(alloc, doc, sessions, index, plan, &mut traces) {
-        Ok(ready) => Ok(post(alloc, sessions, index, ready)),
+    let ready = match ready_to_keep(alloc, doc, sessions, records, index, plan, &mut traces) {
+        Ok(ready) => ready,
         Err(fault) => {
             go_back_all(doc, traces);
-            Err(fault)
+            return Err(fault);
         }
+    };
+    let KeepReady {
+        bundle,
+        record,
+        refusal,
+    } = ready;
+    match records.keep(&record) {
+        Ok(()) => Ok(Acceptance::Done(post(alloc, sessions, index, bundle))),
+        Err(KeepFault::Failed) => {
+            go_back_all(doc, traces);
+            Ok(Acceptance::Unkept(stay_ready(alloc, sessions, index, refusal)))
+        }
+        Err(KeepFault::NoMemory) => {
+            go_back_all(doc, traces);
+            Err(AllocError)
+        }
+    }
+}
+
+// Does the steps, and makes ready the record, the replies to a bundle that is kept and to one that
+// is not, the note, and each session's line.
+fn ready_to_keep<D: DocTables, K: Keeper>(
+    alloc: Global,
+    doc: &mut Doc<D>,
+    sessions: &mut Vec<OpenSession>,
+    records: &RecordLedger<K>,
+    index: usize,
+    plan: &BundlePlan,
+    traces: &mut Vec<Trace<D>>,
+) -> Result<KeepReady, AllocError>
+    requires within { index < length sessions.old.items }
+    requires whole { IsWhole (D.document doc.old) }
+    requires valid { all_valid (D.document doc.old) (map action_of plan.now.steps) ≡ true }
+    requires outside { AreSameOutside (map action_of plan.now.steps) plan.now.changed.items
+        (filled (D.document doc.old))
+        (filled (after_steps (D.document doc.old) plan.now.steps)) }
+    requires few { AllByRecursion (λ x. x.made < 2 ^ 63) sessions.old.items }
+    requires few_bundles { AllByRecursion (λ x. count x.holder.log < 2 ^ 62) sessions.old.items }
+    requires first { traces.old.items ≡ [] }
+    ensures document { OnOk result
+        (D.document doc.new ≡ after_steps (D.document doc.old) plan.now.steps) }
+    ensures led { AllLeadBack D.fits D.undone traces.new.items (D.document doc.new) }
+    ensures back { gone_back D.fits D.undone traces.new.items (D.document doc.new)
+        ≡ D.document doc.old }
+    ensures reply { IfOk result (λ r. r.bundle.reply ≡ bundle_reply sessions.old.items index
+        plan.now.undone (after_steps (D.document doc.old) plan.now.steps)
+        plan.now.created.items) }
+    ensures note { IfOk result (λ r. r.bundle.note ≡ note_of (D.document doc.old) plan.now) }
+    ensures record { IfOk result (λ r.
+        IsNextRecord records.now.told (map action_of plan.now.steps) r.record) }
+    ensures refusal { IfOk result (λ r. r.refusal ≡ reply_of (refusal Refusal.StoreFault)) }
+    ensures same { AreSame sessions.old.items sessions.new.items }
+    ensures ready { OnOk result
+        (AllByRecursion (IsReady (told_changes (D.document doc.old) (map action_of plan.now.steps)))
+        sessions.new.items) }
+    ensures room { IfOk result (λ _. (d : SessionState)
+        → HasBundleRoom (get_or sessions.new.items index d)) }
+    ensures length { length sessions.new.items ≡ length sessions.old.items }
+{
+    let record = records.record_of(alloc, plan.steps.action_list())?;
+    let refusal = reply_with(alloc, unkept())?;
+    let bundle = ready_bundle(alloc, doc, sessions, index, plan, traces)?;
+    Ok(KeepReady {
+        bundle,
+        record,
+        refusal,
+    })
+}
+
+// The verdict of a bundle that the keeper failed to keep.
+fn unkept() -> BareVerdict
+    ensures { result ≡ refusal Refusal.StoreFault }
+{
+    BareVerdict::Refused {
+        refusal: Refusal::StoreFault,
+        action: None,
     }
 }
 

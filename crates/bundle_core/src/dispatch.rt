@@ -1,7 +1,7 @@
 //! How an entry is answered: which verdict it comes to, and what that makes of the document and the
 //! sessions.
 
-ghost use Rattle.std.specs.Prelude.{◌≡◌, ◌+◌, ◌<◌, ◌^◌, [], ◌∷◌, find, get_or, true, false, IfOk, OnErr, None, Some};
+ghost use Rattle.std.specs.Prelude.{◌≡◌, ◌+◌, ◌<◌, ◌≤◌, ◌^◌, [], ◌∷◌, find, get_or, true, false, Ok, Err, IfOk, OnErr, MatchResult, None, Some};
 ghost use Rattle.std.specs.List.{AllByRecursion, list_all};
 ghost use Rattle.std.specs.Option.{option_copied};
 ghost use Rattle.std.specs.Str.{bytes_eq};
@@ -14,23 +14,24 @@ ghost use Rattle.doc_model.specs.declared.request.Request.TheVariants.{Open, App
 ghost use Rattle.grist_json.specs.Lines.{reply_text};
 ghost use Rattle.action_limits.specs.Tallies.{IsTally};
 ghost use Rattle.undo_bundles.specs.BundleLog.{count};
-ghost use Rattle.bundle_core.specs.Core.{is_gone};
+ghost use Rattle.bundle_core.specs.Core.{is_gone, marked};
 ghost use Rattle.bundle_core.specs.Dispatch.{AreSame, Answers, Misses, Finds, kept_name};
 ghost use Rattle.bundle_core.specs.Judged.{IsJudgedFor};
 ghost use Rattle.bundle_core.specs.Requests.{refusal_closed, refusal_open};
 ghost use Rattle.bundle_core.specs.SessionState.{SessionState};
 ghost use Rattle.bundle_core.specs.State.{user_of};
+ghost use Rattle.bundle_core.specs.Turns.{IsTurn};
 ghost use Rattle.view_parts.specs.Shown.{view as shown_to};
 ghost use Rattle.view_parts.specs.Viewers.{viewer_of};
 
-use crate::bare_verdict::BareVerdict;
-use crate::bundle::{accept, put_back};
-use crate::judging::{JudgedBundle, judge};
+use crate::bundle::{Acceptance, accept, put_back};
 use crate::session::OpenSession;
 use crate::session_index::index_of;
 use crate::turns::{leave, line_alone, reply_alone, stay};
-use crate::undoing::judge_own_undo;
 use action_limits::Tally;
+use bundle_judge::{BareVerdict, JudgedBundle, judge, judge_own_undo};
+use bundle_records::RecordLedger;
+use doc_keeper::Keeper;
 use doc_model::{
     DocReader, DocTables, Entry, LimitKind, MAX_SESSIONS, Refusal, Request, User, UserActionList,
     Verdict, View, ViewTableList,
@@ -40,6 +41,13 @@ use plain_view::changes;
 use recalc::Doc;
 use std::alloc::{AllocError, Global};
 use view_parts::{Viewer, whole_view};
+
+/// The lines that are given at an entry, and whether the entry is kept.
+#[derive(Drop)]
+pub(crate) struct Turn {
+    pub lines: Vec<Line>,
+    pub kept: bool,
+}
 
 // Why a request of a session that is not open is refused, where it does not ask for the document;
 // what is not built yet is no request.
@@ -86,17 +94,29 @@ fn user_of<'a>(users: &'a [User], token: &str) -> Option<&'a User>
     users.iter().find(|user| user.token.as_str() == token)
 }
 
+// The turn of an entry that asks for nothing that is kept.
+fn quiet(lines: Result<Vec<Line>, AllocError>) -> Result<Turn, AllocError>
+    ensures { MatchResult lines (λ v. result ≡ Ok (record { lines = v; kept = true }))
+        (λ fault. result ≡ Err fault) }
+{
+    match lines {
+        Ok(lines) => Ok(Turn { lines, kept: true }),
+        Err(fault) => Err(fault),
+    }
+}
+
 /// Answers an entry of a session that does not go away: the lines that it is given, with the
-/// document and the sessions as they are after it. When out of memory, nothing that can be seen has
-/// changed.
-pub(crate) fn answer<D: DocTables>(
+/// document, the sessions and what is told of the keeper as they are after it. When out of memory,
+/// nothing that can be seen has changed, but that the keeper may have failed.
+pub(crate) fn answer<D: DocTables, K: Keeper>(
     alloc: Global,
     users: &[User],
     doc: &mut Doc<D>,
     tally: &mut Tally,
     sessions: &mut Vec<OpenSession>,
+    records: &mut RecordLedger<K>,
     entry: &Entry,
-) -> Result<Vec<Line>, AllocError>
+) -> Result<Turn, AllocError>
     requires whole { IsWhole (D.document doc.old) }
     requires tally { IsTally (D.document doc.old) tally.old }
     requires by_name { IsByIds kept_name sessions.old.items }
@@ -105,16 +125,19 @@ pub(crate) fn answer<D: DocTables>(
     requires few_bundles { AllByRecursion (λ x. count x.holder.log < 2 ^ 62) sessions.old.items }
     requires kept { entry.now.kept ≡ true }
     requires well_formed { asks_well_formed entry.now.request ≡ true }
-    ensures ok { IfOk result (λ v. Answers users.now (D.document doc.old)
-        (D.document doc.new) sessions.old.items sessions.new.items entry.now v.items) }
+    ensures ok { IfOk result (λ t. IsTurn users.now (D.document doc.old) (D.document doc.new)
+        sessions.old.items sessions.new.items records.old records.new (marked entry.now t.kept)
+        t.lines.items) }
     ensures whole { IsWhole (D.document doc.new) }
     ensures tally { IsTally (D.document doc.new) tally.new }
     ensures err_document { OnErr result (D.document doc.new ≡ D.document doc.old) }
     ensures err { OnErr result (AreSame sessions.old.items sessions.new.items) }
+    ensures err_told { OnErr result (records.new.told ≡ records.old.told) }
+    ensures later { records.old.faults ≤ records.new.faults }
 {
     match index_of(sessions, &entry.session) {
-        Err(index) => answer_closed(alloc, users, doc, sessions, index, entry),
-        Ok(index) => answer_open(alloc, users, doc, tally, sessions, index, entry),
+        Err(index) => quiet(answer_closed(alloc, users, doc, sessions, index, entry)),
+        Ok(index) => answer_open(alloc, users, doc, tally, sessions, records, index, entry),
     }
 }
 
@@ -221,15 +244,16 @@ fn too_many() -> BareVerdict
 }
 
 // The entry is of the open session of that index.
-fn answer_open<D: DocTables>(
+fn answer_open<D: DocTables, K: Keeper>(
     alloc: Global,
     users: &[User],
     doc: &mut Doc<D>,
     tally: &mut Tally,
     sessions: &mut Vec<OpenSession>,
+    records: &mut RecordLedger<K>,
     index: usize,
     entry: &Entry,
-) -> Result<Vec<Line>, AllocError>
+) -> Result<Turn, AllocError>
     requires finds { Finds entry.now.session sessions.old.items index }
     requires stays { is_gone entry.now.request ≡ false }
     requires whole { IsWhole (D.document doc.old) }
@@ -238,43 +262,51 @@ fn answer_open<D: DocTables>(
     requires few_bundles { AllByRecursion (λ x. count x.holder.log < 2 ^ 62) sessions.old.items }
     requires kept { entry.now.kept ≡ true }
     requires well_formed { asks_well_formed entry.now.request ≡ true }
-    ensures ok { IfOk result (λ v. Answers users.now (D.document doc.old)
-        (D.document doc.new) sessions.old.items sessions.new.items entry.now v.items) }
+    ensures ok { IfOk result (λ t. IsTurn users.now (D.document doc.old) (D.document doc.new)
+        sessions.old.items sessions.new.items records.old records.new (marked entry.now t.kept)
+        t.lines.items) }
     ensures whole { IsWhole (D.document doc.new) }
     ensures tally { IsTally (D.document doc.new) tally.new }
     ensures err_document { OnErr result (D.document doc.new ≡ D.document doc.old) }
     ensures err { OnErr result (AreSame sessions.old.items sessions.new.items) }
+    ensures err_told { OnErr result (records.new.told ≡ records.old.told) }
+    ensures later { records.old.faults ≤ records.new.faults }
 {
     if sessions[index].is_lagging() {
-        return leave(alloc, sessions, index, refused(Refusal::Lagged));
+        return quiet(leave(alloc, sessions, index, refused(Refusal::Lagged)));
     }
     if let Some(refusal) = refusal_open(&entry.request) {
-        return stay(alloc, sessions, index, refused(refusal));
+        return quiet(stay(alloc, sessions, index, refused(refusal)));
     }
     match &entry.request {
         Request::Apply { actions } => {
-            answer_bundle(alloc, users, doc, tally, sessions, index, entry, actions)
+            answer_bundle(
+                alloc, users, doc, tally, sessions, records, index, entry, actions,
+            )
         }
         Request::Undo { bundle } => {
-            answer_undo(alloc, users, doc, tally, sessions, index, entry, *bundle)
+            answer_undo(
+                alloc, users, doc, tally, sessions, records, index, entry, *bundle,
+            )
         }
-        Request::Close => leave(alloc, sessions, index, BareVerdict::Done),
-        _ => stay(alloc, sessions, index, BareVerdict::Done),
+        Request::Close => quiet(leave(alloc, sessions, index, BareVerdict::Done)),
+        _ => quiet(stay(alloc, sessions, index, BareVerdict::Done)),
     }
 }
 
 // Judges a bundle of the open session of that index, which does not lag, and does it where it is
 // accepted.
-fn answer_bundle<D: DocTables>(
+fn answer_bundle<D: DocTables, K: Keeper>(
     alloc: Global,
     users: &[User],
     doc: &mut Doc<D>,
     tally: &mut Tally,
     sessions: &mut Vec<OpenSession>,
+    records: &mut RecordLedger<K>,
     index: usize,
     entry: &Entry,
     actions: &UserActionList,
-) -> Result<Vec<Line>, AllocError>
+) -> Result<Turn, AllocError>
     requires finds { Finds entry.now.session sessions.old.items index }
     requires quick { (d : SessionState) → (get_or sessions.old.items index d).lagging ≡ false }
     requires asks { entry.now.request ≡ Apply actions.now }
@@ -284,12 +316,15 @@ fn answer_bundle<D: DocTables>(
     requires few_bundles { AllByRecursion (λ x. count x.holder.log < 2 ^ 62) sessions.old.items }
     requires kept { entry.now.kept ≡ true }
     requires well_formed { list_all is_well_formed actions.now ≡ true }
-    ensures ok { IfOk result (λ v. Answers users.now (D.document doc.old)
-        (D.document doc.new) sessions.old.items sessions.new.items entry.now v.items) }
+    ensures ok { IfOk result (λ t. IsTurn users.now (D.document doc.old) (D.document doc.new)
+        sessions.old.items sessions.new.items records.old records.new (marked entry.now t.kept)
+        t.lines.items) }
     ensures whole { IsWhole (D.document doc.new) }
     ensures tally { IsTally (D.document doc.new) tally.new }
     ensures err_document { OnErr result (D.document doc.new ≡ D.document doc.old) }
     ensures err { OnErr result (AreSame sessions.old.items sessions.new.items) }
+    ensures err_told { OnErr result (records.new.told ≡ records.old.told) }
+    ensures later { records.old.faults ≤ records.new.faults }
 {
     let judged = judge(
         alloc,
@@ -298,21 +333,24 @@ fn answer_bundle<D: DocTables>(
         sessions[index].user(),
         actions.as_slice(),
     )?;
-    answer_judged(alloc, users, doc, tally, sessions, index, entry, judged)
+    answer_judged(
+        alloc, users, doc, tally, sessions, records, index, entry, judged,
+    )
 }
 
 // Judges the undo of a bundle of the open session of that index, which does not lag, and does it
 // where it is accepted.
-fn answer_undo<D: DocTables>(
+fn answer_undo<D: DocTables, K: Keeper>(
     alloc: Global,
     users: &[User],
     doc: &mut Doc<D>,
     tally: &mut Tally,
     sessions: &mut Vec<OpenSession>,
+    records: &mut RecordLedger<K>,
     index: usize,
     entry: &Entry,
     number: u64,
-) -> Result<Vec<Line>, AllocError>
+) -> Result<Turn, AllocError>
     requires finds { Finds entry.now.session sessions.old.items index }
     requires quick { (d : SessionState) → (get_or sessions.old.items index d).lagging ≡ false }
     requires asks { entry.now.request ≡ Undo number }
@@ -321,28 +359,35 @@ fn answer_undo<D: DocTables>(
     requires few { AllByRecursion (λ x. x.made < 2 ^ 62) sessions.old.items }
     requires few_bundles { AllByRecursion (λ x. count x.holder.log < 2 ^ 62) sessions.old.items }
     requires kept { entry.now.kept ≡ true }
-    ensures ok { IfOk result (λ v. Answers users.now (D.document doc.old)
-        (D.document doc.new) sessions.old.items sessions.new.items entry.now v.items) }
+    ensures ok { IfOk result (λ t. IsTurn users.now (D.document doc.old) (D.document doc.new)
+        sessions.old.items sessions.new.items records.old records.new (marked entry.now t.kept)
+        t.lines.items) }
     ensures whole { IsWhole (D.document doc.new) }
     ensures tally { IsTally (D.document doc.new) tally.new }
     ensures err_document { OnErr result (D.document doc.new ≡ D.document doc.old) }
     ensures err { OnErr result (AreSame sessions.old.items sessions.new.items) }
+    ensures err_told { OnErr result (records.new.told ≡ records.old.told) }
+    ensures later { records.old.faults ≤ records.new.faults }
 {
-    let judged = judge_own_undo(alloc, doc, *tally, &sessions[index], number)?;
-    answer_judged(alloc, users, doc, tally, sessions, index, entry, judged)
+    let session = &sessions[index];
+    let judged = judge_own_undo(alloc, doc, *tally, session.user(), session.log(), number)?;
+    answer_judged(
+        alloc, users, doc, tally, sessions, records, index, entry, judged,
+    )
 }
 
 // Does a bundle of the open session of that index, or an undo, where it was accepted.
-fn answer_judged<D: DocTables>(
+fn answer_judged<D: DocTables, K: Keeper>(
     alloc: Global,
     users: &[User],
     doc: &mut Doc<D>,
     tally: &mut Tally,
     sessions: &mut Vec<OpenSession>,
+    records: &mut RecordLedger<K>,
     index: usize,
     entry: &Entry,
     judged: JudgedBundle,
-) -> Result<Vec<Line>, AllocError>
+) -> Result<Turn, AllocError>
     requires finds { Finds entry.now.session sessions.old.items index }
     requires quick { (d : SessionState) → (get_or sessions.old.items index d).lagging ≡ false }
     requires judged { (d : SessionState) → IsJudgedFor (get_or sessions.old.items index d).holder
@@ -352,19 +397,26 @@ fn answer_judged<D: DocTables>(
     requires few { AllByRecursion (λ x. x.made < 2 ^ 62) sessions.old.items }
     requires few_bundles { AllByRecursion (λ x. count x.holder.log < 2 ^ 62) sessions.old.items }
     requires kept { entry.now.kept ≡ true }
-    ensures ok { IfOk result (λ v. Answers users.now (D.document doc.old)
-        (D.document doc.new) sessions.old.items sessions.new.items entry.now v.items) }
+    ensures ok { IfOk result (λ t. IsTurn users.now (D.document doc.old) (D.document doc.new)
+        sessions.old.items sessions.new.items records.old records.new (marked entry.now t.kept)
+        t.lines.items) }
     ensures whole { IsWhole (D.document doc.new) }
     ensures tally { IsTally (D.document doc.new) tally.new }
     ensures err_document { OnErr result (D.document doc.new ≡ D.document doc.old) }
     ensures err { OnErr result (AreSame sessions.old.items sessions.new.items) }
+    ensures err_told { OnErr result (records.new.told ≡ records.old.told) }
+    ensures later { records.old.faults ≤ records.new.faults }
 {
     match judged {
-        JudgedBundle::Refused(verdict) => stay(alloc, sessions, index, verdict),
+        JudgedBundle::Refused(verdict) => quiet(stay(alloc, sessions, index, verdict)),
         JudgedBundle::Accepted(plan) => {
-            let lines = accept(alloc, doc, sessions, index, &plan)?;
-            *tally = plan.tally;
-            Ok(lines)
+            match accept(alloc, doc, sessions, records, index, &plan)? {
+                Acceptance::Done(lines) => {
+                    *tally = plan.tally;
+                    Ok(Turn { lines, kept: true })
+                }
+                Acceptance::Unkept(lines) => Ok(Turn { lines, kept: false }),
+            }
         }
     }
 }

@@ -1,19 +1,27 @@
 //! The core: a document and its sessions as a history of requests leads to them.
 
-ghost use Rattle.std.specs.Prelude.{ℕ, ◌≡◌, ◌≤◌, true, false, [], IfOk, IsOk, OnErr, ◌+◌, length, nat_lt};
+ghost use Rattle.std.specs.Prelude.{ℕ, ◌≡◌, ◌≤◌, true, false, [], IfErr, IfOk, IsOk, OnErr, ◌+◌, length, nat_lt};
+ghost use Rattle.io_edges.specs.Causes.{Rose};
 ghost use Rattle.doc_model.specs.NewDocument.{new_document};
 ghost use Rattle.doc_model.specs.WellFormed.{asks_well_formed};
 ghost use Rattle.doc_model.specs.declared.request.Request.TheVariants.{Gone};
-ghost use Rattle.bundle_core.specs.Core.{bytes_left, entry_of, history_bound, is_full, is_gone, size_bound, IsStep};
+ghost use Rattle.doc_opening.specs.Opening.{FirstBad};
+ghost use Rattle.doc_opening.specs.declared.opening.StartCause.TheVariants.{BadStore, StoreFault};
+ghost use Rattle.bundle_core.specs.Core.{bytes_left, entry_of, history_bound, is_full, is_gone, marked, size_bound};
+ghost use Rattle.bundle_core.specs.KeptCore.{IsKeeping, IsStarted, IsTaken, IsUnchanged};
+ghost use Rattle.bundle_core.specs.Loading.{IsLoaded};
 ghost use Rattle.bundle_core.specs.Steps.{IsAnswer};
 
-use crate::dispatch::answer;
+use crate::dispatch::{Turn, answer};
+use crate::loading::{Loaded, Opening, load};
 use crate::session::OpenSession;
 use crate::session_index::index_of;
 use action_limits::Tally;
+use bundle_records::RecordLedger;
 use cell_types::{Name, Sequence};
-use doc_model::laws::new_document_law;
+use doc_keeper::Keeper;
 use doc_model::{Entry, EntryList, Request, UserList};
+use doc_opening::StartCause;
 use grist_json::Line;
 use recalc::Doc;
 use row_tables::RowTables;
@@ -38,16 +46,25 @@ pub enum Answer {
     Full,
 }
 
-/// The document that a core began with.
-#[derive(Clone, Copy)]
-pub(crate) enum Opening {
-    NewDocument,
+/// Why a core was not started, with its keeper.
+#[derive(Drop)]
+pub struct StartFault<K: Keeper> {
+    pub cause: StartCause,
+    pub keeper: K,
 }
 
-/// A document, its open sessions and its history. It is seen as its users, the document that it
-/// began with, and the history: all else is what the history leads to.
+/// What a core leaves: its history, and its keeper as it is.
 #[derive(Drop)]
-pub struct Core {
+pub struct Finished<K: Keeper> {
+    pub history: EntryList,
+    pub keeper: K,
+}
+
+/// A document, its open sessions, its history, and the keeper of its accepted bundles. It is seen
+/// as its users, the document that it began with and the history, all else being what that leads
+/// to, and beside them what is told of its keeper.
+#[derive(Drop)]
+pub struct Core<K: Keeper> {
     alloc: Global,
     users: UserList,
     opening: Opening,
@@ -56,60 +73,98 @@ pub struct Core {
     sessions: Vec<OpenSession>,
     entries: Vec<Entry>,
     bytes_left: Option<u32>,
+    records: RecordLedger<K>,
+    opened: u32,
+    before: u64,
 }
 
-impl Model for Core {
-    ghost use Rattle.std.specs.Prelude.{◌+◌, ◌≤◌, length, vec_capacity, vec_len};
-    ghost use Rattle.bundle_core.specs.Core.{CoreState, IsCore, document_of};
+impl<K: Keeper> Model for Core<K> {
+    ghost use Rattle.std.specs.Prelude.{◌+◌, ◌≤◌, length, option_map, take, vec_capacity, vec_len};
+    ghost use Rattle.bundle_core.specs.Core.{IsCore, document_of};
+    ghost use Rattle.bundle_core.specs.KeptCore.{IsKeptFrom, KeptCore};
 
-    ghost Value = { CoreState };
+    ghost Value = { KeptCore };
 
     ghost view = { λ c. record {
-      users = c.users;
-      start = document_of c.opening;
-      history = c.entries.items;
+      state = record {
+        users = c.users;
+        start = document_of c.opening;
+        history = c.entries.items;
+      };
+      kept = record {
+        opening = option_map (take c.opened) c.records.told;
+        before = c.before;
+        records = c.records.told;
+        faults = c.records.faults;
+      };
     } };
 
     ghost invariant = { λ c. IsCore c.users (document_of c.opening) c.entries.items c.doc
         c.tally c.sessions.items c.bytes_left
-        × (vec_len c.entries + length c.sessions.items ≤ vec_capacity c.entries) };
+        × (vec_len c.entries + length c.sessions.items ≤ vec_capacity c.entries)
+        × IsKeptFrom c.users (document_of c.opening) c.entries.items c.opened c.before c.records
+        c.doc };
 }
 
-impl Core {
-    /// A core of a new document that nobody may open yet.
+impl<K: Keeper> Core<K> {
+    /// A core for these users, over the document that the records of the keeper make of the new
+    /// one. They are loaded once, and the document is evaluated once.
     ///
-    /// Errors: out of memory.
-    pub fn new(alloc: Global) -> Result<Self, AllocError>
-        ensures { IfOk result (λ c. c ≡ record { users = []; start = new_document; history = [] }) }
+    /// Errors: `StoreFault`, where the keeper's count of faults rose; `BadStore`, of the first
+    /// record that is bad at its place; out of memory. The keeper is handed back.
+    pub fn start(alloc: Global, users: UserList, keeper: K) -> Result<Core<K>, StartFault<K>>
+        ensures ok { IfOk result (λ c. IsStarted users (K.records keeper) (K.failures keeper) c) }
+        ensures same { IfErr result (λ f. K.records f.keeper ≡ K.records keeper) }
+        ensures later { IfErr result (λ f. K.failures keeper ≤ K.failures f.keeper) }
+        ensures fault { IfErr result (λ f. f.cause ≡ StoreFault
+            → Rose (K.failures keeper) (K.failures f.keeper)) }
+        ensures bad { IfErr result (λ f. (n : ℕ) → f.cause ≡ BadStore n
+            → FirstBad (K.records keeper) new_document n) }
     {
-        Ok(Core {
+        let mut keeper = keeper;
+        match load(alloc, &mut keeper) {
+            Ok(loaded) => Ok(Core::of(alloc, users, loaded, keeper)),
+            Err(cause) => Err(StartFault { cause, keeper }),
+        }
+    }
+
+    // A core before anything was asked of it.
+    fn of(alloc: Global, users: UserList, loaded: Loaded, keeper: K) -> Self
+        requires { IsLoaded (K.records keeper) loaded }
+        ensures { IsStarted users (K.records keeper) (K.failures keeper) result }
+    {
+        let Loaded {
+            opening,
+            doc,
+            tally,
+            count,
+        } = loaded;
+        let records = RecordLedger::new(keeper, count as u64);
+        let before = records.faults();
+        Core {
             alloc,
-            users: UserList::new(alloc),
-            opening: Opening::NewDocument,
-            doc: new_doc(alloc)?,
-            tally: Tally::of_new_document(),
+            users,
+            opening,
+            doc,
+            tally,
             sessions: Vec::new(alloc),
             entries: Vec::new(alloc),
             bytes_left: Some(MAX_HISTORY_BYTES),
-        })
+            records,
+            opened: count,
+            before,
+        }
     }
 
-    /// The core with these users, before anything is asked of it.
-    pub fn with_users(self, users: UserList) -> Self
-        requires first { self.history ≡ [] }
-        ensures { result ≡ record { users = users; start = self.start; history = [] } }
-    {
-        let mut core = self;
-        core.users = users;
-        core
-    }
-
-    /// Takes one request of a session, and answers with the lines that the session is given.
+    /// Takes one request of a session, and answers with the lines that the session is given. A
+    /// bundle that is accepted is kept before it takes effect; where the keeper fails, its session
+    /// is told so, and nothing else changes.
     ///
     /// Units: the size is the byte count of the request's line.
     /// Errors: `Full` where the history has no room for the request; it changes nothing.
-    /// Memory: where there is none, nothing changes. A session that goes away takes none: as it was
-    /// opened, room was made for the entry of its end, which has its name.
+    /// Memory: all of it is taken before the keeper is called. Where there is none, nothing
+    /// changes, but that the keeper's count of faults may have grown. A session that goes away
+    /// takes none: as it was opened, room was made for the entry of its end, which has its name.
     pub fn step(
         &mut self,
         session: &Name,
@@ -117,9 +172,9 @@ impl Core {
         size: u32,
     ) -> Result<Answer, AllocError>
         requires well_formed { asks_well_formed request ≡ true }
-        ensures ok { IfOk result (λ a. IsAnswer self.old self.new
-            (entry_of session.now request size true) a) }
-        ensures err { OnErr result (self.new ≡ self.old) }
+        ensures ok { IfOk result (λ a.
+            IsAnswer self.old self.new session.now request size a) }
+        ensures err { OnErr result (IsUnchanged self.old self.new) }
         ensures gone { is_gone request ≡ true → IsOk result }
     {
         if is_gone(&request) {
@@ -136,7 +191,7 @@ impl Core {
 
     // The connection of the session ended: where it is open, its name goes into the entry.
     fn go_away(&mut self, session: &Name, size: u32) -> LineList
-        ensures { IsStep self.old self.new (entry_of session.now Gone size true) result }
+        ensures { IsTaken self.old self.new session.now Gone size result }
     {
         let nothing = LineList::from(Vec::new(self.alloc));
         let Ok(index) = index_of(&self.sessions, session) else {
@@ -150,56 +205,78 @@ impl Core {
 
     // Takes an entry that there is room for. There is room then for the end of each open session.
     fn take(&mut self, entry: Entry) -> Result<LineList, AllocError>
-        requires room { is_full self.old.history entry.request entry.size ≡ false }
+        requires room { is_full self.old.state.history entry.request entry.size ≡ false }
         requires stays { is_gone entry.request ≡ false }
         requires kept { entry.kept ≡ true }
         requires well_formed { asks_well_formed entry.request ≡ true }
-        ensures ok { IfOk result (λ lines. IsStep self.old self.new entry lines) }
-        ensures err { OnErr result (self.new ≡ self.old) }
+        ensures ok { IfOk result (λ lines.
+            IsTaken self.old self.new entry.session entry.request entry.size lines) }
+        ensures err { OnErr result (IsUnchanged self.old self.new) }
     {
         self.entries.reserve(self.sessions.len() + 2)?;
         let users = self.users.as_slice();
-        let lines = answer(
+        let turn = answer(
             self.alloc,
             users,
             &mut self.doc,
             &mut self.tally,
             &mut self.sessions,
+            &mut self.records,
             &entry,
         )?;
+        let Turn { lines, kept } = turn;
         self.bytes_left = left_after(self.bytes_left, entry.size);
-        self.entries.push_reserved(entry);
+        self.entries.push_reserved(with_mark(entry, kept));
         Ok(LineList::from(lines))
     }
 
     /// The entries so far.
     pub fn history(&self) -> &[Entry]
-        ensures entries { result.now ≡ self.now.history }
+        ensures entries { result.now ≡ self.now.state.history }
         ensures bounded { length result.now ≤ history_bound }
+        ensures keeping { IsKeeping self.now }
     {
         self.entries.as_slice()
     }
 
-    /// Ends the core, and gives its history.
-    pub fn finish(self) -> EntryList
-        ensures { result ≡ self.history }
+    /// Ends the core, and gives its history, and its keeper as it is.
+    ///
+    /// Memory: none.
+    pub fn finish(self) -> Finished<K>
+        ensures history { result.history ≡ self.state.history }
+        ensures records { K.records result.keeper ≡ self.kept.records }
+        ensures faults { K.failures result.keeper ≡ self.kept.faults }
+        ensures keeping { IsKeeping self }
     {
-        EntryList::from(self.entries)
+        Finished {
+            history: EntryList::from(self.entries),
+            keeper: self.records.into_keeper(),
+        }
     }
 
     fn is_full(&self, request: &Request, size: u32) -> bool
-        ensures { result ≡ is_full self.now.history request.now size }
+        ensures { result ≡ is_full self.now.state.history request.now size }
     {
         !is_gone(request) && (self.entries.len() >= MAX_ENTRIES || is_past(self.bytes_left, size))
     }
 }
 
-// The new document, in which there is nothing to evaluate.
-fn new_doc(alloc: Global) -> Result<Doc<RowTables>, AllocError>
-    ensures { IfOk result (λ doc. doc ≡ new_document) }
+// The entry, kept or not.
+fn with_mark(entry: Entry, kept: bool) -> Entry
+    ensures { result ≡ marked entry kept }
 {
-    new_document_law();
-    Doc::start(alloc, RowTables::new_document(alloc)?)
+    let Entry {
+        session,
+        request,
+        size,
+        kept: _,
+    } = entry;
+    Entry {
+        session,
+        request,
+        size,
+        kept,
+    }
 }
 
 fn kept_entry(session: &Name, request: Request, size: u32) -> Result<Entry, AllocError>

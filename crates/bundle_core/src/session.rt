@@ -8,13 +8,13 @@
 //!
 //! A session that is closed has no value here.
 
-ghost use Rattle.std.specs.Prelude.{◌≡◌, ◌<◌, ◌≤◌, ◌+◌, ◌^◌, [], ◌∷◌, ◌++◌, length, option_to_list, None, Ok, Err, false, IfOk, IfErr, OnOk};
+ghost use Rattle.std.specs.Prelude.{◌≡◌, ◌<◌, ◌≤◌, ◌+◌, ◌^◌, [], ◌∷◌, ◌++◌, length, option_to_list, None, false, IfOk, OnOk};
 ghost use Rattle.bundle_core.specs.Mailbox.{is_full};
 ghost use Rattle.bundle_core.specs.ViewChanges.{told_by};
 ghost use Rattle.view_parts.specs.Viewers.{viewer_of};
 ghost use Rattle.bundle_core.specs.SessionState.{IsReady, IsPrepared, IsEmptied, MayPost, line_for, posted_state};
 ghost use Rattle.bundle_core.specs.Noting.{HasBundleRoom, MayBeUndone, log_after};
-ghost use Rattle.undo_bundles.specs.BundleLog.{count, empty_log, undo_of};
+ghost use Rattle.undo_bundles.specs.BundleLog.{count, empty_log};
 
 use crate::view_changes::{ToldChanges, told_to};
 use cell_types::Name;
@@ -23,7 +23,7 @@ use grist_json::{Line, write_stream};
 use std::alloc::{AllocError, Global};
 use std::marker::Model;
 use std::mem;
-use undo_bundles::{BundleLog, LogFault};
+use undo_bundles::BundleLog;
 use view_parts::Viewer;
 
 /// How many lines may wait for a session.
@@ -143,12 +143,10 @@ impl OpenSession {
         self.log.count()
     }
 
-    /// The steps that take back its bundle of that number.
-    pub fn undo_of(&self, number: u64) -> Result<&StepList, LogFault>
-        ensures ok { IfOk result (λ steps. undo_of self.now.holder.log number ≡ Ok steps.now) }
-        ensures err { IfErr result (λ fault. undo_of self.now.holder.log number ≡ Err fault) }
+    pub fn log(&self) -> &BundleLog
+        ensures { result.now.log ≡ self.now.holder.log }
     {
-        self.log.undo_of(number)
+        &self.log
     }
 
     pub fn is_lagging(&self) -> bool

@@ -3,14 +3,14 @@
 
 ghost use Rattle.std.specs.Prelude.{◌≡◌, ◌<◌, ◌^◌, [], ◌∷◌, ◌++◌, length, map, get_or, IfOk, OnOk, OnErr};
 ghost use Rattle.std.specs.List.{AllByRecursion};
-ghost use Rattle.bundle_core.specs.BareVerdicts.{reply_of};
+ghost use Rattle.bundle_core.specs.Replies.{reply_of};
 ghost use Rattle.bundle_core.specs.Dispatch.{AreSame, Leaves, Stays};
 ghost use Rattle.bundle_core.specs.SessionState.{SessionState, IsReady, MayPost, posted_state};
 ghost use Rattle.bundle_core.specs.ViewChanges.{told_by};
 
-use crate::bare_verdict::BareVerdict;
 use crate::session::OpenSession;
 use crate::view_changes::ToldChanges;
+use bundle_judge::BareVerdict;
 use grist_json::{Line, write_reply};
 use std::alloc::{AllocError, Global};
 
@@ -74,6 +74,23 @@ pub(crate) fn stay(
     let session = &mut sessions[index];
     session.make_room(1)?;
     Ok(session.give(alloc, reply))
+}
+
+/// Gives the session of that index what waits and the reply, for which there is room.
+///
+/// Memory: none.
+pub(crate) fn stay_ready(
+    alloc: Global,
+    sessions: &mut Vec<OpenSession>,
+    index: usize,
+    reply: Line,
+) -> Vec<Line>
+    requires within { index < length sessions.old.items }
+    requires room { (d : SessionState) → 0 < (get_or sessions.old.items index d).room }
+    ensures { Stays sessions.old.items sessions.new.items index reply result.items }
+{
+    let session = &mut sessions[index];
+    session.give(alloc, reply)
 }
 
 /// Makes ready the line that tells each session what its user is told. When out of memory, the

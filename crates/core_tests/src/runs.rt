@@ -4,6 +4,7 @@
 //! and formula cells that change; and how it ends at its words, its users and the faults of what it
 //! was handed (`ends_at_the_first_event`). The lines are those of the protocol, worked out by hand.
 
+use doc_keeper::SureKeeper;
 use grist_run::{Status, run};
 use io_edges::{MemSink, MemSource};
 use std::alloc::{AllocError, Global};
@@ -20,7 +21,7 @@ struct Case {
 }
 
 // The lines of a script behind this mark.
-fn lines_behind(alloc: Global, mark: &str, script: &str) -> Result<Vec<u8>, AllocError> {
+pub(crate) fn lines_behind(alloc: Global, mark: &str, script: &str) -> Result<Vec<u8>, AllocError> {
     let mut text = String::new(alloc);
     for line in script.lines() {
         if let Some(rest) = line.strip_prefix(mark) {
@@ -37,7 +38,8 @@ fn ran(alloc: Global, case: &Case) -> Result<(Status, Vec<u8>), AllocError> {
     let lines = lines_behind(alloc, "> ", case.script)?;
     let mut input = MemSource::new(lines, vec![in alloc; case.read]?);
     let mut out = MemSink::new(alloc, 65_536, vec![in alloc; case.write]?)?;
-    let outcome = run(alloc, words.as_slice(), &mut input, &mut out);
+    let keeper = SureKeeper::new(alloc);
+    let outcome = run(alloc, words.as_slice(), &mut input, &mut out, keeper);
     Ok((outcome.status, Vec::from_slice(alloc, out.bytes())?))
 }
 

@@ -6,11 +6,11 @@ use Rattle.io_edges.specs.NextLine.{Reads}
 use Rattle.io_edges.specs.Reading.{LineState}
 use Rattle.io_edges.specs.declared.line_reader.NextLine.TheVariants.{Line, Last, End}
 use Rattle.grist_run.specs.declared.status.Status.{Status}
-use Rattle.grist_run.specs.declared.status.Status.TheVariants.{Done, Usage, BadUsers, ReadFault, WriteFault, NoMemory, TurnsSpent, HistoryFull}
+use Rattle.grist_run.specs.declared.status.Status.TheVariants.{Done, Usage, BadUsers, ReadFault, WriteFault, StoreFault, NoMemory, BadStore, TurnsSpent, HistoryFull}
 use Rattle.grist_run.specs.declared.user_lines.Heard.TheVariants as heard
-use Rattle.grist_run.specs.Hearing.{IsHeard, IsAtLine, IsAtLast, IsAtEndOf, HeardSoFar, Nothing, EndsHearing}
+use Rattle.grist_run.specs.Hearing.{IsHeard, IsAtLine, IsAtLast, IsAtEndOf, HeardSoFar, EndsHearing}
 use Rattle.grist_run.specs.Reading.{ReadsNext}
-use Rattle.grist_run.specs.Run.{Came, CameFirst, Serves, StopsShort, RefusesUser}
+use Rattle.grist_run.specs.Run.{Came, CameFirst, Serves}
 use Rattle.grist_run.specs.UserLines.{Saying, passes, adds, fails, ends, saying, script, bad_user, script_of}
 use Rattle.grist_run.proofs.Coming.{came_none, came_part, came_line, came_last, came_end, came_fault, came_spent}
 use Rattle.grist_run.proofs.Kept.{kept_saying}
@@ -26,8 +26,8 @@ heard_none left reader ahead turns = record {
 }
 
 -- the lines so far said users alone, and the run stops
-short : {l n : Option (List ℕ)} (lines : List (List ℕ)) (users : List User) → CameFirst l n lines → script_of lines ≡ script users [] → StopsShort Nothing Nothing l n []
-short lines users came said = record { lines = lines; users = users; requests = []; more = []; came = came; said = said; entries = refl; written = refl }
+short : {l n : Option (List ℕ)} (lines : List (List ℕ)) (users : List User) → CameFirst l n lines → script_of lines ≡ script users [] → EndsHearing NoMemory l n
+short lines users came said = (users, record { lines = lines; requests = []; more = []; came = came; said = said; entries = refl; written = refl })
 
 module _ (l m n : Option (List ℕ)) (users : List User) (old new : LineState) (number : ℕ) (h : HeardSoFar l m users old number) where
   serves : Serves h.lines users []
@@ -35,21 +35,25 @@ module _ (l m n : Option (List ℕ)) (users : List User) (old new : LineState) (
 
   -- no line was read
   pub heard_stops : (status : Status) → ReadsNext (Err status) old new m n → EndsHearing status l n
-  heard_stops ReadFault r = (new.turns, record { lines = h.lines; rest = r.text; users = users; came = came_fault l m n h.lines old new h.came r; one_line = r.one_line; serves = serves; written = refl })
-  heard_stops TurnsSpent r = record {
-    lines = h.lines;
-    rest = r.0.text;
-    users = users;
-    came = subst (λ (t : ℕ). Came l n h.lines r.0.text t) r.1 (came_spent l m n h.lines old new h.came r.0);
-    one_line = r.0.one_line;
-    serves = serves;
-    written = refl;
-  }
+  heard_stops ReadFault r = (users, (new.turns, record { lines = h.lines; rest = r.text; came = came_fault l m n h.lines old new h.came r; one_line = r.one_line; serves = serves; written = refl }))
+  heard_stops TurnsSpent r = (
+    users,
+    record {
+      lines = h.lines;
+      rest = r.0.text;
+      came = subst (λ (t : ℕ). Came l n h.lines r.0.text t) r.1 (came_spent l m n h.lines old new h.came r.0);
+      one_line = r.0.one_line;
+      serves = serves;
+      written = refl;
+    },
+  )
   heard_stops NoMemory r = short h.lines users (inl (_, _, came_part l m n h.lines old new h.came r)) h.said
   heard_stops Done r = absurd r
   heard_stops Usage r = absurd r
   heard_stops (BadUsers k) r = absurd r
   heard_stops WriteFault r = absurd r
+  heard_stops StoreFault r = absurd r
+  heard_stops (BadStore k) r = absurd r
   heard_stops HistoryFull r = absurd r
 
   -- the end of the input was read
@@ -80,14 +84,17 @@ module _ (l m n : Option (List ℕ)) (users : List User) (old new : LineState) (
         numbered = omega (arith, h.numbered, length-append h.lines (r.text ∷ []));
       }
 
-      pub heard_bad : IsHeard heard.BadUser (saying users line) users users' → RefusesUser Nothing Nothing l n [] number
-      heard_bad says = record {
-        lines = h.lines ++ r.text ∷ [];
-        came = inl (_, _, came_line l m n h.lines old new h.came r);
-        bad = said_bad users h.lines r.text h.said (said_kept r.text line fails kept_line says) ∙ ap bad_user (sym h.numbered);
-        none = refl;
-        written = refl;
-      }
+      pub heard_bad : IsHeard heard.BadUser (saying users line) users users' → EndsHearing (BadUsers number) l n
+      heard_bad says = (
+        users,
+        record {
+          lines = h.lines ++ r.text ∷ [];
+          came = inl (_, _, came_line l m n h.lines old new h.came r);
+          bad = said_bad users h.lines r.text h.said (said_kept r.text line fails kept_line says) ∙ ap bad_user (sym h.numbered);
+          none = refl;
+          written = refl;
+        },
+      )
 
       pub heard_request : IsHeard heard.Request (saying users line) users users' → IsAtLine l n users' [] new
       heard_request says = record {
@@ -98,7 +105,7 @@ module _ (l m n : Option (List ℕ)) (users : List User) (old new : LineState) (
         said = said_request users h.lines r.text h.said (said_kept r.text line ends kept_line says.0) ∙ ap (λ v. script v (r.text ∷ [])) (sym says.1);
       }
 
-      pub heard_nothing_of_line : StopsShort Nothing Nothing l n []
+      pub heard_nothing_of_line : EndsHearing NoMemory l n
       heard_nothing_of_line = short h.lines users (inl (_, _, came_part l m n h.lines old new h.came r)) h.said
 
     -- a last line was read
@@ -109,14 +116,17 @@ module _ (l m n : Option (List ℕ)) (users : List User) (old new : LineState) (
       pub heard_last_users : IsHeard heard.Users (saying users line) users users' → IsAtEndOf l n users' []
       heard_last_users says = record { lines = h.lines ++ r.text ∷ []; came = came_last l m n h.lines old new h.came r; said = said_users r.text line users' kept_last says }
 
-      pub heard_last_bad : IsHeard heard.BadUser (saying users line) users users' → RefusesUser Nothing Nothing l n [] number
-      heard_last_bad says = record {
-        lines = h.lines ++ r.text ∷ [];
-        came = inr (came_last l m n h.lines old new h.came r);
-        bad = said_bad users h.lines r.text h.said (said_kept r.text line fails kept_last says) ∙ ap bad_user (sym h.numbered);
-        none = refl;
-        written = refl;
-      }
+      pub heard_last_bad : IsHeard heard.BadUser (saying users line) users users' → EndsHearing (BadUsers number) l n
+      heard_last_bad says = (
+        users,
+        record {
+          lines = h.lines ++ r.text ∷ [];
+          came = inr (came_last l m n h.lines old new h.came r);
+          bad = said_bad users h.lines r.text h.said (said_kept r.text line fails kept_last says) ∙ ap bad_user (sym h.numbered);
+          none = refl;
+          written = refl;
+        },
+      )
 
       pub heard_last_request : IsHeard heard.Request (saying users line) users users' → IsAtLast l n users' [] new
       heard_last_request says = record {
@@ -127,5 +137,5 @@ module _ (l m n : Option (List ℕ)) (users : List User) (old new : LineState) (
         said = said_request users h.lines r.text h.said (said_kept r.text line ends kept_last says.0) ∙ ap (λ v. script v (r.text ∷ [])) (sym says.1);
       }
 
-      pub heard_nothing_of_last : StopsShort Nothing Nothing l n []
+      pub heard_nothing_of_last : EndsHearing NoMemory l n
       heard_nothing_of_last = short h.lines users (inl (_, _, came_part l m n h.lines old new h.came r)) h.said

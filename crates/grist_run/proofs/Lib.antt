@@ -8,3 +8,4 @@ pub mod HeardLaws
 pub mod ServingLaws
 pub mod EndLaws
 pub mod ToldLaws
+pub mod ReplayLaws

@@ -1,7 +1,15 @@
 -- Which entries find room in a history.
-use Rattle.std.specs.Prelude.{List, [], ◌∷◌, ◌++◌, if◌then◌else◌}
+use Rattle.std.specs.Prelude.{true, List, [], ◌∷◌, ◌++◌, map, if◌then◌else◌}
 use Rattle.doc_model.specs.declared.entry.Entry.{Entry}
-use Rattle.bundle_core.specs.Core.{is_full}
+use Rattle.bundle_core.specs.Core.{is_full, marked}
+
+-- an entry as it was asked for, whether it was kept or not
+abbrev pub asked : Entry → Entry
+asked e = marked e true
+
+-- what a history was asked for
+abbrev pub all_asked : List Entry → List Entry
+all_asked history = map asked history
 
 -- the history with all entries, or the history that is full for the next one
 pub data Admission : Type 0 where

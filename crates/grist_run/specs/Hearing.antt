@@ -1,12 +1,13 @@
 -- How the users at the front of an input are heard.
 use Rattle.std.specs.Prelude.{◌≡◌, ◌⊎◌, ℕ, ◌+◌, List, [], ◌∷◌, ◌++◌, length, Option, Some, None, Result, Ok, Err}
+use Rattle.doc_model.specs.NewDocument.{new_document}
 use Rattle.doc_model.specs.declared.user.User.{User}
 use Rattle.io_edges.specs.Lines.{kept_of}
 use Rattle.io_edges.specs.Reading.{LineState}
 use Rattle.io_edges.specs.declared.line_reader.NextLine.{NextLine}
 use Rattle.io_edges.specs.declared.line_reader.NextLine.TheVariants as next
 use Rattle.grist_run.specs.declared.status.Status.{Status}
-use Rattle.grist_run.specs.declared.status.Status.TheVariants.{Usage, WriteFault}
+use Rattle.grist_run.specs.declared.status.Status.TheVariants.{Done, Usage, WriteFault, StoreFault, BadStore}
 use Rattle.grist_run.specs.declared.user_lines.Heard.{Heard}
 use Rattle.grist_run.specs.declared.user_lines.Heard.TheVariants as heard
 use Rattle.grist_run.specs.declared.user_lines.Front.{Front}
@@ -64,11 +65,15 @@ pub record HeardSoFar (left_old left_new : Option (List ℕ)) (users : List User
 abbrev pub Nothing : List ℕ → Type 0
 Nothing bytes = bytes ≡ []
 
--- the run ended while users were heard
+-- the run ended while these users were heard, and no document was opened
 abbrev pub EndsHearing : Status → Option (List ℕ) → Option (List ℕ) → Type 0
+EndsHearing Done l l' = ⊥
 EndsHearing Usage l l' = ⊥
 EndsHearing WriteFault l l' = ⊥
-EndsHearing status l l' = Runs Nothing Nothing status l l' []
+EndsHearing StoreFault l l' = ⊥
+EndsHearing (BadStore number) l l' = ⊥
+EndsHearing status l l' =
+    (users : List User) × Runs Nothing Nothing users new_document status l l' []
 
 -- one line was heard: there may be more, or the users ended, or the run did
 abbrev pub HearsLine : Result (Option NextLine) Status → Option (List ℕ) → Option (List ℕ)

@@ -9,4 +9,7 @@ pub mod Run
 pub mod Hearing
 pub mod Reading
 pub mod Serving
+pub mod Staying
 pub mod Told
+pub mod Starting
+pub mod Replay

@@ -1,34 +1,35 @@
 //! One line of the input, answered.
-ghost use Rattle.std.specs.Prelude.{◌≡◌, ◌≤◌, [], ◌∷◌, true, false, IsErrOf};
+ghost use Rattle.std.specs.Prelude.{◌≡◌, ◌≤◌, [], ◌∷◌, true, false, IfErr, IsErrOf};
 ghost use Rattle.io_edges.specs.Causes.{Rose};
-ghost use Rattle.doc_model.specs.NewDocument.{new_document};
 ghost use Rattle.doc_model.specs.WellFormed.{asks_well_formed};
 ghost use Rattle.bundle_core.specs.Core.{entry_of, is_gone};
 ghost use Rattle.grist_run.specs.Answering.{Answers};
 ghost use Rattle.grist_run.specs.Script.{line_entries};
+ghost use Rattle.grist_run.specs.Staying.{StaysStarted};
+ghost use Rattle.grist_run.specs.Words.{is_early};
 
 use crate::line_request::{LineRequest, request_in};
 use crate::sending::{SendEnd, send_lines};
 use crate::status::Status;
 use bundle_core::{Answer, Core};
+use doc_keeper::Keeper;
 use io_edges::{Outbox, Sink};
 use std::alloc::Global;
 
 /// Answers one line of the input, as far as the reader keeps it.
-pub(crate) fn answer<O: Sink>(
+pub(crate) fn answer<O: Sink, K: Keeper>(
     alloc: Global,
-    core: &mut Core,
+    core: &mut Core<K>,
     outbox: &mut Outbox,
     out: &mut O,
     line: &[u8],
 ) -> Result<(), Status>
-    ensures users { core.new.users ≡ core.old.users }
-    ensures start { core.new.start ≡ core.old.start }
-    ensures answers { core.old.start ≡ new_document
-        → Answers result core.old.users core.old.history core.new.history
+    ensures stays { StaysStarted core.old core.new }
+    ensures answers { Answers result core.old.state.users core.old.state.start
+        core.old.state.history core.new.state.history
         (line_entries line.now) outbox.old outbox.new (O.written out.old) (O.written out.new) }
     ensures later { O.faults out.old ≤ O.faults out.new }
-    ensures usage { IsErrOf result Status.Usage → ⊥ }
+    ensures late { IfErr result (λ s. is_early s ≡ false) }
     ensures read_fault { IsErrOf result Status.ReadFault → ⊥ }
     ensures fault { IsErrOf result Status.WriteFault → Rose (O.faults out.old) (O.faults out.new) }
 {
@@ -40,23 +41,22 @@ pub(crate) fn answer<O: Sink>(
 }
 
 // Answers a request.
-fn answer_request<O: Sink>(
+fn answer_request<O: Sink, K: Keeper>(
     alloc: Global,
-    core: &mut Core,
+    core: &mut Core<K>,
     outbox: &mut Outbox,
     out: &mut O,
     line_request: LineRequest,
 ) -> Result<(), Status>
     requires stays { is_gone line_request.request ≡ false }
     requires well_formed { asks_well_formed line_request.request ≡ true }
-    ensures users { core.new.users ≡ core.old.users }
-    ensures start { core.new.start ≡ core.old.start }
-    ensures answers { core.old.start ≡ new_document
-        → Answers result core.old.users core.old.history core.new.history
+    ensures stays { StaysStarted core.old core.new }
+    ensures answers { Answers result core.old.state.users core.old.state.start
+        core.old.state.history core.new.state.history
         (entry_of line_request.session line_request.request line_request.size true ∷ [])
         outbox.old outbox.new (O.written out.old) (O.written out.new) }
     ensures later { O.faults out.old ≤ O.faults out.new }
-    ensures usage { IsErrOf result Status.Usage → ⊥ }
+    ensures late { IfErr result (λ s. is_early s ≡ false) }
     ensures read_fault { IsErrOf result Status.ReadFault → ⊥ }
     ensures fault { IsErrOf result Status.WriteFault → Rose (O.faults out.old) (O.faults out.new) }
 {

@@ -1,13 +1,15 @@
-//! A run: the words, users and requests of an input are answered over a new document, and its end
-//! told.
+//! A run: the words, users and requests of an input are answered over the document that a keeper's
+//! records lead to, and its end told.
 //!
-//! Stands on `bundle_core` (a core and its history), `grist_json` (lines of JSON) and `io_edges`
-//! (sources, sinks and lines). The program hands in standard input and output.
+//! Stands on `bundle_core` (a core and its history), `run_words` (words), `grist_json` (lines of
+//! JSON), `io_edges` (sources, sinks and lines) and `doc_keeper` (what keeps records). The program
+//! hands in standard input and output, and a keeper.
 //!
 //! Promises: `run` says what is written for what was read, in whatever pieces it came, and which
-//! event each status stands for; a fault is told only where the source's or the sink's count of
-//! faults rose. Not promised: that memory is there.
-//! Read first: running.rt, then specs/Run.antt, specs/Script.antt and specs/UserLines.antt.
+//! event each status stands for; a fault is told only where the count of faults of the source, the
+//! sink or the keeper rose. The keeper comes back with its records and one for each bundle that was
+//! accepted and kept. Not promised: that memory is there.
+//! Read first: running.rt, then specs/Replay.antt, specs/Run.antt and specs/UserLines.antt.
 #![tactic(auto)]
 
 mod answering;
@@ -18,7 +20,6 @@ mod sending;
 mod serving;
 mod status;
 mod user_lines;
-mod words;
 
 pub use running::run;
 pub use status::{Outcome, Status};

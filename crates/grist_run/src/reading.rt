@@ -1,8 +1,9 @@
 //! The next line of the input, or why the run ends.
-ghost use Rattle.std.specs.Prelude.{◌≡◌, ◌≤◌, ◌<◌, Ok, IsErrOf};
+ghost use Rattle.std.specs.Prelude.{◌≡◌, ◌≤◌, ◌<◌, false, Ok, IfErr, IsErrOf};
 ghost use Rattle.io_edges.specs.Causes.{Rose};
 ghost use Rattle.io_edges.specs.Reading.{work_left};
 ghost use Rattle.grist_run.specs.Reading.{ReadsNext};
+ghost use Rattle.grist_run.specs.Words.{is_early};
 
 use crate::status::Status;
 use io_edges::{LineReader, NextLine, ReadEnd, Source};
@@ -13,6 +14,7 @@ pub(crate) fn read_next<S: Source>(
     input: &mut S,
 ) -> Result<NextLine, Status>
     ensures reads { ReadsNext result reader.old reader.new (S.left input.old) (S.left input.new) }
+    ensures late { IfErr result (λ s. is_early s ≡ false) }
     ensures falls { result ≡ Ok NextLine.Line → work_left reader.new < work_left reader.old }
     ensures later { S.faults input.old ≤ S.faults input.new }
     ensures fault { IsErrOf result Status.ReadFault

@@ -1,129 +1,178 @@
 //! A run: its words, its users, its requests and its end.
-ghost use Rattle.std.specs.Prelude.{◌≡◌, ◌≤◌, ◌↔◌, ◌⊎◌, false, [], map, string_bytes, ℕ, List, Option, Some};
+ghost use Rattle.std.specs.Prelude.{◌≡◌, ◌≤◌, ◌↔◌, ◌⊎◌, false, [], map, string_bytes, ℕ, List, Option};
 ghost use Rattle.doc_model.specs.NewDocument.{new_document};
+ghost use Rattle.doc_opening.specs.Opening.{FirstBad};
 ghost use Rattle.io_edges.specs.Causes.{Rose};
+ghost use Rattle.doc_model.specs.Document.{Document};
 ghost use Rattle.doc_model.specs.declared.entry.Entry.{Entry};
+ghost use Rattle.doc_model.specs.declared.user.User.{User};
+ghost use Rattle.run_words.specs.Words.{plan_of};
 ghost use Rattle.grist_run.specs.Hearing.{IsAt};
 ghost use Rattle.grist_run.specs.Run.{IsRun};
 ghost use Rattle.grist_run.specs.Serving.{EndsServing};
-ghost use Rattle.grist_run.specs.Told.{Follows};
-ghost use Rattle.grist_run.specs.Words.{asks_replay};
+ghost use Rattle.grist_run.specs.Replay.{KeepsRecords, Replays};
+ghost use Rattle.grist_run.specs.Starting.{start_status};
+ghost use Rattle.grist_run.specs.Words.{is_early, is_replay, place_of};
 
 use crate::serving::serve;
 use crate::status::{Outcome, Status};
 use crate::user_lines::{Front, read_users};
-use crate::words::asks_replay;
-use bundle_core::Core;
+use bundle_core::{Core, Finished, StartFault};
+use doc_keeper::Keeper;
 use doc_model::EntryList;
-use io_edges::{LineReader, Outbox, Sink, Source};
+use doc_opening::StartCause;
+use io_edges::{LineReader, NextLine, Outbox, Sink, Source};
+use run_words::{Plan, PlanFault, plan};
 use std::alloc::Global;
 
-/// Does what the words ask for: a replay of the input's lines over a new document.
+/// Does what the words ask for: a replay of the input's lines over the document that the keeper's
+/// records lead to.
 ///
 /// The input is lines: users first, one a line, and then requests in frames. What sessions are
-/// given is written to `out`, each line in a frame, in the order of the requests.
+/// given is written to `out`, each line in a frame, in the order of the requests. The keeper keeps
+/// each bundle that is accepted before it takes effect, and is handed back.
 /// Errors: the status says which event came first; what waits is written before it is told, and
 /// where that fails it is `WriteFault`.
 /// Source: docs/PROTOCOL.md, "the program".
-pub fn run<S: Source, O: Sink>(
+pub fn run<S: Source, O: Sink, K: Keeper>(
     alloc: Global,
     words: &[String],
     input: &mut S,
     out: &mut O,
-) -> Outcome
+    keeper: K,
+) -> Outcome<K>
     ensures usage { (result.status ≡ Status.Usage)
-        ↔ (asks_replay (map string_bytes words.now) ≡ false) }
-    ensures replay { IsRun result.status (S.left input.old) (S.left input.new) result.history
-        (O.written out.old) (O.written out.new) }
-    ensures told { (bytes : List ℕ) → S.left input.old ≡ Some bytes
-        → Follows result.status bytes (S.left input.new) result.history (O.written out.old)
-        (O.written out.new) }
+        ↔ (is_replay (plan_of (map string_bytes words.now)) ≡ false) }
+    ensures at { result.at ≡ place_of result.status }
+    ensures replay { Replays result.status (S.left input.old) (S.left input.new) result.history
+        (O.written out.old) (O.written out.new) (K.records keeper) (K.records result.keeper)
+        (K.failures keeper) (K.failures result.keeper) }
+    ensures bad_store { (n : ℕ) → result.status ≡ Status.BadStore n
+        → FirstBad (K.records keeper) new_document n }
     ensures read_fault { result.status ≡ Status.ReadFault
         → Rose (S.faults input.old) (S.faults input.new) }
     ensures write_fault { result.status ≡ Status.WriteFault
         → Rose (O.faults out.old) (O.faults out.new) }
+    ensures store_fault { result.status ≡ Status.StoreFault
+        → Rose (K.failures keeper) (K.failures result.keeper) }
 {
-    if !asks_replay(words) {
-        return without_history(alloc, Status::Usage);
+    match plan(alloc, words) {
+        Ok(Plan::Replay { .. }) => replay(alloc, input, out, keeper),
+        Ok(_) | Err(PlanFault::Usage) => without_history(alloc, Status::Usage, keeper),
+        Err(PlanFault::NoMemory) => without_history(alloc, Status::NoMemory, keeper),
     }
-    replay(alloc, input, out)
 }
 
 // A run that ended before anything was asked for.
-fn without_history(alloc: Global, status: Status) -> Outcome
+fn without_history<K: Keeper>(alloc: Global, status: Status, keeper: K) -> Outcome<K>
     ensures status { result.status ≡ status }
+    ensures at { result.at ≡ place_of status }
     ensures history { result.history ≡ [] }
+    ensures records { K.records result.keeper ≡ K.records keeper }
+    ensures faults { K.failures result.keeper ≡ K.failures keeper }
 {
     Outcome {
         status,
+        at: status.place(),
         history: EntryList::new(alloc),
+        keeper,
     }
 }
 
-// Hears the users, and answers the lines behind them.
-fn replay<S: Source, O: Sink>(alloc: Global, input: &mut S, out: &mut O) -> Outcome
+// Hears the users, opens the document, and answers the lines behind the users.
+fn replay<S: Source, O: Sink, K: Keeper>(
+    alloc: Global,
+    input: &mut S,
+    out: &mut O,
+    keeper: K,
+) -> Outcome<K>
     ensures usage { result.status ≡ Status.Usage → ⊥ }
-    ensures replay { IsRun result.status (S.left input.old) (S.left input.new) result.history
-        (O.written out.old) (O.written out.new) }
+    ensures at { result.at ≡ place_of result.status }
+    ensures replay { Replays result.status (S.left input.old) (S.left input.new) result.history
+        (O.written out.old) (O.written out.new) (K.records keeper) (K.records result.keeper)
+        (K.failures keeper) (K.failures result.keeper) }
+    ensures bad_store { (n : ℕ) → result.status ≡ Status.BadStore n
+        → FirstBad (K.records keeper) new_document n }
     ensures read_fault { result.status ≡ Status.ReadFault
         → Rose (S.faults input.old) (S.faults input.new) }
     ensures write_fault { result.status ≡ Status.WriteFault
         → Rose (O.faults out.old) (O.faults out.new) }
+    ensures store_fault { result.status ≡ Status.StoreFault
+        → Rose (K.failures keeper) (K.failures result.keeper) }
 {
     let Ok(mut reader) = LineReader::new(alloc) else {
-        return without_history(alloc, Status::NoMemory);
+        return without_history(alloc, Status::NoMemory, keeper);
     };
     let Ok(mut outbox) = Outbox::new(alloc) else {
-        return without_history(alloc, Status::NoMemory);
+        return without_history(alloc, Status::NoMemory, keeper);
     };
-    let Ok(core) = Core::new(alloc) else {
-        return without_history(alloc, Status::NoMemory);
+    let Front { users, next } = match read_users(alloc, &mut reader, input) {
+        Ok(front) => front,
+        Err(status) => return without_history(alloc, status, keeper),
     };
-    match read_users(alloc, &mut reader, input) {
-        Ok(front) => replay_from(alloc, core, front, &mut outbox, &mut reader, input, out),
-        Err(status) => without_history(alloc, status),
+    match Core::start(alloc, users, keeper) {
+        Ok(core) => replay_from(alloc, core, next, &mut outbox, &mut reader, input, out),
+        Err(StartFault { cause, keeper }) => without_history(alloc, status_of(cause), keeper),
+    }
+}
+
+// How a run ends that opened no document.
+fn status_of(cause: StartCause) -> Status
+    ensures { result ≡ start_status cause }
+{
+    match cause {
+        StartCause::StoreFault => Status::StoreFault,
+        StartCause::BadStore { number } => Status::BadStore { number },
+        StartCause::NoMemory => Status::NoMemory,
     }
 }
 
 // Answers the lines behind the users.
-fn replay_from<S: Source, O: Sink>(
+fn replay_from<S: Source, O: Sink, K: Keeper>(
     alloc: Global,
-    core: Core,
-    front: Front,
+    core: Core<K>,
+    next: NextLine,
     outbox: &mut Outbox,
     reader: &mut LineReader,
     input: &mut S,
     out: &mut O,
-) -> Outcome
+) -> Outcome<K>
     requires empty { outbox.old ≡ [] }
-    requires first { core.history ≡ [] }
-    requires start { core.start ≡ new_document }
-    ensures usage { result.status ≡ Status.Usage → ⊥ }
-    ensures replay { (left : Option (List ℕ))
-        → IsAt front.next left (S.left input.old) front.users [] reader.old
-        → IsRun result.status left (S.left input.new) result.history (O.written out.old)
-        (O.written out.new) }
+    requires first { core.state.history ≡ [] }
+    ensures late { is_early result.status ≡ false }
+    ensures at { result.at ≡ place_of result.status }
+    ensures run { (left : Option (List ℕ))
+        → IsAt next left (S.left input.old) core.state.users [] reader.old
+        → IsRun core.state.users core.state.start result.status left (S.left input.new)
+        result.history (O.written out.old) (O.written out.new) }
+    ensures keeper { KeepsRecords core.state.users core.state.start result.status result.history
+        core.kept.opening (K.records result.keeper) core.kept.before (K.failures result.keeper) }
     ensures read_later { S.faults input.old ≤ S.faults input.new }
     ensures read_fault { result.status ≡ Status.ReadFault
         → Rose (S.faults input.old) (S.faults input.new) }
     ensures write_fault { result.status ≡ Status.WriteFault
         → Rose (O.faults out.old) (O.faults out.new) }
 {
-    let Front { users, next } = front;
-    let mut core = core.with_users(users);
+    let mut core = core;
     let served = serve(alloc, &mut core, outbox, reader, next, input, out);
     let status = finish(served, outbox, out);
+    let Finished { history, keeper } = core.finish();
     Outcome {
         status,
-        history: core.finish(),
+        at: status.place(),
+        history,
+        keeper,
     }
 }
 
 // Writes what waits, and tells how the run ended.
 fn finish<O: Sink>(status: Status, outbox: &mut Outbox, out: &mut O) -> Status
-    ensures ends { (left left_new written : Option (List ℕ)) (history : List Entry)
-        → EndsServing status left left_new history outbox.old written (O.written out.old)
-        → IsRun result left left_new history written (O.written out.new) }
+    ensures ends { (users : List User) (start : Document) (left left_new written : Option (List ℕ))
+        (history : List Entry)
+        → EndsServing users start status left left_new history outbox.old written
+        (O.written out.old)
+        → IsRun users start result left left_new history written (O.written out.new) }
+    ensures late { is_early status ≡ false → is_early result ≡ false }
     ensures later { O.faults out.old ≤ O.faults out.new }
     ensures same { (result ≡ status)
         ⊎ ((result ≡ Status.WriteFault) × Rose (O.faults out.old) (O.faults out.new)) }

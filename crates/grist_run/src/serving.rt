@@ -1,32 +1,34 @@
 //! The lines behind the users, answered one after the other.
-ghost use Rattle.std.specs.Prelude.{◌≡◌, ◌≤◌, ◌<◌, ℕ, List, Option, Ok, IsErrOf};
+ghost use Rattle.std.specs.Prelude.{◌≡◌, ◌≤◌, ◌<◌, ℕ, false, List, Option, Ok, IfErr, IsErrOf};
 ghost use Rattle.io_edges.specs.Causes.{Rose};
 ghost use Rattle.io_edges.specs.Reading.{LineState, work_left};
 ghost use Rattle.grist_run.specs.Serving.{IsServing, TakesTurn, EndsServing};
+ghost use Rattle.grist_run.specs.Staying.{StaysStarted};
+ghost use Rattle.grist_run.specs.Words.{is_early};
 
 use crate::answering::answer;
 use crate::reading::read_next;
 use crate::status::Status;
 use bundle_core::Core;
+use doc_keeper::Keeper;
 use io_edges::{LineReader, NextLine, Outbox, Sink, Source};
 use std::alloc::Global;
 
 // Answers the line that the reader gave last, and reads the next one.
-fn take_turn<S: Source, O: Sink>(
+fn take_turn<S: Source, O: Sink, K: Keeper>(
     alloc: Global,
-    core: &mut Core,
+    core: &mut Core<K>,
     outbox: &mut Outbox,
     reader: &mut LineReader,
     input: &mut S,
     out: &mut O,
 ) -> Result<NextLine, Status>
-    ensures users { core.new.users ≡ core.old.users }
-    ensures start { core.new.start ≡ core.old.start }
+    ensures stays { StaysStarted core.old core.new }
     ensures turn { (left written : Option (List ℕ)) → IsServing NextLine.Line left
-        (S.left input.old) core.old outbox.old written (O.written out.old) reader.old
-        → TakesTurn result left (S.left input.new) core.new outbox.new written
-        (O.written out.new) reader.new }
-    ensures usage { IsErrOf result Status.Usage → ⊥ }
+        (S.left input.old) core.old.state outbox.old written (O.written out.old) reader.old
+        → TakesTurn core.old.state.users core.old.state.start result left (S.left input.new)
+        core.new.state outbox.new written (O.written out.new) reader.new }
+    ensures late { IfErr result (λ s. is_early s ≡ false) }
     ensures falls { result ≡ Ok NextLine.Line → work_left reader.new < work_left reader.old }
     ensures read_later { S.faults input.old ≤ S.faults input.new }
     ensures write_later { O.faults out.old ≤ O.faults out.new }
@@ -42,21 +44,21 @@ fn take_turn<S: Source, O: Sink>(
 }
 
 // Answers the last line of the input.
-fn take_last<O: Sink>(
+fn take_last<O: Sink, K: Keeper>(
     alloc: Global,
-    core: &mut Core,
+    core: &mut Core<K>,
     outbox: &mut Outbox,
     line: &[u8],
     out: &mut O,
 ) -> Status
-    ensures users { core.new.users ≡ core.old.users }
-    ensures start { core.new.start ≡ core.old.start }
+    ensures stays { StaysStarted core.old core.new }
     ensures ends { (left left_new written : Option (List ℕ)) (reader : LineState) → reader.line
-        ≡ line.now → IsServing NextLine.Last left left_new core.old outbox.old written
+        ≡ line.now → IsServing NextLine.Last left left_new core.old.state outbox.old written
         (O.written out.old) reader
-        → EndsServing result left left_new core.new.history outbox.new written (O.written out.new) }
+        → EndsServing core.old.state.users core.old.state.start result left left_new
+        core.new.state.history outbox.new written (O.written out.new) }
     ensures later { O.faults out.old ≤ O.faults out.new }
-    ensures usage { result ≡ Status.Usage → ⊥ }
+    ensures late { is_early result ≡ false }
     ensures read_fault { result ≡ Status.ReadFault → ⊥ }
     ensures write_fault { result ≡ Status.WriteFault → Rose (O.faults out.old) (O.faults out.new) }
 {
@@ -67,21 +69,22 @@ fn take_last<O: Sink>(
 }
 
 /// Answers the lines of the input, from the one that the reader gave last.
-pub(crate) fn serve<S: Source, O: Sink>(
+pub(crate) fn serve<S: Source, O: Sink, K: Keeper>(
     alloc: Global,
-    core: &mut Core,
+    core: &mut Core<K>,
     outbox: &mut Outbox,
     reader: &mut LineReader,
     first: NextLine,
     input: &mut S,
     out: &mut O,
 ) -> Status
+    ensures stays { StaysStarted core.old core.new }
     ensures ends { (left written : Option (List ℕ))
-        → IsServing first left (S.left input.old) core.old outbox.old written
+        → IsServing first left (S.left input.old) core.old.state outbox.old written
         (O.written out.old) reader.old
-        → EndsServing result left (S.left input.new) core.new.history outbox.new written
-        (O.written out.new) }
-    ensures usage { result ≡ Status.Usage → ⊥ }
+        → EndsServing core.old.state.users core.old.state.start result left (S.left input.new)
+        core.new.state.history outbox.new written (O.written out.new) }
+    ensures late { is_early result ≡ false }
     ensures read_later { S.faults input.old ≤ S.faults input.new }
     ensures write_later { O.faults out.old ≤ O.faults out.new }
     ensures read_fault { result ≡ Status.ReadFault

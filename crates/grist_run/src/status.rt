@@ -1,5 +1,6 @@
 //! How a run ends.
 
+use doc_keeper::Keeper;
 use doc_model::EntryList;
 
 /// How a run ended. The first event that ends a run decides.
@@ -17,7 +18,13 @@ pub enum Status {
     ReadFault,
     /// A write failed.
     WriteFault,
+    /// The keeper failed before its records were loaded.
+    StoreFault,
     NoMemory,
+    /// A record of the keeper is bad at its place.
+    ///
+    /// Units: records are numbered from 0.
+    BadStore { number: u64 },
     /// As many reads as a run makes each took a byte.
     TurnsSpent,
     /// The history has no room for a request.
@@ -26,7 +33,7 @@ pub enum Status {
 
 impl Status {
     ghost use Rattle.std.specs.Prelude.{◌≡◌};
-    ghost use Rattle.grist_run.specs.Words.{status_code};
+    ghost use Rattle.grist_run.specs.Words.{place_of, status_code};
 
     /// The status with which the program ends.
     ///
@@ -40,16 +47,32 @@ impl Status {
             Status::BadUsers { .. } => 3,
             Status::ReadFault => 4,
             Status::WriteFault => 5,
+            Status::StoreFault => 6,
             Status::NoMemory => 7,
+            Status::BadStore { .. } => 8,
             Status::TurnsSpent => 9,
             Status::HistoryFull => 11,
         }
     }
+
+    /// The number of the bad user line, or of the bad record; else 0.
+    pub(crate) fn place(self) -> u64
+        ensures { result ≡ place_of self }
+    {
+        match self {
+            Status::BadUsers { line } => line,
+            Status::BadStore { number } => number,
+            _ => 0,
+        }
+    }
 }
 
-/// What a run came to: how it ended, and the requests that took effect.
+/// What a run came to: how it ended, and at which user line or record; the requests that took
+/// effect; and the keeper as it is then.
 #[derive(Drop)]
-pub struct Outcome {
+pub struct Outcome<K: Keeper> {
     pub status: Status,
+    pub at: u64,
     pub history: EntryList,
+    pub keeper: K,
 }

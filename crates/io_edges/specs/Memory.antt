@@ -4,6 +4,8 @@ use Rattle.io_edges.specs.declared.listed_calls.ListedCalls.{ListedCalls}
 use Rattle.io_edges.specs.declared.memory_source.MemSource.{MemSource}
 use Rattle.io_edges.specs.declared.memory_source.SureSource.{SureSource}
 use Rattle.io_edges.specs.declared.memory_sink.MemSink.{MemSink}
+use Rattle.io_edges.specs.declared.memory_link.MemLink.{MemLink}
+use Rattle.io_edges.specs.declared.memory_link.SureLink.{SureLink}
 
 -- how many calls there were
 abbrev pub calls_of : ListedCalls → ℕ
@@ -61,3 +63,14 @@ space_of s = room_of s - length (written_of s)
 abbrev pub RefusesPiece : MemSink → List ℕ → Type 0
 RefusesPiece s piece =
     Contains (failing_writes s) (write_calls s) ⊎ ((space_of s ≡ 0) × (0 < length piece))
+
+-- what a link in memory reads from, and what it writes to
+abbrev pub source_of : MemLink → MemSource
+source_of l = l.source
+
+abbrev pub sink_of : MemLink → MemSink
+sink_of l = l.sink
+
+-- what a link in memory that never fails reads from
+abbrev pub sure_source_of : SureLink → SureSource
+sure_source_of l = l.source

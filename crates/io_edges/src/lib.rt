@@ -14,23 +14,29 @@
 mod laws;
 mod line_parts;
 mod line_reader;
+mod link;
 mod listed_calls;
+mod memory_link;
 mod memory_sink;
 mod memory_source;
 mod outbox;
 mod sink;
 mod source;
 mod standard;
+mod tcp_link;
 mod writing;
 
 pub use laws::{kept_law, stream_law};
 pub use line_reader::{LineReader, NextLine, ReadEnd};
+pub use link::Link;
+pub use memory_link::{MemLink, SureLink};
 pub use memory_sink::{MemSink, SureSink};
 pub use memory_source::{MemSource, SureSource};
 pub use outbox::Outbox;
 pub use sink::Sink;
 pub use source::Source;
 pub use standard::{StdSink, StdSource};
+pub use tcp_link::TcpLink;
 pub use writing::write_all;
 
 /// A call to the outside failed.

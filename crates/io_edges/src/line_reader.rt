@@ -108,6 +108,7 @@ impl LineReader {
         ensures reads { Reads result self.old self.new (S.left source.old) (S.left source.new) }
         ensures falls { IfOk result
             (λ next. next ≡ NextLine.Line → work_left self.new < work_left self.old) }
+        ensures apart { S.outgoing source.new ≡ S.outgoing source.old }
         ensures later { S.faults source.old ≤ S.faults source.new }
         ensures fault { IsErrOf result ReadEnd.ReadFault
             → Rose (S.faults source.old) (S.faults source.new) }
@@ -173,6 +174,7 @@ impl LineReader {
         ensures fails { OnErr result (self.new.ahead ≡ []) }
         ensures line { self.new.line ≡ self.old.line }
         ensures turns { self.new.turns ≡ self.old.turns + (if is_more result then 1 else 0) }
+        ensures apart { S.outgoing source.new ≡ S.outgoing source.old }
         ensures later { S.faults source.old ≤ S.faults source.new }
         ensures cause { OnErr result (Rose (S.faults source.old) (S.faults source.new)) }
     {

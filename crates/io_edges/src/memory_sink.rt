@@ -1,6 +1,7 @@
 //! Sinks in memory: one that fails at listed calls and where it has no room, and one that never
 //! fails.
 ghost use Rattle.std.specs.Prelude.{◌≡◌, ◌≤◌, [], Some, None, vec_len, vec_capacity};
+ghost use Rattle.io_edges.specs.Sides.{nothing_in};
 
 use crate::listed_calls::ListedCalls;
 use crate::{Failed, Sink};
@@ -57,6 +58,8 @@ impl Sink for MemSink {
 
     ghost written = { λ s. Some s.bytes.items };
 
+    ghost incoming = { λ _. nothing_in };
+
     ghost faults = { λ s. s.faults };
 
     fn write(&mut self, piece: &[u8]) -> Result<usize, Failed>
@@ -108,6 +111,8 @@ pub struct SureSink;
 
 impl Sink for SureSink {
     ghost written = { λ _. None };
+
+    ghost incoming = { λ _. nothing_in };
 
     ghost faults = { λ _. 0 };
 

@@ -1,5 +1,6 @@
 //! Sources over bytes in memory: one that fails at listed calls, and one that never fails.
 ghost use Rattle.std.specs.Prelude.{◌≡◌, [], ◌++◌, ◌<◌, ◌≤◌, length, take, drop, Some, vec_len};
+ghost use Rattle.io_edges.specs.Sides.{nothing_out};
 
 use crate::listed_calls::ListedCalls;
 use crate::{Failed, Source};
@@ -59,6 +60,8 @@ impl Source for MemSource {
 
     ghost left = { λ s. Some (drop s.at s.bytes.items) };
 
+    ghost outgoing = { λ _. nothing_out };
+
     ghost faults = { λ s. s.faults };
 
     fn read(&mut self, buf: &mut [u8]) -> Result<usize, Failed>
@@ -99,6 +102,8 @@ impl SureSource {
 
 impl Source for SureSource {
     ghost left = { λ s. Some (drop s.at s.bytes.items) };
+
+    ghost outgoing = { λ _. nothing_out };
 
     ghost faults = { λ _. 0 };
 

@@ -49,6 +49,7 @@ impl Outbox {
         ensures err { OnErr result
             (SendsFront (self.old ++ bytes.now) (O.written out.old) (O.written out.new)) }
         ensures lost { OnErr result (self.new ≡ []) }
+        ensures apart { O.incoming out.new ≡ O.incoming out.old }
         ensures later { O.faults out.old ≤ O.faults out.new }
         ensures cause { OnErr result (Rose (O.faults out.old) (O.faults out.new)) }
     {
@@ -67,6 +68,7 @@ impl Outbox {
         ensures ok { OnOk result (Appends (O.written out.old) (O.written out.new) self.old) }
         ensures err { OnErr result (SendsFront self.old (O.written out.old) (O.written out.new)) }
         ensures empty { self.new ≡ [] }
+        ensures apart { O.incoming out.new ≡ O.incoming out.old }
         ensures later { O.faults out.old ≤ O.faults out.new }
         ensures cause { OnErr result (Rose (O.faults out.old) (O.faults out.new)) }
     {
@@ -87,6 +89,7 @@ impl Outbox {
         ensures ok { OnOk result (Appends (O.written out.old) (O.written out.new) self.old) }
         ensures err { OnErr result (SendsFront self.old (O.written out.old) (O.written out.new)) }
         ensures empty { self.new ≡ [] }
+        ensures apart { O.incoming out.new ≡ O.incoming out.old }
         ensures later { O.faults out.old ≤ O.faults out.new }
         ensures cause { OnErr result (Rose (O.faults out.old) (O.faults out.new)) }
     {

@@ -1,5 +1,6 @@
 //! The trusted edge: any reader and writer of std, with a count of faults. They tell no bytes.
 ghost use Rattle.std.specs.Prelude.{None};
+ghost use Rattle.io_edges.specs.Sides.{nothing_in, nothing_out};
 
 use crate::{Failed, Sink, Source};
 use std::io::{Read, Write};
@@ -24,6 +25,8 @@ impl<R: Read> StdSource<R> {
 
 impl<R: Read + Drop> Source for StdSource<R> {
     ghost left = { λ _. None };
+
+    ghost outgoing = { λ _. nothing_out };
 
     ghost faults = { λ s. s.faults };
 
@@ -58,6 +61,8 @@ impl<W: Write> StdSink<W> {
 
 impl<W: Write + Drop> Sink for StdSink<W> {
     ghost written = { λ _. None };
+
+    ghost incoming = { λ _. nothing_in };
 
     ghost faults = { λ s. s.faults };
 

@@ -1,5 +1,5 @@
 //! Writes of whole texts.
-ghost use Rattle.std.specs.Prelude.{◌≤◌, OnOk, OnErr};
+ghost use Rattle.std.specs.Prelude.{◌≡◌, ◌≤◌, OnOk, OnErr};
 ghost use Rattle.std.specs.Io.KnownBytes.{Appends};
 ghost use Rattle.io_edges.specs.Causes.{Rose};
 ghost use Rattle.io_edges.specs.Sending.{SendsFront};
@@ -12,6 +12,7 @@ use crate::{Failed, Sink};
 pub fn write_all<O: Sink>(out: &mut O, bytes: &[u8]) -> Result<(), Failed>
     ensures ok { OnOk result (Appends (O.written out.old) (O.written out.new) bytes.now) }
     ensures err { OnErr result (SendsFront bytes.now (O.written out.old) (O.written out.new)) }
+    ensures apart { O.incoming out.new ≡ O.incoming out.old }
     ensures later { O.faults out.old ≤ O.faults out.new }
     ensures cause { OnErr result (Rose (O.faults out.old) (O.faults out.new)) }
 {

@@ -1,6 +1,7 @@
 //! Plan: lines in whatever pieces (`gives_lines`, `keeps_a_front_of_a_long_line`), the listed
 //! faults of sources and sinks (`fails_at_listed_calls`, `sink_keeps_its_room`), the buffer in
-//! front of a sink (`outbox_gathers`, `outbox_hands_on_faults`), the edge over readers and writers
+//! front of a sink (`outbox_gathers`, `outbox_hands_on_faults`), both sides of a link
+//! (`links_have_two_sides`), the edge over readers and writers
 //! of std (`std_streams`), and records kept in memory (`keeps_records`).
 
 use crate::texts::is_text;
@@ -260,6 +261,43 @@ fn hands_on(alloc: Global) -> bool {
 fn outbox_hands_on_faults(rt: HostRuntime) {
     assert!(rt; hands_on(rt.alloc()));
     assert!(rt; write_all(&mut SureSink, b"e") == Ok(()));
+}
+
+// A link over the text with room for eight bytes, which fails at its second read and at its first
+// write.
+fn failing_link(alloc: Global, text: &str) -> Result<MemLink, AllocError> {
+    Ok(MemLink::new(failing_source(alloc, text, &[1])?, sink_of(alloc, 8, &[0])?))
+}
+
+// Writes between the reads leave what is left, and reads leave what was written.
+fn is_two_sided<L: Link>(reader: &mut LineReader, link: &mut L) -> bool {
+    link.write(b"x") == Err(Failed)
+        && mark_of(reader.next_line(link)) == '|'
+        && reader.line() == b"a".as_slice()
+        && write_all(link, b"one\n") == Ok(())
+        && mark_of(reader.next_line(link)) == '!'
+        && write_all(link, b"two\n") == Ok(())
+        && mark_of(reader.next_line(link)) == '.'
+        && write_all(link, b"3") == Err(Failed)
+}
+
+fn serves_both(alloc: Global, link: &mut MemLink) -> bool {
+    let Ok(mut reader) = LineReader::new(alloc) else {
+        return false;
+    };
+    is_two_sided(&mut reader, link) && link.bytes() == b"one\ntwo\n".as_slice()
+}
+
+fn serves(alloc: Global) -> bool {
+    let Ok(mut link) = failing_link(alloc, "a\n") else {
+        return false;
+    };
+    serves_both(alloc, &mut link)
+}
+
+#[test]
+fn links_have_two_sides(rt: HostRuntime) {
+    assert!(rt; serves(rt.alloc()));
 }
 
 fn takes_all<O: Sink>(sink: &mut O) -> bool {

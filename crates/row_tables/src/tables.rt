@@ -15,7 +15,7 @@ use crate::put::{Replaced, action_put, put_back};
 use crate::schema::{schema_tables, swap_schema};
 use cell_types::{CellValue, Name};
 use doc_model::{ColDef, DocAction, DocReader, DocTables};
-use list_ops::all_made;
+use list_ops::{all_copied, all_made};
 use std::alloc::{AllocError, Global};
 use std::marker::Model;
 
@@ -82,6 +82,16 @@ impl RowTables {
         ensures { IfOk result (λ s. s ≡ new_document) }
     {
         let tables = new_tables(alloc)?;
+        Ok(RowTables { tables })
+    }
+
+    /// A copy of the document.
+    ///
+    /// Cost: linear in the cells.
+    pub fn copy(&self, alloc: Global) -> Result<RowTables, AllocError>
+        ensures { IfOk result (λ s. s ≡ self.now) }
+    {
+        let tables = all_copied(alloc, &self.tables, |table| table.copy())?;
         Ok(RowTables { tables })
     }
 }

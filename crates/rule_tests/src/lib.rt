@@ -1,7 +1,9 @@
-//! Tests of rules: their formulas, their values, their permissions, what they decide, what renames
-//! make of the texts of their resources, and which rows of the tables of rules are good.
+//! Tests of rules: their formulas, their values, their permissions, what they decide and let users
+//! read, what renames make of the texts of their resources, which rows of the tables of rules are
+//! good, and the attributes of users.
 //!
-//! Stands on `acl_formula`, `acl_rules`, `acl_rows`, `renamed_resources` and what these stand on.
+//! Stands on `acl_formula`, `acl_rules`, `acl_reading`, `acl_rows`, `renamed_resources`,
+//! `user_attrs` and what these stand on, and on `row_tables` and `doc_actions` for documents.
 //! Nothing stands on it; it is a crate of its own, so that these are not proved a second time with
 //! their tests.
 //!
@@ -11,11 +13,19 @@
 #![tactic(auto)]
 
 #[cfg(test)]
+mod attribute_texts;
+#[cfg(test)]
+mod attributes;
+#[cfg(test)]
 mod decisions;
+#[cfg(test)]
+mod documents;
 #[cfg(test)]
 mod formulas;
 #[cfg(test)]
 mod permission_texts;
+#[cfg(test)]
+mod reading;
 #[cfg(test)]
 mod resource_texts;
 #[cfg(test)]

@@ -10,7 +10,7 @@ use Rattle.recalc.proofs.FilledLaws.{laid_out_law}
 use Rattle.view_parts.specs.Parts.{affected_part}
 use Rattle.view_parts.specs.Shown.{view as shown_to}
 use Rattle.view_parts.specs.Viewers.{viewer_of}
-use Rattle.bundle_core.specs.JudgedBundles.{after_steps}
+use Rattle.bundle_judge.specs.JudgedBundles.{after_steps}
 use Rattle.bundle_core.specs.declared.view_changes.SeenPart.{SeenPart}
 use Rattle.bundle_core.specs.ViewChanges.{IsSeen, changes_since, seen_part}
 use Rattle.bundle_core.proofs.ViewLaws.{each_seen, told_to-changes}

@@ -7,14 +7,14 @@ use Rattle.doc_model.specs.DocumentLaws.{IsWhole}
 use Rattle.doc_model.proofs.InverseLaws.{IsWhole-apply_all}
 use Rattle.view_parts.specs.declared.viewers.Viewer.{Viewer}
 use Rattle.view_parts.specs.Viewers.{viewer_of}
-use Rattle.bundle_core.specs.BareVerdicts.{reply_of}
+use Rattle.bundle_core.specs.Replies.{reply_of}
 use Rattle.bundle_core.specs.declared.view_changes.ToldChanges.{ToldChanges}
-use Rattle.bundle_core.specs.Created.{told_of}
-use Rattle.bundle_core.specs.JudgedBundles.{after_steps, told_changes}
+use Rattle.bundle_judge.specs.Created.{told_of}
+use Rattle.bundle_judge.specs.JudgedBundles.{after_steps, told_changes}
 use Rattle.bundle_core.specs.SessionState.{SessionState, IsReady}
 use Rattle.bundle_core.specs.ViewChanges.{is_among, told_by}
 use Rattle.bundle_core.specs.State.{accepted_as}
-use Rattle.bundle_core.specs.View.{view}
+use Rattle.bundle_judge.specs.View.{view}
 use Rattle.bundle_core.proofs.Readied.{ready_as, reply_is}
 use Rattle.bundle_core.proofs.bundle.ready_bundle.Goals as goal
 

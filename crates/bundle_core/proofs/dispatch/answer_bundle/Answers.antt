@@ -1,10 +1,12 @@
-use Rattle.std.proofs.Common.{List, get_or, None, sym, subst}
+use Rattle.std.proofs.Common.{List, get_or, None, IfOk, sym, subst}
 use Rattle.doc_model.specs.declared.user.User.{User}
 use Rattle.doc_model.specs.declared.user_action.UserAction.{UserAction}
 use Rattle.doc_model.specs.Document.{Document}
-use Rattle.bundle_core.specs.JudgedBundles.{IsJudgedBundle}
-use Rattle.bundle_core.specs.Judgement.{judge}
+use Rattle.bundle_core.specs.Core.{marked}
+use Rattle.bundle_judge.specs.JudgedBundles.{IsJudgedBundle}
+use Rattle.bundle_judge.specs.Judgement.{judge}
 use Rattle.bundle_core.specs.SessionState.{SessionState}
+use Rattle.bundle_core.specs.Turns.{IsTurn}
 use Rattle.bundle_core.proofs.JudgedLemmas.{judged_bundle}
 use Rattle.bundle_core.proofs.Prepared.{at_any}
 use Rattle.bundle_core.proofs.dispatch.answer_bundle.Goals as goal
@@ -21,3 +23,8 @@ answer_judged-requires-clause-judged g c =
     let at = at_any c.args.sessions.now.items c.args.index c.index.result.now d c.requires.finds.within c.index.ensures in
     judged_bundle _ t c.args.entry.now.request c.args.actions.now b c.requires.asks
     (subst T (sym c.in_ok-judged.ensures.same) (subst X (sym at) (subst Q c.user.ensures (subst P c.as_slice.ensures c.in_ok-judged.ensures.judged))))
+
+pub returns-clause-ok : goal.returns-clause-ok
+returns-clause-ok g c =
+    let P : Document → Type 0 = λ s. IfOk c.answer_judged.result (λ t. IsTurn c.args.users.now s (g.D.DocReader.document c.answer_judged.new.doc) c.args.sessions.now.items c.answer_judged.new.sessions.items c.args.records.now c.answer_judged.new.records (marked c.args.entry.now t.kept) t.lines.items) in
+    subst P c.in_ok-judged.ensures.same c.answer_judged.ensures.ok

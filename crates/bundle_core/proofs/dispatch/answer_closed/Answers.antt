@@ -1,6 +1,6 @@
 use Rattle.std.proofs.Common.{◌∷◌, [], ap, ◌∙◌}
 use Rattle.std.proofs.lemmas.Result.{IfOk-weaker}
-use Rattle.bundle_core.specs.BareVerdicts.{reply_of}
+use Rattle.bundle_core.specs.Replies.{reply_of}
 use Rattle.bundle_core.specs.State.{refusal}
 use Rattle.bundle_core.proofs.ClosedLemmas.{answers_by, miss_refused}
 use Rattle.bundle_core.proofs.dispatch.answer_closed.Goals as goal

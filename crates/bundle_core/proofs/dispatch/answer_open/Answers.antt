@@ -1,9 +1,13 @@
-use Rattle.std.proofs.Common.{◌≡◌, true, false, get_or, Some, None, refl, sym, ap, ◌∙◌}
+use Rattle.std.proofs.Common.{◌≡◌, true, false, get_or, Some, None, refl, sym, ap, ◌∙◌, arith}
 use Rattle.std.proofs.lemmas.Result.{IfOk-weaker}
-use Rattle.bundle_core.specs.declared.bare_verdict.BareVerdict.TheVariants.{Done}
+use Rattle.bundle_judge.specs.declared.bare_verdict.BareVerdict.TheVariants.{Done}
+use Rattle.bundle_core.specs.declared.dispatch.Turn.{Turn}
+use Rattle.bundle_core.specs.Core.{marked}
 use Rattle.bundle_core.specs.Dispatch.{state_of}
 use Rattle.bundle_core.specs.SessionState.{SessionState}
 use Rattle.bundle_core.specs.State.{answered, from_open}
+use Rattle.bundle_core.specs.Turns.{IsTurn}
+use Rattle.bundle_core.proofs.KeptTurns.{found_none, quiet_err, quiet_kept, quiet_ok}
 use Rattle.bundle_core.proofs.OpenLemmas.{code_lagging, code_open, code_sync, find_leaves, find_stays, comes_lagging, comes_open}
 use Rattle.bundle_core.proofs.Prepared.{on_err_always}
 use Rattle.bundle_core.proofs.dispatch.answer_open.Goals as goal
@@ -11,70 +15,102 @@ use Rattle.bundle_core.proofs.dispatch.answer_open.Goals as goal
 pub returns-then-is_lagging : goal.returns-then-is_lagging
 returns-then-is_lagging g c =
     let s = g.D.DocReader.document c.args.doc.now in
+    let users = c.args.users.now in
     let xs = c.args.sessions.now.items in
-    let e = c.args.entry.now in
+    let ys = c.leave.new.sessions.items in
+    let l = c.args.records.now in
+    let e = marked c.args.entry.now true in
     let d = c.index.result.now in
     let lag : (get_or xs c.args.index d).lagging ≡ true = ap (λ (z : SessionState). z.lagging) (sym c.index.ensures) ∙ sym c.is_lagging.ensures ∙ c.if-is_lagging.true in
-    let comes = comes_lagging c.args.users.now s xs c.args.index e c.requires.finds d _ lag
-    (λ l. code_lagging (state_of s l) e.request c.requires.stays ∙ ap (answered s None) (sym c.refused.ensures)) in
+    let comes = comes_lagging users s xs c.args.index e c.requires.finds d _ lag
+    (λ z. code_lagging (state_of s z) e.request c.requires.stays ∙ ap (answered s None) (sym c.refused.ensures)) in
+    let P : Turn → Type 0 = λ t. IsTurn users s s xs ys l l (marked c.args.entry.now t.kept) t.lines.items in
     record {
-      ok = IfOk-weaker c.leave.result _ _ (λ v left. find_leaves c.args.users.now s xs c.args.index e c.requires.finds d c.refused.result _ v.items comes left) c.leave.ensures.ok;
+      ok = quiet_ok (λ v. let t : Turn = record { lines = v; kept = true } in t) P c.leave.result c.quiet.result c.quiet.ensures (IfOk-weaker c.leave.result _ _
+          (λ v left. quiet_kept users s xs ys l e v.items refl (found_none users s xs c.args.index e c.requires.finds d (answered s None c.refused.result) comes refl)
+          (find_leaves users s xs c.args.index e c.requires.finds d c.refused.result ys v.items comes left)) c.leave.ensures.ok);
       whole = c.requires.whole;
       tally = c.requires.tally;
-      err_document = on_err_always c.leave.result refl;
-      err = c.leave.ensures.err;
+      err_document = on_err_always c.quiet.result refl;
+      err = quiet_err (λ v. let t : Turn = record { lines = v; kept = true } in t) _ c.leave.result c.quiet.result c.quiet.ensures c.leave.ensures.err;
+      err_told = on_err_always c.quiet.result refl;
+      later = omega arith;
     }
 
 pub returns-in-Some : goal.returns-in-Some
 returns-in-Some g c =
     let s = g.D.DocReader.document c.args.doc.now in
+    let users = c.args.users.now in
     let xs = c.args.sessions.now.items in
-    let e = c.args.entry.now in
+    let ys = c.stay.new.sessions.items in
+    let l = c.args.records.now in
+    let e = marked c.args.entry.now true in
     let d = c.index.result.now in
     let h = (get_or xs c.args.index d).holder in
     let quick : (get_or xs c.args.index d).lagging ≡ false = ap (λ (z : SessionState). z.lagging) (sym c.index.ensures) ∙ sym c.is_lagging.ensures ∙ c.if-is_lagging.false in
-    let comes = comes_open c.args.users.now s xs c.args.index e c.requires.finds d _ quick
-    (λ l. code_open (state_of s l) h e.kept e.request c.in-Some.refusal (sym c.refusal_open.ensures ∙ c.in-Some.is) ∙ ap (answered s (Some h)) (sym c.refused-in-Some.ensures)) in
+    let comes = comes_open users s xs c.args.index e c.requires.finds d _ quick
+    (λ z. code_open (state_of s z) h true e.request c.in-Some.refusal (sym c.refusal_open.ensures ∙ c.in-Some.is) ∙ ap (answered s (Some h)) (sym c.refused-in-Some.ensures)) in
+    let P : Turn → Type 0 = λ t. IsTurn users s s xs ys l l (marked c.args.entry.now t.kept) t.lines.items in
     record {
-      ok = IfOk-weaker c.stay.result _ _ (λ v kept. find_stays c.args.users.now s xs c.args.index e c.requires.finds d c.refused-in-Some.result _ v.items c.requires.whole comes kept) c.stay.ensures.ok;
+      ok = quiet_ok (λ v. let t : Turn = record { lines = v; kept = true } in t) P c.stay.result c.quiet-in-Some.result c.quiet-in-Some.ensures (IfOk-weaker c.stay.result _ _
+          (λ v stays. quiet_kept users s xs ys l e v.items refl (found_none users s xs c.args.index e c.requires.finds d (answered s (Some h) c.refused-in-Some.result) comes refl)
+          (find_stays users s xs c.args.index e c.requires.finds d c.refused-in-Some.result ys v.items c.requires.whole comes stays)) c.stay.ensures.ok);
       whole = c.requires.whole;
       tally = c.requires.tally;
-      err_document = on_err_always c.stay.result refl;
-      err = c.stay.ensures.err;
+      err_document = on_err_always c.quiet-in-Some.result refl;
+      err = quiet_err (λ v. let t : Turn = record { lines = v; kept = true } in t) _ c.stay.result c.quiet-in-Some.result c.quiet-in-Some.ensures c.stay.ensures.err;
+      err_told = on_err_always c.quiet-in-Some.result refl;
+      later = omega arith;
     }
 
 pub returns-in_default-request : goal.returns-in_default-request
 returns-in_default-request g c =
     let s = g.D.DocReader.document c.args.doc.now in
+    let users = c.args.users.now in
     let xs = c.args.sessions.now.items in
-    let e = c.args.entry.now in
+    let ys = c.stay-in_default-request.new.sessions.items in
+    let l = c.args.records.now in
+    let e = marked c.args.entry.now true in
     let d = c.index.result.now in
     let h = (get_or xs c.args.index d).holder in
     let quick : (get_or xs c.args.index d).lagging ≡ false = ap (λ (z : SessionState). z.lagging) (sym c.index.ensures) ∙ sym c.is_lagging.ensures ∙ c.if-is_lagging.false in
-    let comes = comes_open c.args.users.now s xs c.args.index e c.requires.finds d _ quick
-    (λ l. code_sync (state_of s l) h e.kept e.request (sym c.refusal_open.ensures ∙ c.in_default.is) c.requires.stays (λ actions is. c.in_default-request.not-Apply actions is) (λ number is. c.in_default-request.not-Undo number is) c.in_default-request.not-Close) in
+    let comes = comes_open users s xs c.args.index e c.requires.finds d _ quick
+    (λ z. code_sync (state_of s z) h true e.request (sym c.refusal_open.ensures ∙ c.in_default.is) c.requires.stays (λ actions is. c.in_default-request.not-Apply actions is) (λ number is. c.in_default-request.not-Undo number is) c.in_default-request.not-Close) in
+    let P : Turn → Type 0 = λ t. IsTurn users s s xs ys l l (marked c.args.entry.now t.kept) t.lines.items in
     record {
-      ok = IfOk-weaker c.stay-in_default-request.result _ _ (λ v kept. find_stays c.args.users.now s xs c.args.index e c.requires.finds d Done _ v.items c.requires.whole comes kept) c.stay-in_default-request.ensures.ok;
+      ok = quiet_ok (λ v. let t : Turn = record { lines = v; kept = true } in t) P c.stay-in_default-request.result c.quiet-in_default-request.result c.quiet-in_default-request.ensures (IfOk-weaker c.stay-in_default-request.result _ _
+          (λ v stays. quiet_kept users s xs ys l e v.items refl (found_none users s xs c.args.index e c.requires.finds d (answered s (Some h) Done) comes refl)
+          (find_stays users s xs c.args.index e c.requires.finds d Done ys v.items c.requires.whole comes stays)) c.stay-in_default-request.ensures.ok);
       whole = c.requires.whole;
       tally = c.requires.tally;
-      err_document = on_err_always c.stay-in_default-request.result refl;
-      err = c.stay-in_default-request.ensures.err;
+      err_document = on_err_always c.quiet-in_default-request.result refl;
+      err = quiet_err (λ v. let t : Turn = record { lines = v; kept = true } in t) _ c.stay-in_default-request.result c.quiet-in_default-request.result c.quiet-in_default-request.ensures c.stay-in_default-request.ensures.err;
+      err_told = on_err_always c.quiet-in_default-request.result refl;
+      later = omega arith;
     }
 
 pub returns-in-Close : goal.returns-in-Close
 returns-in-Close g c =
     let s = g.D.DocReader.document c.args.doc.now in
+    let users = c.args.users.now in
     let xs = c.args.sessions.now.items in
-    let e = c.args.entry.now in
+    let ys = c.leave-in-Close.new.sessions.items in
+    let l = c.args.records.now in
+    let e = marked c.args.entry.now true in
     let d = c.index.result.now in
     let h = (get_or xs c.args.index d).holder in
     let quick : (get_or xs c.args.index d).lagging ≡ false = ap (λ (z : SessionState). z.lagging) (sym c.index.ensures) ∙ sym c.is_lagging.ensures ∙ c.if-is_lagging.false in
-    let comes = comes_open c.args.users.now s xs c.args.index e c.requires.finds d _ quick
-    (λ l. ap (from_open (state_of s l) h e.kept) c.in-Close.is) in
+    let comes = comes_open users s xs c.args.index e c.requires.finds d _ quick
+    (λ z. ap (from_open (state_of s z) h true) c.in-Close.is) in
+    let P : Turn → Type 0 = λ t. IsTurn users s s xs ys l l (marked c.args.entry.now t.kept) t.lines.items in
     record {
-      ok = IfOk-weaker c.leave-in-Close.result _ _ (λ v left. find_leaves c.args.users.now s xs c.args.index e c.requires.finds d Done _ v.items comes left) c.leave-in-Close.ensures.ok;
+      ok = quiet_ok (λ v. let t : Turn = record { lines = v; kept = true } in t) P c.leave-in-Close.result c.quiet-in-Close.result c.quiet-in-Close.ensures (IfOk-weaker c.leave-in-Close.result _ _
+          (λ v left. quiet_kept users s xs ys l e v.items refl (found_none users s xs c.args.index e c.requires.finds d (answered s None Done) comes refl)
+          (find_leaves users s xs c.args.index e c.requires.finds d Done ys v.items comes left)) c.leave-in-Close.ensures.ok);
       whole = c.requires.whole;
       tally = c.requires.tally;
-      err_document = on_err_always c.leave-in-Close.result refl;
-      err = c.leave-in-Close.ensures.err;
+      err_document = on_err_always c.quiet-in-Close.result refl;
+      err = quiet_err (λ v. let t : Turn = record { lines = v; kept = true } in t) _ c.leave-in-Close.result c.quiet-in-Close.result c.quiet-in-Close.ensures c.leave-in-Close.ensures.err;
+      err_told = on_err_always c.quiet-in-Close.result refl;
+      later = omega arith;
     }

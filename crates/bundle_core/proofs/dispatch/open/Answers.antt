@@ -1,6 +1,6 @@
 use Rattle.std.proofs.Common.{◌∷◌, [], ap, sym, ◌∙◌}
 use Rattle.std.proofs.lemmas.Result.{IfOk-weaker}
-use Rattle.bundle_core.specs.BareVerdicts.{reply_of}
+use Rattle.bundle_core.specs.Replies.{reply_of}
 use Rattle.bundle_core.proofs.ClosedLemmas.{answers_by, miss_unknown}
 use Rattle.bundle_core.proofs.dispatch.open.Goals as goal
 

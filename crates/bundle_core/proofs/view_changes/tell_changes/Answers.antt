@@ -1,6 +1,6 @@
 use Rattle.std.proofs.Common.{◌∷◌, [], ◌++◌, ap, ◌∙◌}
 use Rattle.bundle_core.specs.ViewChanges.{changes_since}
-use Rattle.bundle_core.proofs.TakeLemmas.{map_take_next}
+use Rattle.bundle_judge.proofs.TakeLemmas.{map_take_next}
 use Rattle.bundle_core.proofs.view_changes.tell_changes.Goals as goal
 
 pub loop-part-preserved : goal.loop-part-preserved

@@ -1,5 +1,16 @@
-use Rattle.grist_run.proofs.ToldLaws.{run_follows}
+use Rattle.std.proofs.Common.{[], arith}
+use Rattle.grist_run.specs.declared.status.Status.TheVariants.{NoMemory, Usage}
+use Rattle.grist_run.proofs.ReplayLaws.{none_replays, replays_told, usage_replays}
 use Rattle.grist_run.proofs.running.run.Goals as goal
 
-pub returns-clause-told : goal.returns-clause-told
-returns-clause-told g c = run_follows c.replay.result.status (g.S.Source.left c.args.input.now) (g.S.Source.left c.replay.new.input) (g.O.Sink.written c.args.out.now) (g.O.Sink.written c.replay.new.out) c.replay.result.history c.replay.ensures.replay
+pub returns-in-Ok-clause-replay : goal.returns-in-Ok-clause-replay
+returns-in-Ok-clause-replay g c =
+    let none = c.without_history-in-Ok in
+    replays_told Usage none.result.status [] none.result.history (g.K.Keeper.records none.result.keeper) (g.K.Keeper.failures none.result.keeper) none.ensures.status none.ensures.history
+    (usage_replays (g.S.Source.left c.args.input.now) (g.O.Sink.written c.args.out.now) (g.K.Keeper.records c.args.keeper) (g.K.Keeper.records none.result.keeper) none.ensures.records (g.K.Keeper.failures c.args.keeper) (g.K.Keeper.failures none.result.keeper) (omega (arith, none.ensures.faults)))
+
+pub returns-clause-replay : goal.returns-clause-replay
+returns-clause-replay g c =
+    let none = c.without_history in
+    replays_told NoMemory none.result.status [] none.result.history (g.K.Keeper.records none.result.keeper) (g.K.Keeper.failures none.result.keeper) none.ensures.status none.ensures.history
+    (none_replays (g.S.Source.left c.args.input.now) (g.O.Sink.written c.args.out.now) (g.K.Keeper.records c.args.keeper) (g.K.Keeper.records none.result.keeper) none.ensures.records (g.K.Keeper.failures c.args.keeper) (g.K.Keeper.failures none.result.keeper) (omega (arith, none.ensures.faults)))

@@ -1,4 +1,4 @@
-use Rattle.std.proofs.Common.{◌≡◌, Bool, Result, true, false, Ok, ap, length, arith, rules}
+use Rattle.std.proofs.Common.{◌≡◌, ◌∙◌, Bool, Result, true, false, Ok, ap, length, refl, arith, rules}
 use Rattle.io_edges.specs.declared.Failed.{Failed}
 use Rattle.io_edges.proofs.ReadingLemmas.{reading_begins, reads_line, reading_part, reading_read, reads_fault, reads_spent, reads_last}
 use Rattle.io_edges.proofs.line_reader.LineReader.next_line.Goals as goal
@@ -6,6 +6,7 @@ use Rattle.io_edges.proofs.line_reader.LineReader.next_line.Goals as goal
 pub loop-whole-init : goal.loop-whole-init
 loop-whole-init g c = record {
   reading = reading_begins c.args.self.now c.begin.new.self (g.S.Source.left c.args.source.now) c.begin.ensures.ahead c.begin.ensures.line c.begin.ensures.turns;
+  apart = refl;
   later = omega arith;
 }
 
@@ -40,5 +41,6 @@ loop-whole-preserved g c =
     record {
       reading = reading_read 1 (reading_part c.loop-whole.invariant.reading part c.in-Ok.ensures.turns) (part.all cc)
           (record { consumed = e.bytes; line = e.line; turns = rw c.if-not-more.false at e.turns; once = omega arith; some = omega (arith, e.some more); few = e.few; spare = search rules });
+      apart = e.apart ∙ c.loop-whole.invariant.apart;
       later = omega (arith, c.loop-whole.invariant.later, e.later);
     }

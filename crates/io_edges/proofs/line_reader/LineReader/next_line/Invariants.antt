@@ -1,10 +1,11 @@
-use Rattle.std.proofs.Common.{◌≤◌, ◌-◌}
+use Rattle.std.proofs.Common.{◌≡◌, ◌≤◌, ◌-◌}
 use Rattle.io_edges.proofs.ReadingLemmas.{Reading}
 use Rattle.io_edges.proofs.line_reader.LineReader.next_line.Given as goal
 
 abbrev pub invariant-loop-whole : goal.invariant-loop-whole
 invariant-loop-whole g l = record {
   reading : Reading l.fn.self l.self (g.S.Source.left l.fn.source) (g.S.Source.left l.source);
+  apart : g.S.Source.outgoing l.source ≡ g.S.Source.outgoing l.fn.source;
   later : g.S.Source.faults l.fn.source ≤ g.S.Source.faults l.source;
 }
 

@@ -1,0 +1,4 @@
+pub mod HiddenLemmas
+pub mod LawLemmas
+pub mod LettingLemmas
+pub mod WalkLemmas

@@ -1,0 +1,11 @@
+use Rattle.acl_reading.proofs.HiddenLemmas.{bare_hidden, column_hidden}
+use Rattle.acl_reading.proofs.LawLemmas.{schema_hidden, without_rules}
+use Rattle.acl_reading.proofs.laws.reading_law.Goals as goal
+
+pub returns : goal.returns
+returns c = record {
+  schema = schema_hidden;
+  no_rules = without_rules;
+  hidden = column_hidden;
+  bare = bare_hidden;
+}

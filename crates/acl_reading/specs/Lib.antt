@@ -1,0 +1,5 @@
+pub mod Laws
+pub mod RulesLet
+pub mod Shown
+pub mod Walk
+pub mod Walking

@@ -1,0 +1,93 @@
+//! The rules in force as what lets a user read.
+
+ghost use Rattle.std.specs.Prelude.{◌≡◌};
+ghost use Rattle.acl_reading.specs.RulesLet.{is_owner, reach_of};
+
+use crate::shown::{is_bare_shown, is_cell_shown, is_column_shown, is_formula_shown};
+use acl_formula::RowReader;
+use acl_rules::Ctx;
+use cell_types::Name;
+use censored_view::Lets;
+use doc_readers::{is_acl_id, is_schema_id};
+
+/// The rules in force for a user, as what lets the user read. The schema tables are hidden, and the
+/// tables of the access rules are shown to owners alone.
+#[derive(Clone, Copy)]
+pub struct RuleReading<'a> {
+    pub ctx: &'a Ctx,
+}
+
+// How far a table is shown, before its rules are asked.
+#[derive(Clone, Copy)]
+pub(crate) enum Reach {
+    Hidden,
+    Whole,
+    ByRules,
+}
+
+fn is_owner(ctx: &Ctx) -> bool
+    ensures { result ≡ is_owner ctx.now }
+{
+    match &ctx.user.user.access {
+        Some(access) => access.as_str() == "owners",
+        None => false,
+    }
+}
+
+fn reach_of(ctx: &Ctx, table: &Name) -> Reach
+    ensures { result ≡ reach_of ctx.now table.now }
+{
+    if is_schema_id(table.as_str()) {
+        return Reach::Hidden;
+    }
+    if !is_acl_id(table.as_str()) {
+        return Reach::ByRules;
+    }
+    if is_owner(ctx) {
+        Reach::Whole
+    } else {
+        Reach::Hidden
+    }
+}
+
+impl Lets for RuleReading<'_> {
+    ghost use Rattle.acl_reading.specs.RulesLet.{rules_let};
+
+    ghost lets = { λ r. rules_let r.ctx.now };
+
+    #[tactic(auto, using(crate::proofs::LettingLemmas::let_by_reach))]
+    fn is_bare_shown(&self, table: &Name) -> bool {
+        match reach_of(self.ctx, table) {
+            Reach::Hidden => false,
+            Reach::Whole => true,
+            Reach::ByRules => is_bare_shown(self.ctx, table),
+        }
+    }
+
+    #[tactic(auto, using(crate::proofs::LettingLemmas::let_by_reach))]
+    fn is_column_shown(&self, table: &Name, column: &Name) -> bool {
+        match reach_of(self.ctx, table) {
+            Reach::Hidden => false,
+            Reach::Whole => true,
+            Reach::ByRules => is_column_shown(self.ctx, table, column),
+        }
+    }
+
+    #[tactic(auto, using(crate::proofs::LettingLemmas::let_by_reach))]
+    fn is_formula_shown(&self, table: &Name, column: &Name) -> bool {
+        match reach_of(self.ctx, table) {
+            Reach::Hidden => false,
+            Reach::Whole => true,
+            Reach::ByRules => is_formula_shown(self.ctx, table, column),
+        }
+    }
+
+    #[tactic(auto, using(crate::proofs::LettingLemmas::let_by_reach))]
+    fn is_cell_shown<W: RowReader>(&self, table: &Name, column: Option<&Name>, row: &W) -> bool {
+        match reach_of(self.ctx, table) {
+            Reach::Hidden => false,
+            Reach::Whole => true,
+            Reach::ByRules => is_cell_shown(self.ctx, table, column, row),
+        }
+    }
+}

@@ -1,0 +1,9 @@
+mod NameLemmas
+pub mod BackLemmas
+mod StepLemmas
+mod NarrowLemmas
+mod ToldLemmas
+mod RowLemmas
+mod CellLemmas
+mod TableLemmas
+mod PartLemmas

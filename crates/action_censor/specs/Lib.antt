@@ -1,0 +1,7 @@
+pub mod Step
+pub mod Back
+pub mod Touched
+pub mod ToldCells
+pub mod TouchedTables
+pub mod ShownParts
+pub mod FollowLaws

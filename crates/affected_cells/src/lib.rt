@@ -1,0 +1,23 @@
+//! What a change of a document leaves alone: which formula cells an action may affect, and that
+//! all others keep their values and their reads.
+//!
+//! Stands on `recalc` (evaluated cells), `formula_eval` (runs that are alike), `doc_model`
+//! (actions) and `cell_types`. Nothing uses it yet: it is for a document that evaluates again only
+//! what a change touches.
+//!
+//! Promises: `unaffected_law` speaks of any two sheets: a formula cell outside of a closed set has
+//! the value and the reads that it had. `keeps_law` is the same of a document and an action, for
+//! the cells that specs/Affected.antt says; it asks that the action touches no other reads than
+//! specs/Touched.antt says, and the laws of actions prove that for each of the ten actions.
+//! Not promised: how these cells are found.
+//! Read first: specs/Untouched.antt, specs/Touched.antt and specs/Affected.antt.
+#![tactic(auto)]
+
+mod actions;
+mod laws;
+
+pub use actions::{
+    add_column_law, add_table_law, modify_column_law, remove_column_law, remove_table_law,
+    rename_column_law, rename_table_law, rows_law, update_law,
+};
+pub use laws::{keeps_law, still_known_law, unaffected_law};

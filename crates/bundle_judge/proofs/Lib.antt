@@ -1,0 +1,8 @@
+pub mod CreatedLemmas
+pub mod ChangedLemmas
+pub mod CheckLemmas
+pub mod JudgmentLemmas
+pub mod TakeLemmas
+pub mod RollbackLemmas
+pub mod StepLemmas
+pub mod UndoneLemmas

@@ -1,0 +1,19 @@
+use Rattle.std.proofs.Common.{map}
+use Rattle.doc_model.specs.DocumentLaws.{IsWhole}
+use Rattle.user_actions.specs.StepLaws.{action_of}
+use Rattle.recalc.specs.Evaluated.{filled}
+use Rattle.recalc.specs.WayBack.{IsWayBack}
+use Rattle.view_parts.specs.PartLaws.{AreSameOutside}
+use Rattle.bundle_judge.specs.ChangedCells.{StayNoted}
+use Rattle.bundle_judge.specs.Rollback.{led_back}
+use Rattle.bundle_judge.proofs.CheckLemmas.{IsChecking}
+use Rattle.bundle_judge.proofs.RollbackLemmas.{IsDoing}
+use Rattle.bundle_judge.proofs.checking.do_all_checked.Given as goal
+
+abbrev pub invariant-loop-step : goal.invariant-loop-step
+invariant-loop-step g l =
+    IsDoing (led_back g.D.DocTables.fits g.D.DocTables.undone) (IsWayBack g.D.DocTables.fits g.D.DocTables.undone) (g.D.DocReader.document l.initial.doc) (map action_of l.steps) l.initial.traces.items l.step-index (g.D.DocReader.document l.doc) l.traces.items
+    × AreSameOutside (map action_of l.steps) l.changed.items (filled (g.D.DocReader.document l.initial.doc)) (filled (g.D.DocReader.document l.doc))
+    × IsWhole (g.D.DocReader.document l.doc)
+    × StayNoted l.initial.changed.items l.changed.items
+    × IsChecking l.initial.ctx (g.D.DocReader.document l.initial.doc) l.index l.steps l.step-index l.ctx (g.D.DocReader.document l.doc)

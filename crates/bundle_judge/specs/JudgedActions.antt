@@ -1,0 +1,67 @@
+-- What one action of a bundle comes to, and how far a judgement has come.
+use Rattle.std.specs.Prelude.{ℕ, true, List, ◌++◌, map, drop, ◌≡◌, Some, None}
+use Rattle.doc_model.specs.declared.action.Step.{Step}
+use Rattle.doc_model.specs.declared.user.User.{User}
+use Rattle.doc_model.specs.declared.user_action.UserAction.{UserAction}
+use Rattle.doc_model.specs.Apply.{apply_all, all_valid}
+use Rattle.doc_model.specs.Document.{Document}
+use Rattle.action_limits.specs.declared.tally.Tally.{Tally}
+use Rattle.acl_rules.specs.declared.decision.Ctx.{Ctx}
+use Rattle.user_actions.specs.StepLaws.{action_of}
+use Rattle.user_actions.specs.Steps.{steps_of}
+use Rattle.bundle_judge.specs.declared.judging.ActionPlan.{ActionPlan}
+use Rattle.bundle_judge.specs.declared.judging.JudgedAction.{JudgedAction}
+use Rattle.bundle_judge.specs.declared.judging.JudgedAction.TheVariants as judged
+use Rattle.bundle_judge.specs.declared.created.Created.{Created}
+use Rattle.bundle_judge.specs.Context.{carry_all}
+use Rattle.bundle_judge.specs.Denials.{denial_of}
+use Rattle.bundle_judge.specs.Judgement.{judge_from, created_at, opposed_at, refusal_at, with_before}
+use Rattle.bundle_judge.specs.JudgedBundles.{MayBeDone, after_steps}
+use Rattle.recalc.specs.Evaluated.{filled}
+use Rattle.view_parts.specs.declared.changed.ChangedRows.{ChangedRows}
+use Rattle.view_parts.specs.PartLaws.{AreSameOutside}
+
+-- nothing but a rule stands against the action at that index: its steps and what it created
+pub record IsActionPlan (user : User) (s : Document) (i : ℕ) (a : UserAction)
+    (n : ActionPlan) : Type 0 where
+  pub unopposed : opposed_at user s i a ≡ None
+  pub steps : n.steps ≡ steps_of s a
+  pub created : n.created ≡ created_at s a
+  pub may : MayBeDone s (map action_of n.steps) n.tally
+
+-- what the action at that index comes to, rules aside
+abbrev pub IsJudgedAction : User → Document → ℕ → UserAction → JudgedAction → Type 0
+IsJudgedAction user s i a (judged.Accepted n) = IsActionPlan user s i a n
+IsJudgedAction user s i a (judged.Refused v) = opposed_at user s i a ≡ Some v
+
+-- these steps are done, and no rule denied one of them
+pub record AreLetDone (x : Ctx) (s : Document) (i : ℕ) (steps : List Step) (y : Ctx)
+    (t : Document) (changed : List ChangedRows) : Type 0 where
+  pub undenied : denial_of x s i steps ≡ None
+  pub carried : y ≡ carry_all steps x
+  pub done : t ≡ after_steps s steps
+  pub outside : AreSameOutside (map action_of steps) changed (filled s) (filled t)
+
+-- nothing stands against the action at that index, and its steps are done
+pub record IsDonePlan (x : Ctx) (s : Document) (i : ℕ) (a : UserAction) (y : Ctx) (t : Document)
+    (changed : List ChangedRows) (n : ActionPlan) : Type 0 where
+  pub plan : IsActionPlan x.user.user s i a n
+  pub done : AreLetDone x s i n.steps y t changed
+
+-- what the action at that index comes to, where it is done
+abbrev pub IsDoneAction : Ctx → Document → ℕ → UserAction → Ctx → Document → List ChangedRows
+    → JudgedAction → Type 0
+IsDoneAction x s i a y t changed (judged.Accepted n) = IsDonePlan x s i a y t changed n
+IsDoneAction x s i a y t changed (judged.Refused v) = refusal_at x s i a ≡ Some v
+
+-- so many actions were judged from the start on: some steps are done, and others follow, after
+-- which the rules are carried along as far
+pub record IsAt (x : Ctx) (start : Document) (requested : List UserAction) (i : ℕ)
+    (y : Ctx) (s : Document) (done next : List Step) (created : List Created)
+    (tally : Tally) : Type 0 where
+  pub done_so_far : s ≡ apply_all start (map action_of done)
+  pub valid : all_valid start (map action_of done) ≡ true
+  pub may : MayBeDone s (map action_of next) tally
+  pub judged : judge_from x start 0 requested
+      ≡ with_before (done ++ next) created
+      (judge_from y (apply_all s (map action_of next)) i (drop i requested))

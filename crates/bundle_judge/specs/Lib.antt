@@ -1,0 +1,13 @@
+pub mod BareVerdicts
+pub mod Context
+pub mod Denials
+pub mod Judgement
+pub mod Created
+pub mod JudgedBundles
+pub mod JudgedActions
+pub mod View
+pub mod Rollback
+pub mod ChangedCells
+pub mod SplitSteps
+pub mod Undo
+pub mod UndoneSteps

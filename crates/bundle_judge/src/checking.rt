@@ -1,0 +1,173 @@
+//! Steps done between their checks by the rules.
+
+ghost use Rattle.std.specs.Prelude.{◌≡◌, ◌&&◌, [], ◌∷◌, not, true, map, option_map, IfOk, OnOk, MatchOption, Some};
+ghost use Rattle.doc_model.specs.Apply.{all_valid, apply};
+ghost use Rattle.doc_model.specs.DocumentLaws.{IsWhole};
+ghost use Rattle.doc_model.specs.Valid.{valid};
+ghost use Rattle.user_actions.specs.StepLaws.{action_of};
+ghost use Rattle.acl_checks.specs.BeforeStep.{row_of};
+ghost use Rattle.acl_checks.specs.Unchecked.{are_unchecked};
+ghost use Rattle.recalc.specs.Evaluated.{filled};
+ghost use Rattle.view_parts.specs.PartLaws.{AreSameOutside};
+ghost use Rattle.bundle_judge.specs.ChangedCells.{StayNoted};
+ghost use Rattle.bundle_judge.specs.Context.{carry, context};
+ghost use Rattle.bundle_judge.specs.Denials.{denial_at, denial_of, denied_by, denying_row};
+ghost use Rattle.bundle_judge.specs.JudgedActions.{AreLetDone};
+ghost use Rattle.bundle_judge.specs.Rollback.{AllLeadBack, gone_back};
+
+use crate::bare_verdict::BareVerdict;
+use crate::rollback::do_one;
+use acl_checks::laws::unchecked_law;
+use acl_checks::{after_step, are_unchecked, before_step};
+use acl_formula::{AttributeList, UserInfo};
+use acl_rules::{Ctx, RuleId, carry, load, rule_ref};
+use doc_model::{DocTables, Step, User};
+use recalc::{Doc, Trace};
+use std::alloc::{AllocError, Global};
+use view_parts::ChangedRows;
+
+/// The rules of a document with a user, who has no attributes yet.
+///
+/// Errors: out of memory. Cost: linear in the rules.
+pub fn context_of<D: DocTables>(alloc: Global, tables: &D, user: &User) -> Result<Ctx, AllocError>
+    ensures { IfOk result (λ x. x ≡ context user.now (D.document tables.now)) }
+{
+    let user = UserInfo {
+        user: user.clone()?,
+        attributes: AttributeList::new(alloc),
+    };
+    match load(alloc, tables) {
+        Ok(book) => Ok(Ctx { book, user }),
+        Err(error) => {
+            drop(user);
+            Err(error)
+        }
+    }
+}
+
+// The denial of the action at that index by a rule, where one denies it.
+fn denied_by(
+    alloc: Global,
+    ctx: &Ctx,
+    index: u32,
+    rule: Option<RuleId>,
+) -> Result<Option<BareVerdict>, AllocError>
+    ensures { IfOk result (λ o. o ≡ denied_by ctx.now index (option_map row_of rule)) }
+{
+    let Some(rule) = rule else {
+        return Ok(None);
+    };
+    Ok(Some(BareVerdict::Denied {
+        action: index,
+        rule: rule_ref(alloc, &ctx.book, rule)?,
+    }))
+}
+
+// Whether a step is checked: a direct one is, where the rules may deny anything.
+fn is_checked(ctx: &Ctx, step: &Step) -> bool
+    ensures { result ≡ (step.now.direct && not (are_unchecked ctx.now)) }
+{
+    step.direct && !are_unchecked(ctx)
+}
+
+// Does a valid step as `do_one` does it, and tells the rule that denies it.
+fn do_between<D: DocTables>(
+    alloc: Global,
+    doc: &mut Doc<D>,
+    ctx: &Ctx,
+    step: &Step,
+    traces: &mut Vec<Trace<D>>,
+    changed: &mut Vec<ChangedRows>,
+) -> Result<Option<RuleId>, AllocError>
+    requires whole { IsWhole (D.document doc.old) }
+    requires valid { valid (D.document doc.old) step.now.action ≡ true }
+    requires led { AllLeadBack D.fits D.undone traces.old.items (D.document doc.old) }
+    ensures denied { IfOk result
+        (λ o. option_map row_of o ≡ denying_row ctx.now (D.document doc.old) step.now) }
+    ensures whole { OnOk result (IsWhole (D.document doc.new)) }
+    ensures done { OnOk result (D.document doc.new ≡ apply (D.document doc.old) step.now.action) }
+    ensures led { AllLeadBack D.fits D.undone traces.new.items (D.document doc.new) }
+    ensures back { gone_back D.fits D.undone traces.new.items (D.document doc.new)
+        ≡ gone_back D.fits D.undone traces.old.items (D.document doc.old) }
+    ensures outside { OnOk result (AreSameOutside (step.now.action ∷ []) changed.new.items
+        (filled (D.document doc.old)) (filled (D.document doc.new))) }
+    ensures stays { OnOk result (StayNoted changed.old.items changed.new.items) }
+{
+    unchecked_law();
+    if is_checked(ctx, step) {
+        let before = before_step(alloc, ctx, doc, &step.action)?;
+        do_one(alloc, doc, &step.action, traces, changed)?;
+        return Ok(after_step(ctx, &before, doc, &step.action));
+    }
+    do_one(alloc, doc, &step.action, traces, changed)?;
+    Ok(None)
+}
+
+/// Does a valid step of the action at that index as `do_one` does it, and carries the rules along.
+/// Answers the denial of the step, where a rule denies it.
+pub fn do_checked<D: DocTables>(
+    alloc: Global,
+    doc: &mut Doc<D>,
+    ctx: &mut Ctx,
+    index: u32,
+    step: &Step,
+    traces: &mut Vec<Trace<D>>,
+    changed: &mut Vec<ChangedRows>,
+) -> Result<Option<BareVerdict>, AllocError>
+    requires whole { IsWhole (D.document doc.old) }
+    requires valid { valid (D.document doc.old) step.now.action ≡ true }
+    requires led { AllLeadBack D.fits D.undone traces.old.items (D.document doc.old) }
+    ensures denied { IfOk result
+        (λ o. o ≡ denial_at ctx.old (D.document doc.old) index step.now) }
+    ensures carried { OnOk result (ctx.new ≡ carry step.now.action ctx.old) }
+    ensures whole { OnOk result (IsWhole (D.document doc.new)) }
+    ensures done { OnOk result (D.document doc.new ≡ apply (D.document doc.old) step.now.action) }
+    ensures led { AllLeadBack D.fits D.undone traces.new.items (D.document doc.new) }
+    ensures back { gone_back D.fits D.undone traces.new.items (D.document doc.new)
+        ≡ gone_back D.fits D.undone traces.old.items (D.document doc.old) }
+    ensures outside { OnOk result (AreSameOutside (step.now.action ∷ []) changed.new.items
+        (filled (D.document doc.old)) (filled (D.document doc.new))) }
+    ensures stays { OnOk result (StayNoted changed.old.items changed.new.items) }
+{
+    let rule = do_between(alloc, doc, ctx, step, traces, changed)?;
+    let denial = denied_by(alloc, ctx, index, rule)?;
+    match carry(alloc, &mut ctx.book, &step.action) {
+        Ok(()) => Ok(denial),
+        Err(error) => {
+            drop(denial);
+            Err(error)
+        }
+    }
+}
+
+/// Does the valid steps of the action at that index, up to the first that a rule denies, as
+/// `do_all` does them, and carries the rules along. When out of memory, some of them are done.
+pub fn do_all_checked<D: DocTables>(
+    alloc: Global,
+    doc: &mut Doc<D>,
+    ctx: &mut Ctx,
+    index: u32,
+    steps: &[Step],
+    traces: &mut Vec<Trace<D>>,
+    changed: &mut Vec<ChangedRows>,
+) -> Result<Option<BareVerdict>, AllocError>
+    requires whole { IsWhole (D.document doc.old) }
+    requires valid { all_valid (D.document doc.old) (map action_of steps.now) ≡ true }
+    requires led { AllLeadBack D.fits D.undone traces.old.items (D.document doc.old) }
+    ensures ok { IfOk result (λ o. MatchOption o
+        (AreLetDone ctx.old (D.document doc.old) index steps.now ctx.new
+        (D.document doc.new) changed.new.items)
+        (λ v. denial_of ctx.old (D.document doc.old) index steps.now ≡ Some v)) }
+    ensures led { AllLeadBack D.fits D.undone traces.new.items (D.document doc.new) }
+    ensures back { gone_back D.fits D.undone traces.new.items (D.document doc.new)
+        ≡ gone_back D.fits D.undone traces.old.items (D.document doc.old) }
+    ensures stays { OnOk result (StayNoted changed.old.items changed.new.items) }
+{
+    for step in steps {
+        match do_checked(alloc, doc, ctx, index, step, traces, changed)? {
+            Some(denial) => return Ok(Some(denial)),
+            None => {}
+        }
+    }
+    Ok(None)
+}

@@ -1,0 +1,372 @@
+//! The judgement of a bundle: each action is judged where those before it are done.
+
+ghost use Rattle.std.specs.Prelude.{◌≡◌, [], ◌≤◌, true, map, length, IfOk, OnOk, None, Some};
+ghost use Rattle.std.specs.List.{list_all};
+ghost use Rattle.doc_model.specs.DocumentLaws.{IsWhole};
+ghost use Rattle.user_actions.specs.Allowed.{is_allowed};
+ghost use Rattle.user_actions.specs.Objections.{objection_to};
+ghost use Rattle.user_actions.specs.StepLaws.{action_of};
+ghost use Rattle.acl_checks.specs.Unchecked.{are_unchecked};
+ghost use Rattle.action_limits.specs.Tallies.{IsTally};
+ghost use Rattle.doc_model.specs.WellFormed.{is_well_formed};
+ghost use Rattle.bundle_judge.specs.declared.bare_verdict.BareVerdict.TheVariants.{Limited, Refused};
+ghost use Rattle.bundle_judge.specs.Judgement.{judge, judge_from, limited};
+ghost use Rattle.bundle_judge.specs.ChangedCells.{StayNoted};
+ghost use Rattle.bundle_judge.specs.Created.{created_of};
+ghost use Rattle.bundle_judge.specs.JudgedBundles.{IsJudgedBundle};
+ghost use Rattle.bundle_judge.specs.JudgedActions.{IsDoneAction, IsJudgedAction};
+ghost use Rattle.bundle_judge.specs.Rollback.{AllLeadBack, gone_back};
+ghost use Rattle.bundle_judge.specs.View.{view};
+
+use crate::bare_verdict::BareVerdict;
+use crate::checking::{context_of, do_all_checked};
+use crate::created::{Created, created_of};
+use crate::rollback::{do_all, do_last, go_back_all};
+use crate::split_steps::SplitSteps;
+use acl_checks::are_unchecked;
+use acl_checks::laws::unchecked_law;
+use acl_rules::Ctx;
+use action_limits::{Expansion, Tally, expand};
+use doc_model::{DocTables, LimitKind, MAX_ACTIONS, Refusal, StepList, User, UserAction};
+use recalc::laws::{laid_out_law, same_parts_law};
+use recalc::{Doc, Trace};
+use std::alloc::{AllocError, Global};
+use user_actions::refuse;
+use view_parts::{ChangedRows, Viewer, allowed_law, requested_law, requested_view};
+
+/// A bundle that is accepted: its steps, the rows in which they changed cells, what its user
+/// actions created, which bundle it undoes, and the tally of the document after it.
+#[derive(Drop)]
+pub struct BundlePlan {
+    pub steps: SplitSteps,
+    pub changed: Vec<ChangedRows>,
+    pub created: Vec<Created>,
+    pub undone: Option<u64>,
+    pub tally: Tally,
+}
+
+/// What a bundle comes to.
+#[derive(Drop)]
+pub enum JudgedBundle {
+    Accepted(BundlePlan),
+    Refused(BareVerdict),
+}
+
+/// What one action stands for where nothing stands against it, and the tally of the document after
+/// it.
+#[derive(Drop)]
+pub struct ActionPlan {
+    pub steps: StepList,
+    pub created: Created,
+    pub tally: Tally,
+}
+
+/// What one action comes to.
+#[derive(Drop)]
+pub enum JudgedAction {
+    Accepted(ActionPlan),
+    Refused(BareVerdict),
+}
+
+fn refused(refusal: Refusal, index: u32) -> BareVerdict
+    ensures { result ≡ Refused refusal (Some index) }
+{
+    BareVerdict::Refused {
+        refusal,
+        action: Some(index),
+    }
+}
+
+/// The limit that what stands at that index would pass.
+pub fn limited(kind: LimitKind, index: u32) -> BareVerdict
+    ensures { Some result ≡ limited index (Some kind) }
+{
+    BareVerdict::Limited {
+        what: kind,
+        bound: kind.bound(),
+        action: Some(index),
+    }
+}
+
+// What an action of these steps stands for, with the tally of the document after it.
+fn plan_action<D: DocTables>(
+    alloc: Global,
+    tables: &D,
+    tally: Tally,
+    action: &UserAction,
+    steps: StepList,
+) -> Result<ActionPlan, AllocError>
+    requires whole { IsWhole (D.document tables.now) }
+    requires allowed { is_allowed (D.document tables.now) action.now ≡ true }
+    ensures steps { IfOk result (λ n. n.steps ≡ steps) }
+    ensures created { IfOk result (λ n. n.created ≡ created_of action.now (map action_of steps)) }
+    ensures tally { IfOk result (λ n. n.tally ≡ tally) }
+{
+    let created = created_of(alloc, tables, action, steps.as_slice())?;
+    Ok(ActionPlan {
+        steps,
+        created,
+        tally,
+    })
+}
+
+// The steps of an action that nothing stands against, or the limit that they would pass.
+fn judge_steps<D: DocTables>(
+    alloc: Global,
+    tables: &D,
+    tally: Tally,
+    user: &User,
+    action: &UserAction,
+    index: u32,
+) -> Result<JudgedAction, AllocError>
+    requires whole { IsWhole (D.document tables.now) }
+    requires well_formed { is_well_formed action.now ≡ true }
+    requires unopposed { objection_to (view user.now (D.document tables.now)) action.now ≡ None }
+    requires tally { IsTally (D.document tables.now) tally }
+    ensures { IfOk result (λ r. IsJudgedAction user.now
+        (D.document tables.now) index action.now r) }
+{
+    allowed_law();
+    laid_out_law();
+    same_parts_law();
+    match expand(alloc, tables, tally, action)? {
+        Expansion::Limit(kind) => Ok(JudgedAction::Refused(limited(kind, index))),
+        Expansion::Steps { steps, tally } => {
+            let next = plan_action(alloc, tables, tally, action, steps)?;
+            Ok(JudgedAction::Accepted(next))
+        }
+    }
+}
+
+// What the action at that index of its bundle comes to.
+#[tactic(auto, using(recalc::proofs::FilledLaws::laid_out_law))]
+fn judge_action<D: DocTables>(
+    alloc: Global,
+    doc: &Doc<D>,
+    tally: Tally,
+    user: &User,
+    action: &UserAction,
+    index: u32,
+) -> Result<JudgedAction, AllocError>
+    requires whole { IsWhole (D.document doc.now) }
+    requires well_formed { is_well_formed action.now ≡ true }
+    requires tally { IsTally (D.document doc.now) tally }
+    ensures { IfOk result (λ r. IsJudgedAction user.now
+        (D.document doc.now) index action.now r) }
+{
+    let view = requested_view(alloc, doc, Viewer::of(user), action)?;
+    requested_law();
+    match refuse(alloc, &view, action)? {
+        Some(refusal) => Ok(JudgedAction::Refused(refused(refusal, index))),
+        None => judge_steps(alloc, doc.tables(), tally, user, action, index),
+    }
+}
+
+// Judges one action after another where the rules deny nothing; those before it are done when an
+// action is judged, and the traces lead back.
+fn judge_unchecked<D: DocTables>(
+    alloc: Global,
+    doc: &mut Doc<D>,
+    tally: Tally,
+    ctx: &Ctx,
+    requested: &[UserAction],
+    traces: &mut Vec<Trace<D>>,
+) -> Result<JudgedBundle, AllocError>
+    requires unchecked { are_unchecked ctx.now ≡ true }
+    requires whole { IsWhole (D.document doc.old) }
+    requires tally { IsTally (D.document doc.old) tally }
+    requires well_formed { list_all is_well_formed requested.now ≡ true }
+    requires few { length requested.now ≤ 2000 }
+    requires first { traces.old.items ≡ [] }
+    ensures judged { IfOk result (λ j. IsJudgedBundle
+        (judge_from ctx.now (D.document doc.old) 0 requested.now) None (D.document doc.old) j) }
+    ensures led { AllLeadBack D.fits D.undone traces.new.items (D.document doc.new) }
+    ensures back { gone_back D.fits D.undone traces.new.items (D.document doc.new)
+        ≡ D.document doc.old }
+{
+    unchecked_law();
+    let mut tally = tally;
+    let mut steps = Vec::new(alloc);
+    let mut changed = Vec::new(alloc);
+    let mut created = Vec::new(alloc);
+    let mut next = Vec::new(alloc);
+    for index in 0..requested.len() {
+        do_all(alloc, doc, &next, traces, &mut changed)?;
+        steps.append(&mut next)?;
+        match judge_action(
+            alloc,
+            doc,
+            tally,
+            &ctx.user.user,
+            &requested[index],
+            index as u32,
+        )? {
+            JudgedAction::Refused(verdict) => {
+                drop((steps, changed, created, next));
+                return Ok(JudgedBundle::Refused(verdict));
+            }
+            JudgedAction::Accepted(plan) => {
+                created.push(plan.created)?;
+                next = plan.steps.into_vec();
+                tally = plan.tally;
+            }
+        }
+    }
+    do_last(alloc, doc, &next, traces, &mut changed)?;
+    steps.append(&mut next)?;
+    Ok(JudgedBundle::Accepted(BundlePlan {
+        steps: SplitSteps::of(alloc, steps)?,
+        changed,
+        created,
+        undone: None,
+        tally,
+    }))
+}
+
+// Judges an action, and does its steps between their checks.
+fn judge_and_do<D: DocTables>(
+    alloc: Global,
+    doc: &mut Doc<D>,
+    tally: Tally,
+    ctx: &mut Ctx,
+    action: &UserAction,
+    index: u32,
+    traces: &mut Vec<Trace<D>>,
+    changed: &mut Vec<ChangedRows>,
+) -> Result<JudgedAction, AllocError>
+    requires whole { IsWhole (D.document doc.old) }
+    requires well_formed { is_well_formed action.now ≡ true }
+    requires tally { IsTally (D.document doc.old) tally }
+    requires led { AllLeadBack D.fits D.undone traces.old.items (D.document doc.old) }
+    ensures judged { IfOk result (λ r. IsDoneAction ctx.old (D.document doc.old) index
+        action.now ctx.new (D.document doc.new) changed.new.items r) }
+    ensures led { AllLeadBack D.fits D.undone traces.new.items (D.document doc.new) }
+    ensures back { gone_back D.fits D.undone traces.new.items (D.document doc.new)
+        ≡ gone_back D.fits D.undone traces.old.items (D.document doc.old) }
+    ensures stays { OnOk result (StayNoted changed.old.items changed.new.items) }
+{
+    let plan = match judge_action(alloc, doc, tally, &ctx.user.user, action, index)? {
+        JudgedAction::Refused(verdict) => return Ok(JudgedAction::Refused(verdict)),
+        JudgedAction::Accepted(plan) => plan,
+    };
+    let steps = plan.steps.as_slice();
+    match do_all_checked(alloc, doc, ctx, index, steps, traces, changed) {
+        Ok(None) => Ok(JudgedAction::Accepted(plan)),
+        Ok(Some(denial)) => {
+            drop(plan);
+            Ok(JudgedAction::Refused(denial))
+        }
+        Err(error) => {
+            drop(plan);
+            Err(error)
+        }
+    }
+}
+
+// Judges one action after another and does it between its checks; the traces lead back.
+fn judge_checked<D: DocTables>(
+    alloc: Global,
+    doc: &mut Doc<D>,
+    tally: Tally,
+    ctx: &mut Ctx,
+    requested: &[UserAction],
+    traces: &mut Vec<Trace<D>>,
+) -> Result<JudgedBundle, AllocError>
+    requires whole { IsWhole (D.document doc.old) }
+    requires tally { IsTally (D.document doc.old) tally }
+    requires well_formed { list_all is_well_formed requested.now ≡ true }
+    requires few { length requested.now ≤ 2000 }
+    requires first { traces.old.items ≡ [] }
+    ensures judged { IfOk result (λ j. IsJudgedBundle
+        (judge_from ctx.old (D.document doc.old) 0 requested.now) None (D.document doc.old) j) }
+    ensures led { AllLeadBack D.fits D.undone traces.new.items (D.document doc.new) }
+    ensures back { gone_back D.fits D.undone traces.new.items (D.document doc.new)
+        ≡ D.document doc.old }
+{
+    let mut tally = tally;
+    let mut steps = Vec::new(alloc);
+    let mut changed = Vec::new(alloc);
+    let mut created = Vec::new(alloc);
+    for index in 0..requested.len() {
+        let action = &requested[index];
+        match judge_and_do(
+            alloc,
+            doc,
+            tally,
+            ctx,
+            action,
+            index as u32,
+            traces,
+            &mut changed,
+        )? {
+            JudgedAction::Refused(verdict) => {
+                drop((steps, changed, created));
+                return Ok(JudgedBundle::Refused(verdict));
+            }
+            JudgedAction::Accepted(plan) => {
+                created.push(plan.created)?;
+                steps.append(&mut plan.steps.into_vec())?;
+                tally = plan.tally;
+            }
+        }
+    }
+    Ok(JudgedBundle::Accepted(BundlePlan {
+        steps: SplitSteps::of(alloc, steps)?,
+        changed,
+        created,
+        undone: None,
+        tally,
+    }))
+}
+
+// Judges one action after another under these rules; the traces lead back.
+fn judge_in<D: DocTables>(
+    alloc: Global,
+    doc: &mut Doc<D>,
+    tally: Tally,
+    ctx: &mut Ctx,
+    requested: &[UserAction],
+    traces: &mut Vec<Trace<D>>,
+) -> Result<JudgedBundle, AllocError>
+    requires whole { IsWhole (D.document doc.old) }
+    requires tally { IsTally (D.document doc.old) tally }
+    requires well_formed { list_all is_well_formed requested.now ≡ true }
+    requires few { length requested.now ≤ 2000 }
+    requires first { traces.old.items ≡ [] }
+    ensures judged { IfOk result (λ j. IsJudgedBundle
+        (judge_from ctx.old (D.document doc.old) 0 requested.now) None (D.document doc.old) j) }
+    ensures led { AllLeadBack D.fits D.undone traces.new.items (D.document doc.new) }
+    ensures back { gone_back D.fits D.undone traces.new.items (D.document doc.new)
+        ≡ D.document doc.old }
+{
+    if are_unchecked(ctx) {
+        return judge_unchecked(alloc, doc, tally, ctx, requested, traces);
+    }
+    judge_checked(alloc, doc, tally, ctx, requested, traces)
+}
+
+/// Judges a bundle of the user under the rules of the document now: it is done while it is judged,
+/// and gone back over without memory. The document is as before, whatever the answer.
+pub fn judge<D: DocTables>(
+    alloc: Global,
+    doc: &mut Doc<D>,
+    tally: Tally,
+    user: &User,
+    requested: &[UserAction],
+) -> Result<JudgedBundle, AllocError>
+    requires whole { IsWhole (D.document doc.old) }
+    requires tally { IsTally (D.document doc.old) tally }
+    requires well_formed { list_all is_well_formed requested.now ≡ true }
+    ensures judged { IfOk result (λ j. IsJudgedBundle
+        (judge user.now (D.document doc.old) requested.now) None (D.document doc.old) j) }
+    ensures same { D.document doc.new ≡ D.document doc.old }
+{
+    if requested.len() as u64 > MAX_ACTIONS {
+        return Ok(JudgedBundle::Refused(limited(LimitKind::Actions, MAX_ACTIONS as u32)));
+    }
+    let mut ctx = context_of(alloc, doc.tables(), user)?;
+    let mut traces = Vec::new(alloc);
+    let judged = judge_in(alloc, doc, tally, &mut ctx, requested, &mut traces);
+    go_back_all(doc, traces);
+    judged
+}

@@ -1,0 +1,35 @@
+//! The judgement of bundles and undos: what stands against one, or what it does.
+//!
+//! Stands on `recalc` (a document with its formula cells evaluated), `user_actions` (refusals),
+//! `action_limits` (steps and limits), `acl_rules` and `acl_checks` (which rule denies a step),
+//! `undo_bundles` (inverses) and `view_parts` (what users see). Used by `bundle_core`.
+//!
+//! Promises: `judge` and `judge_own_undo` answer what specs/Judgement.antt and specs/Undo.antt say
+//! for every document, over plain lists: the first fault of the first action that has one, or the
+//! steps that the bundle comes to, the rows in which they changed cells, what its actions created,
+//! and the tally of the document after them. The document is as before, whatever the answer. Each
+//! direct step is checked by the rules that stood at the bundle's start, and a denial names its
+//! rule. `do_for_good` does the steps of a plan, and `go_back_all` takes them back without memory.
+//! Costs: a bundle costs what its actions touch; where there are formulas the evaluation of the
+//! document after each action too. Its last actions are done once, in `do_for_good`, where there
+//! are no formulas and no rules. The rules of the document are read for each bundle, and its steps
+//! checked where there are some.
+//! Read first: specs/Judgement.antt, specs/Denials.antt and specs/Undo.antt, then judging.rt,
+//! checking.rt and undoing.rt.
+#![tactic(auto)]
+
+mod bare_verdict;
+mod changed_rows;
+mod checking;
+mod created;
+mod judging;
+mod rollback;
+mod split_steps;
+mod undoing;
+
+pub use bare_verdict::BareVerdict;
+pub use created::{Created, all_told};
+pub use judging::{BundlePlan, JudgedBundle, judge};
+pub use rollback::{do_for_good, go_back_all};
+pub use split_steps::SplitSteps;
+pub use undoing::judge_own_undo;

@@ -1,0 +1,172 @@
+//! The judgement of an undo: each step is judged where those before it are done.
+
+ghost use Rattle.std.specs.Prelude.{◌≡◌, [], ◌<◌, ◌^◌, length, IfErr, IfOk, None, Some};
+ghost use Rattle.doc_model.specs.DocumentLaws.{IsWhole};
+ghost use Rattle.action_limits.specs.Tallies.{IsTally};
+ghost use Rattle.bundle_judge.specs.declared.bare_verdict.BareVerdict.TheVariants.{Refused};
+ghost use Rattle.bundle_judge.specs.JudgedBundles.{IsJudgedBundle};
+ghost use Rattle.bundle_judge.specs.Context.{context};
+ghost use Rattle.bundle_judge.specs.Rollback.{AllLeadBack, gone_back};
+ghost use Rattle.bundle_judge.specs.Undo.{judge_own_undo, judge_undo, refusal_of, stale_at};
+ghost use Rattle.bundle_judge.specs.UndoneSteps.{MayGoOn};
+ghost use Rattle.undo_bundles.specs.BundleLog.{undo_of};
+
+use crate::bare_verdict::BareVerdict;
+use crate::checking::{context_of, do_checked};
+use crate::judging::{BundlePlan, JudgedBundle, limited};
+use crate::rollback::go_back_all;
+use crate::split_steps::SplitSteps;
+use acl_rules::Ctx;
+use action_limits::Tally;
+use doc_actions::is_valid;
+use doc_model::{DocAction, DocTables, Refusal, Step, StepList, User};
+use recalc::{Doc, Trace};
+use std::alloc::{AllocError, Global};
+use undo_bundles::{BundleLog, LogFault};
+
+// The tally after an action of an undo, or why the action is refused.
+fn judge_step<D: DocTables>(
+    alloc: Global,
+    tables: &D,
+    tally: Tally,
+    action: &DocAction,
+    index: u32,
+) -> Result<Tally, BareVerdict>
+    requires whole { IsWhole (D.document tables.now) }
+    requires tally { IsTally (D.document tables.now) tally }
+    ensures ok { IfOk result (λ t. MayGoOn (D.document tables.now) index action.now t) }
+    ensures err { IfErr result (λ v. stale_at (D.document tables.now) index action.now ≡ Some v) }
+{
+    if !is_valid(alloc, tables, action) {
+        return Err(BareVerdict::Refused {
+            refusal: Refusal::UndoStale,
+            action: Some(index),
+        });
+    }
+    match tally.after(tables, action) {
+        Ok(tally) => Ok(tally),
+        Err(kind) => Err(limited(kind, index)),
+    }
+}
+
+// Judges one step after another, and does it between its checks; the traces lead back.
+fn judge_each<D: DocTables>(
+    alloc: Global,
+    doc: &mut Doc<D>,
+    tally: Tally,
+    ctx: &mut Ctx,
+    number: u64,
+    steps: &[Step],
+    traces: &mut Vec<Trace<D>>,
+) -> Result<JudgedBundle, AllocError>
+    requires whole { IsWhole (D.document doc.old) }
+    requires tally { IsTally (D.document doc.old) tally }
+    requires few { length steps.now < 2 ^ 32 }
+    requires first { traces.old.items ≡ [] }
+    ensures judged { IfOk result (λ j. IsJudgedBundle
+        (judge_undo ctx.old (D.document doc.old) 0 steps.now) (Some number)
+        (D.document doc.old) j) }
+    ensures led { AllLeadBack D.fits D.undone traces.new.items (D.document doc.new) }
+    ensures back { gone_back D.fits D.undone traces.new.items (D.document doc.new)
+        ≡ D.document doc.old }
+{
+    let mut tally = tally;
+    let mut changed = Vec::new(alloc);
+    for index in 0..steps.len() {
+        let step = &steps[index];
+        match judge_step(alloc, doc.tables(), tally, &step.action, index as u32) {
+            Ok(next) => tally = next,
+            Err(verdict) => {
+                drop(changed);
+                return Ok(JudgedBundle::Refused(verdict));
+            }
+        }
+        match do_checked(alloc, doc, ctx, index as u32, step, traces, &mut changed)? {
+            Some(denial) => {
+                drop(changed);
+                return Ok(JudgedBundle::Refused(denial));
+            }
+            None => {}
+        }
+    }
+    Ok(JudgedBundle::Accepted(BundlePlan {
+        steps: SplitSteps::copy_of(alloc, steps)?,
+        changed,
+        created: Vec::new(alloc),
+        undone: Some(number),
+        tally,
+    }))
+}
+
+// Judges the steps that undo the bundle of that number under the rules of the document now: they
+// are done while they are judged, and gone back over without memory. The document is as before,
+// whatever the answer.
+fn judge_steps<D: DocTables>(
+    alloc: Global,
+    doc: &mut Doc<D>,
+    tally: Tally,
+    user: &User,
+    number: u64,
+    steps: &StepList,
+) -> Result<JudgedBundle, AllocError>
+    requires whole { IsWhole (D.document doc.old) }
+    requires tally { IsTally (D.document doc.old) tally }
+    ensures judged { IfOk result (λ j. IsJudgedBundle
+        (judge_undo (context user.now (D.document doc.old)) (D.document doc.old) 0 steps.now)
+        (Some number) (D.document doc.old) j) }
+    ensures same { D.document doc.new ≡ D.document doc.old }
+{
+    if steps.len() > u32::MAX as usize {
+        // Never taken: no memory holds so many steps.
+        return Err(AllocError);
+    }
+    let mut ctx = context_of(alloc, doc.tables(), user)?;
+    let mut traces = Vec::new(alloc);
+    let steps = steps.as_slice();
+    let judged = judge_each(alloc, doc, tally, &mut ctx, number, steps, &mut traces);
+    go_back_all(doc, traces);
+    judged
+}
+
+fn refusal_of(fault: LogFault) -> Refusal
+    ensures { result ≡ refusal_of fault }
+{
+    match fault {
+        LogFault::NoSuchBundle => Refusal::NoSuchBundle,
+        LogFault::AlreadyUndone => Refusal::AlreadyUndone,
+    }
+}
+
+fn refused(refusal: Refusal) -> BareVerdict
+    ensures { result ≡ Refused refusal None }
+{
+    BareVerdict::Refused {
+        refusal,
+        action: None,
+    }
+}
+
+/// Judges the undo of the bundle of that number in a user's log. The document is as before,
+/// whatever the answer.
+///
+/// Errors: out of memory.
+pub fn judge_own_undo<D: DocTables>(
+    alloc: Global,
+    doc: &mut Doc<D>,
+    tally: Tally,
+    user: &User,
+    log: &BundleLog,
+    number: u64,
+) -> Result<JudgedBundle, AllocError>
+    requires whole { IsWhole (D.document doc.old) }
+    requires tally { IsTally (D.document doc.old) tally }
+    ensures judged { IfOk result (λ j. IsJudgedBundle
+        (judge_own_undo user.now (undo_of log.now.log number)
+        (D.document doc.old)) (Some number) (D.document doc.old) j) }
+    ensures same { D.document doc.new ≡ D.document doc.old }
+{
+    match log.undo_of(number) {
+        Ok(steps) => judge_steps(alloc, doc, tally, user, number, steps),
+        Err(fault) => Ok(JudgedBundle::Refused(refused(refusal_of(fault)))),
+    }
+}

@@ -1,0 +1,4 @@
+mod LostCells
+mod RecordActions
+mod Traces
+mod Bundles

@@ -1,0 +1,10 @@
+pub mod PlacedLemmas
+pub mod ShownRows
+pub mod RowWalk
+pub mod SortedRows
+pub mod ColumnWalk
+pub mod TableWalk
+pub mod ViewLemmas
+mod QuestionLemmas
+mod PartsMade
+mod SameViews

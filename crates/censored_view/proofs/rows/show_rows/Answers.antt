@@ -1,0 +1,11 @@
+use Rattle.censored_view.proofs.RowWalk.{cells_next, rows_next}
+use Rattle.censored_view.proofs.rows.show_rows.Goals as goal
+
+pub loop-row-preserved : goal.loop-row-preserved
+loop-row-preserved g c =
+    let x = g.X.Lets.lets c.args.ctx.now c.args.table.now in (
+      rows_next g.W.RowReader.told x c.args.table.now c.args.columns.now c.args.rows.now c.loop-row.row-index c.row-item.result c.loop-row-test.true c.row-item.is
+          c.loop-row.shown.rows.items c.show_row.new.shown.rows.items c.loop-row.invariant.0 c.in_ok-show_row.ensures.rows,
+      cells_next g.W.RowReader.told x c.args.table.now c.args.columns.now c.args.rows.now c.loop-row.row-index c.row-item.result c.loop-row-test.true c.row-item.is
+          c.loop-row.shown.cells.items c.show_row.new.shown.cells.items c.loop-row.invariant.1 c.in_ok-show_row.ensures.cells,
+    )

@@ -1,0 +1,6 @@
+pub mod Readable
+pub mod View
+pub mod Parts
+pub mod Rows
+pub mod Questions
+pub mod ViewLaws

@@ -1,0 +1,32 @@
+-- What the words of a command line ask for.
+use Rattle.std.specs.Prelude.{ℕ, List, [], ◌∷◌, codes, length, take, drop, Option, Some, None, option_and_then, if◌then◌else◌}
+use Rattle.std.specs.Str.{bytes_eq}
+use Rattle.cell_types.specs.NameRule.{is_name}
+use Rattle.run_words.specs.declared.plans.Plan.{Plan}
+use Rattle.run_words.specs.declared.plans.Plan.TheVariants.{Replay}
+
+-- what stands behind a front, where the text begins with it
+abbrev pub behind : List ℕ → List ℕ → Option (List ℕ)
+behind front text =
+    if bytes_eq (take (length front) text) front then Some (drop (length front) text) else None
+
+-- the text that names a document: `--doc NAME` or `--doc=NAME`
+abbrev pub doc_text : List (List ℕ) → Option (List ℕ)
+doc_text [] = None
+doc_text (word ∷ []) = behind (codes "--doc=") word
+doc_text (word ∷ text ∷ []) = if bytes_eq word (codes "--doc") then Some text else None
+doc_text (word ∷ text ∷ one ∷ more) = None
+
+-- a replay over the document of that name
+abbrev pub replay_over : List ℕ → Option Plan
+replay_over text = if is_name text then Some (Replay (Some text) None) else None
+
+-- what `replay` asks for with these words behind it
+abbrev pub replay_of : List (List ℕ) → Option Plan
+replay_of [] = Some (Replay None None)
+replay_of (word ∷ more) = option_and_then replay_over (doc_text (word ∷ more))
+
+-- what the words ask for, where they are of a form: replay [--doc NAME]
+abbrev pub plan_of : List (List ℕ) → Option Plan
+plan_of [] = None
+plan_of (word ∷ options) = if bytes_eq word (codes "replay") then replay_of options else None

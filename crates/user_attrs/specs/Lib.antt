@@ -1,0 +1,4 @@
+pub mod AttributeText
+pub mod Attributes
+pub mod Laws
+pub mod UserInfos

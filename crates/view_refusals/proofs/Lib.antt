@@ -1,0 +1,2 @@
+mod AllowedViews
+mod WithoutRules

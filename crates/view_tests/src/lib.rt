@@ -14,7 +14,6 @@
 mod asking;
 #[cfg(test)]
 mod bundles;
-#[cfg(test)]
 mod by_hand;
 #[cfg(test)]
 mod censored;
@@ -30,3 +29,5 @@ mod shown;
 mod steps;
 #[cfg(test)]
 mod told_views;
+
+pub use by_hand::ByHand;

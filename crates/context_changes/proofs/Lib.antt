@@ -1,0 +1,4 @@
+mod BundleLemmas
+mod ToldLemmas
+pub mod UserLemmas
+mod ZipLemmas

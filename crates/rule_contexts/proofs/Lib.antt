@@ -1,0 +1,5 @@
+mod RuleTables
+mod UserRows
+mod StepTables
+mod ReadTables
+mod SameContexts

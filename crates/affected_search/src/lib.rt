@@ -1,0 +1,29 @@
+//! The search for the cells that a change affects, by a graph of reads.
+//!
+//! Stands on `dep_graph` (who reads what); its laws also on `affected_cells` (what an action
+//! touches), `recalc` (evaluated cells) and `formula_eval` (notes of runs). Nothing uses it yet: it
+//! is for a document that evaluates again only what a change touches.
+//!
+//! Promises: of a list of touched reads, `affected_by` finds exactly the cells that read one of
+//! them, or read a cell that was found, or the column of one as a key column. So what it finds is
+//! closed, each cell of it is reached from a touched read, and it stands in each closed list of
+//! cells (`least_law`). Each cell is found once. `found_law` tells what that is good for: over an
+//! action, a formula cell that is not found keeps its value and its reads, unless it is new or its
+//! column is modified. It asks that the graph holds what formula cells read, which `held_law` says
+//! of what `DepGraph::set` records, and that readers of what the action touches read something
+//! listed. By `within_law` no other formula cell is reached than the action may affect, where the
+//! graph holds nothing else and readers of what is listed read something touched.
+//! Not promised: which reads are listed for an action.
+//! Costs: each reader of a touched read, of a found cell and of a found cell's column as a key
+//! column is looked up once for each of these reads; a column is asked for once, however many of
+//! its cells are found. The rest of the document is not gone over.
+//! Read first: specs/Reached.antt, then search.rt.
+#![tactic(auto)]
+
+mod affected;
+mod laws;
+mod search;
+
+pub use affected::AffectedCells;
+pub use laws::{found_law, held_law, least_law, within_law};
+pub use search::affected_by;

@@ -1,14 +1,13 @@
 -- Which rows of the tables of access rules are good. A row is seen as the cell of each column.
-use Rattle.std.specs.Prelude.{ℕ, Bool, true, false, not, ◌&&◌, ◌||◌, ◌==◌, codes, List, [], ◌∷◌, Option, Some, None, is_some}
+use Rattle.std.specs.Prelude.{ℕ, Bool, true, false, ◌&&◌, ◌||◌, ◌==◌, codes, List, [], ◌∷◌, Option, Some, None, is_some}
 use Rattle.cell_types.specs.declared.value.CellValue.{CellValue}
 use Rattle.cell_types.specs.declared.value.CellValue.TheVariants as value
 use Rattle.cell_types.specs.Reference.{row_number}
 use Rattle.doc_model.specs.Rows.{has}
-use Rattle.acl_formula.specs.declared.permissions.Perm.TheVariants as perm
-use Rattle.acl_formula.specs.declared.permissions.PermSet.{PermSet}
 use Rattle.acl_formula.specs.FormulaText.{formula_of}
-use Rattle.acl_formula.specs.Permissions.{has_perm, permissions_of}
+use Rattle.acl_formula.specs.Permissions.{permissions_of}
 use Rattle.acl_rules.specs.RuleTexts.{resource_of}
+use Rattle.user_attrs.specs.AttributeText.{attribute_of}
 
 -- the text that a cell holds; Null is the empty one
 abbrev pub text_in : CellValue → Option (List ℕ)
@@ -36,14 +35,9 @@ is_good_resource row = say_resource (row (codes "tableId")) (row (codes "colIds"
 abbrev pub is_formula : List ℕ → Bool
 is_formula t = is_some (formula_of t)
 
--- whether reading is allowed or denied; no rule may do so, since reading is not built yet
-abbrev pub is_about_reading : PermSet → Bool
-is_about_reading s = has_perm perm.R s.allowed || has_perm perm.R s.denied
-
 -- whether a permission text reads
 abbrev pub are_permissions : List ℕ → Bool
-are_permissions t =
-    elim (permissions_of t) [ None ↦ false | Some s ↦ not (is_about_reading s) ]
+are_permissions t = is_some (permissions_of t)
 
 -- whether rules may be ordered by it
 abbrev pub is_position : CellValue → Bool
@@ -61,22 +55,26 @@ abbrev pub names_resource : List ℕ → CellValue → Bool
 names_resource resources (value.Int n) = is_zero_or resources (row_number n)
 names_resource resources _ = false
 
--- whether no attributes of users are said: attributes are not built yet
-abbrev pub says_no_attributes : List ℕ → Bool
-says_no_attributes [] = true
-says_no_attributes (c ∷ cs) = false
+-- whether the text says an attribute of users, or nothing
+abbrev pub is_attribute : List ℕ → Bool
+is_attribute [] = true
+is_attribute (c ∷ cs) = is_some (attribute_of (c ∷ cs))
 
 -- any text will do
 abbrev pub is_memo : List ℕ → Bool
 is_memo t = true
 
+-- the attribute and the memo of a rule
+abbrev pub has_good_notes : (List ℕ → CellValue) → Bool
+has_good_notes row =
+    holds_text is_attribute (row (codes "userAttributes"))
+    && holds_text is_memo (row (codes "memo"))
+
 -- the texts of a rule
 abbrev pub has_good_texts : (List ℕ → CellValue) → Bool
 has_good_texts row =
     holds_text is_formula (row (codes "aclFormula"))
-    && (holds_text are_permissions (row (codes "permissionsText"))
-    && (holds_text says_no_attributes (row (codes "userAttributes"))
-    && holds_text is_memo (row (codes "memo"))))
+    && (holds_text are_permissions (row (codes "permissionsText")) && has_good_notes row)
 
 -- a rule beside the rows of these resources
 abbrev pub is_good_rule : List ℕ → (List ℕ → CellValue) → Bool

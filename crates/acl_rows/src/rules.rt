@@ -2,15 +2,16 @@
 
 ghost use Rattle.std.specs.Prelude.{◌≡◌, Some, IfOk};
 ghost use Rattle.doc_model.specs.Rows.{IsAscending};
-ghost use Rattle.acl_rows.specs.GoodRows.{are_permissions, has_good_texts, holds_text, is_about_reading, is_formula, is_good_rule, is_memo, is_position, is_zero_or, names_resource, says_no_attributes};
+ghost use Rattle.acl_rows.specs.GoodRows.{are_permissions, has_good_notes, has_good_texts, holds_text, is_attribute, is_formula, is_good_rule, is_memo, is_position, is_zero_or, names_resource};
 
 use crate::row_cells::RowCells;
 use crate::texts::text_in;
-use acl_formula::{PermSet, parse_rule, read_permissions};
+use acl_formula::{parse_rule, read_permissions};
 use cell_types::CellValue;
 use doc_readers::holds_row;
 use formula_parse::ParseFault;
 use std::alloc::{AllocError, Global};
+use user_attrs::read_attribute;
 
 // Whether it is 0 or one of the rows.
 fn is_zero_or(rows: &[u32], row: u32) -> bool
@@ -63,20 +64,10 @@ fn holds_formula(alloc: Global, cell: &CellValue) -> Result<bool, AllocError>
     }
 }
 
-// Whether reading is allowed or denied: that is not built yet.
-fn is_about_reading(said: &PermSet) -> bool
-    ensures { result ≡ is_about_reading said.now }
-{
-    said.allowed.read || said.denied.read
-}
-
 fn are_permissions(text: &str) -> bool
     ensures { result ≡ are_permissions text.now }
 {
-    match read_permissions(text) {
-        Some(said) => !is_about_reading(&said),
-        None => false,
-    }
+    read_permissions(text).is_some()
 }
 
 fn holds_permissions(cell: &CellValue) -> bool
@@ -88,13 +79,22 @@ fn holds_permissions(cell: &CellValue) -> bool
     }
 }
 
-// Whether no attributes of users are said: they are not built yet.
-fn holds_no_attributes(cell: &CellValue) -> bool
-    ensures { result ≡ holds_text says_no_attributes cell.now }
+// Whether an attribute of users is said, or nothing.
+fn is_attribute(alloc: Global, text: &str) -> Result<bool, AllocError>
+    ensures { IfOk result (λ b. b ≡ is_attribute text.now) }
+{
+    if text.is_empty() {
+        return Ok(true);
+    }
+    Ok(read_attribute(alloc, text)?.is_some())
+}
+
+fn holds_attribute(alloc: Global, cell: &CellValue) -> Result<bool, AllocError>
+    ensures { IfOk result (λ b. b ≡ holds_text is_attribute cell.now) }
 {
     match text_in(cell) {
-        Some(text) => text.is_empty(),
-        None => false,
+        Some(text) => is_attribute(alloc, text),
+        None => Ok(false),
     }
 }
 
@@ -102,6 +102,16 @@ fn holds_memo(cell: &CellValue) -> bool
     ensures { result ≡ holds_text is_memo cell.now }
 {
     text_in(cell).is_some()
+}
+
+// Whether a rule's attribute and its memo are good.
+fn has_good_notes<R: RowCells>(alloc: Global, row: &R) -> Result<bool, AllocError>
+    ensures { IfOk result (λ b. b ≡ has_good_notes (R.told row.now)) }
+{
+    if !holds_attribute(alloc, &row.cell(alloc, "userAttributes")?)? {
+        return Ok(false);
+    }
+    Ok(holds_memo(&row.cell(alloc, "memo")?))
 }
 
 // Whether a rule's cells but for its resource and its place are good.
@@ -114,10 +124,7 @@ fn has_good_texts<R: RowCells>(alloc: Global, row: &R) -> Result<bool, AllocErro
     if !holds_permissions(&row.cell(alloc, "permissionsText")?) {
         return Ok(false);
     }
-    if !holds_no_attributes(&row.cell(alloc, "userAttributes")?) {
-        return Ok(false);
-    }
-    Ok(holds_memo(&row.cell(alloc, "memo")?))
+    has_good_notes(alloc, row)
 }
 
 /// Whether the row may stand among the rules, beside the rows of these resources.

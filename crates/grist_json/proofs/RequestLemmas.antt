@@ -12,13 +12,13 @@ use Rattle.action_lines.proofs.StepLemmas.{bind_some, guard_some, guard_then, or
 use Rattle.action_lines.proofs.FieldLemmas.{object_takes, same_text, field_takes, field_text_takes, done_takes}
 use Rattle.action_lines.proofs.ActionLemmas.{actions_take, actions_again}
 use Rattle.action_lines.proofs.WellFormedLemmas.{actions_formed}
-use Rattle.grist_json.specs.Reading.{open_from, word_from, bare_from, apply_from, is_whole, whole_of_num, whole_from, undo_from, request_from}
-use Rattle.grist_json.specs.Requests.{open_data, bare_data, apply_data, undo_data, IsRequest, Spells, request_at}
+use Rattle.grist_json.specs.Reading.{open_from, word_from, bare_from, apply_from, is_whole, whole_of_num, whole_from, undo_from, fetch_from, request_from}
+use Rattle.grist_json.specs.Requests.{open_data, bare_data, apply_data, undo_data, fetch_data, IsRequest, Spells, request_at}
 use Rattle.grist_json.proofs.Exactly.{found_by, none_by, once_by}
 
 -- what spells a request is read as it
 pub request_again : (r : Request) (d : Data) → IsRequest r d → request_from d ≡ Some r
-unfolding request_from open_from bare_from apply_from undo_from
+unfolding request_from open_from bare_from apply_from undo_from fetch_from
 request_again (Open token) d e = ap request_from e
 request_again (Apply actions) d s = ap request_from s.2 ∙ rw (actions_again actions s.0 s.1) refl
 request_again Sync d e = ap request_from e
@@ -26,7 +26,7 @@ request_again Close d e = ap request_from e
 request_again Bad d e = absurd e
 request_again TooLong d e = absurd e
 request_again (Undo bundle) d s = ap request_from s.1 ∙ rw s.0 refl
-request_again (Fetch table) d e = absurd e
+request_again (Fetch table) d e = ap request_from e
 request_again Gone d e = absurd e
 
 open_takes : (d : Data) (r : Request) → open_from d ≡ Some r → IsRequest r d
@@ -109,15 +109,31 @@ undo_takes d r e =
     ∙ (λ i. member (codes "bundle") (number (unsigned n.0)) (member (codes "method") (string (same_text c.0.0 (codes "undo") named.0 i)) (done_takes c.0.1 done.0 i)))) in
     subst (λ x. IsRequest x d) (some_same (Undo n.0) r n.2) (bounded.0, whole)
 
-one_of : (d : Data) (r : Request) → (open_from d ≡ Some r) ⊎ ((bare_from d ≡ Some r) ⊎ ((apply_from d ≡ Some r) ⊎ (undo_from d ≡ Some r))) → IsRequest r d
+fetch_takes : (d : Data) (r : Request) → fetch_from d ≡ Some r → IsRequest r d
+unfolding fetch_from
+fetch_takes d r e =
+    let a = bind_some (as_object d) _ r e in
+    let b = bind_some (field_text (codes "method") a.0) _ r a.2 in
+    let c = bind_some (field_text (codes "table") b.0.1) _ r b.2 in
+    let done = guard_then (is_done c.0.1) _ r c.2 in
+    let named = guard_some (bytes_eq b.0.0 (codes "fetchTable")) (Fetch c.0.0) r done.1 in
+    let whole : d ≡ fetch_data c.0.0 =
+    object_takes d a.0 a.1
+    ∙ ap object (field_text_takes (codes "method") a.0 b.0.0 b.0.1 b.1
+    ∙ (λ i. member (codes "method") (string (same_text b.0.0 (codes "fetchTable") named.0 i)) (field_text_takes (codes "table") b.0.1 c.0.0 c.0.1 c.1 i))
+    ∙ ap (λ ms. member (codes "method") (string (codes "fetchTable")) (member (codes "table") (string c.0.0) ms)) (done_takes c.0.1 done.0)) in
+    subst (λ x. IsRequest x d) named.1 whole
+
+one_of : (d : Data) (r : Request) → (open_from d ≡ Some r) ⊎ ((bare_from d ≡ Some r) ⊎ ((apply_from d ≡ Some r) ⊎ ((undo_from d ≡ Some r) ⊎ (fetch_from d ≡ Some r)))) → IsRequest r d
 one_of d r (inl e) = open_takes d r e
 one_of d r (inr (inl e)) = bare_takes d r e
 one_of d r (inr (inr (inl e))) = apply_takes d r e
-one_of d r (inr (inr (inr e))) = undo_takes d r e
+one_of d r (inr (inr (inr (inl e)))) = undo_takes d r e
+one_of d r (inr (inr (inr (inr e)))) = fetch_takes d r e
 
-split : (d : Data) (r : Request) → request_from d ≡ Some r → (open_from d ≡ Some r) ⊎ ((bare_from d ≡ Some r) ⊎ ((apply_from d ≡ Some r) ⊎ (undo_from d ≡ Some r)))
+split : (d : Data) (r : Request) → request_from d ≡ Some r → (open_from d ≡ Some r) ⊎ ((bare_from d ≡ Some r) ⊎ ((apply_from d ≡ Some r) ⊎ ((undo_from d ≡ Some r) ⊎ (fetch_from d ≡ Some r))))
 unfolding request_from
-split d r e = elim (or_some (open_from d) _ r e) [ inl o ↦ inl o | inr o ↦ inr (elim (or_some (bare_from d) _ r o) [ inl p ↦ inl p | inr p ↦ inr (or_some (apply_from d) (undo_from d) r p) ]) ]
+split d r e = elim (or_some (open_from d) _ r e) [ inl o ↦ inl o | inr o ↦ inr (elim (or_some (bare_from d) _ r o) [ inl p ↦ inl p | inr p ↦ inr (elim (or_some (apply_from d) _ r p) [ inl q ↦ inl q | inr q ↦ inr (or_some (undo_from d) (fetch_from d) r q) ]) ]) ]
 
 -- what is read as a request spells it
 pub request_takes : (d : Data) (r : Request) → request_from d ≡ Some r → IsRequest r d

@@ -31,6 +31,12 @@ undo_data bundle =
     object (member (codes "bundle") (number (unsigned bundle))
     (member (codes "method") (string (codes "undo")) no_members))
 
+-- {"method":"fetchTable","table":text}
+abbrev pub fetch_data : List ℕ → Data
+fetch_data table =
+    object (member (codes "method") (string (codes "fetchTable"))
+    (member (codes "table") (string table) no_members))
+
 -- the JSON that spells a request
 abbrev pub IsRequest : Request → Data → Type 0
 IsRequest (Open token) d = d ≡ open_data token
@@ -40,7 +46,7 @@ IsRequest Close d = d ≡ bare_data (codes "closeDoc")
 IsRequest Bad d = ⊥
 IsRequest TooLong d = ⊥
 IsRequest (Undo bundle) d = (is_whole bundle ≡ true) × (d ≡ undo_data bundle)
-IsRequest (Fetch table) d = ⊥
+IsRequest (Fetch table) d = d ≡ fetch_data table
 IsRequest Gone d = ⊥
 
 -- the bytes spell the request

@@ -1,7 +1,7 @@
 //! Users, as lines spell them.
 ghost use Rattle.std.specs.Prelude.{◌≡◌, IfOk};
 ghost use Rattle.serde_json.specs.View.{view};
-ghost use Rattle.grist_json.specs.Users.{fits, is_read_so_far, user_fields, user_from, has_user, line_from, user_at, Tells};
+ghost use Rattle.grist_json.specs.Users.{access_from, fits, is_access, user_fields, user_from, has_user, line_from, user_at, Tells};
 
 use crate::json_text::json_of;
 use action_lines::{Fields, id_of};
@@ -26,20 +26,30 @@ pub enum UserLine {
     Other,
 }
 
-// Whether the access is one that is read so far: until views are censored, those who see all tables
-// of the document.
-fn is_read_so_far(access: &str) -> bool
-    ensures { result ≡ is_read_so_far access.now }
+fn is_access(text: &str) -> bool
+    ensures { result ≡ is_access text.now }
 {
-    access == "owners" || access == "editors"
+    text == "owners" || text == "editors" || text == "viewers"
 }
 
-// Access and sizes of a good user.
-fn fits(access: &str, email: &str, name: &str, token: &str) -> bool
-    ensures { result ≡ fits access.now email.now name.now token.now }
+// The access that the JSON is, of which null is none.
+fn access_of(alloc: Global, value: &Value) -> Result<Option<Option<CellText>>, AllocError>
+    ensures { IfOk result (λ o. o ≡ access_from (view value.now)) }
 {
-    is_read_so_far(access)
-        && email.len() <= MAX_FIELD_BYTES
+    if value.is_null() {
+        return Ok(Some(None));
+    }
+    match value.as_str() {
+        Some(text) if is_access(text) => Ok(Some(Some(CellText::copy_of(alloc, text)?))),
+        _ => Ok(None),
+    }
+}
+
+// Sizes of a good user.
+fn fits(email: &str, name: &str, token: &str) -> bool
+    ensures { result ≡ fits email.now name.now token.now }
+{
+    email.len() <= MAX_FIELD_BYTES
         && name.len() <= MAX_FIELD_BYTES
         && !token.is_empty()
         && token.len() <= MAX_TOKEN_BYTES
@@ -52,7 +62,7 @@ fn fields_of(alloc: Global, value: &Value) -> Result<Option<User>, AllocError>
     let Some(mut fields) = Fields::of(value) else {
         return Ok(None);
     };
-    let Some(access) = fields.take_text("access") else {
+    let Some(access) = fields.take("access") else {
         return Ok(None);
     };
     let Some(email) = fields.take_text("email") else {
@@ -67,18 +77,18 @@ fn fields_of(alloc: Global, value: &Value) -> Result<Option<User>, AllocError>
     let Some(token) = fields.take_text("token") else {
         return Ok(None);
     };
-    if !fields.is_done() {
+    let Some(access) = access_of(alloc, access)? else {
         return Ok(None);
-    }
+    };
     let Some(id) = id_of(id) else {
         return Ok(None);
     };
-    if !fits(access, email, name, token) {
+    if !fields.is_done() || !fits(email, name, token) {
         return Ok(None);
     }
     Ok(Some(User {
         token: CellText::copy_of(alloc, token)?,
-        access: Some(CellText::copy_of(alloc, access)?),
+        access,
         email: CellText::copy_of(alloc, email)?,
         name: CellText::copy_of(alloc, name)?,
         id,

@@ -14,6 +14,8 @@ const REQUESTS: &str = concat!(
   {"token":"", "method":"openDoc"}  => Open { token: CellText { text: "" } }
 {"method":"sync"} => Sync
 {"method":"closeDoc"} => Close
+{"method":"fetchTable","table":"Table1"} => Fetch { table: CellText { text: "Table1" } }
+{"table":"no name", "method":"fetchTable"} => Fetch { table: CellText { text: "no name" } }
 {"bundle":0,"method":"undo"} => Undo { bundle: 0 }
 {"method":"undo","bundle":9223372036854775807} => Undo { bundle: 9223372036854775807 }
 {"actions":[],"method":"applyUserActions"} => Apply { actions: Sequence { items: [] } }
@@ -34,7 +36,11 @@ const NO_REQUESTS: &str = r#"
 {"bundle":1,"method":"redo"}
 {"bundle":1,"method":"undo","x":1}
 {"method":"undo"}
-{"method":"fetchTable","table":"Table1"}
+{"method":"fetchTable"}
+{"method":"fetchTable","table":null}
+{"method":"fetchTable","table":"Table1","x":1}
+{"method":"fetchTable","token":"ta"}
+{"method":"openDoc","table":"Table1"}
 {"method":"sync"} x
 {"method":"openDoc","token":"t","x":1e999}
 {"method":"openDoc","token":"\ud800"}
@@ -81,16 +87,23 @@ const FRAMES: &str = concat!(
 
 const USERS: &str = concat!(
     r#"{"user":{"access":"owners","email":"ann@x.org","id":1,"name":"Ann","token":"ta"}} => Ann "#,
-    r#"ann@x.org 1 ta
+    r#"ann@x.org 1 ta owners
 {"user":5,"user":{"access":"owners","email":"no","email":"ann@x.org","id":1,"name":"Ann","#,
-    r#""token":"zz","token":"ta"}} => Ann ann@x.org 1 ta
+    r#""token":"zz","token":"ta"}} => Ann ann@x.org 1 ta owners
 {"user":null} => bad
 {"user":{"access":"owners","email":"b@x.org","id":-1,"name":"B","token":"tb"}} => bad
 {"user":{"access":"owners","email":"b@x.org","id":2,"name":"B","token":""}} => bad
 {"user":{"access":"admins","email":"b@x.org","id":2,"name":"B","token":"tb"}} => bad
-{"user":{"access":null,"email":"nel@x.org","id":4,"name":"Nel","token":"tn"}} => bad
-{"user":{"access":"editors","email":"e","id":1,"name":"E","token":"te"}} => E e 1 te
-{"user":{"access":"viewers","email":"v","id":1,"name":"V","token":"tv"}} => bad
+{"user":{"access":"null","email":"b@x.org","id":2,"name":"B","token":"tb"}} => bad
+{"user":{"access":"","email":"b@x.org","id":2,"name":"B","token":"tb"}} => bad
+{"user":{"access":false,"email":"b@x.org","id":2,"name":"B","token":"tb"}} => bad
+{"user":{"email":"b@x.org","id":2,"name":"B","token":"tb"}} => bad
+{"user":{"access":"owners","email":"b","id":2,"token":"tb"}} => bad
+{"user":{"access":"owners","email":"b@x.org","id":2,"name":"B","token":"tb","x":1}} => bad
+{"user":{"access":null,"email":"nel@x.org","id":4,"name":"Nel","token":"tn"}} => "#,
+    r#"Nel nel@x.org 4 tn -
+{"user":{"access":"editors","email":"e","id":1,"name":"E","token":"te"}} => E e 1 te editors
+{"user":{"access":"viewers","email":"v","id":1,"name":"V","token":"tv"}} => V v 1 tv viewers
 nonsense => -
 {"line":{"method":"sync"},"session":"s1"} => -"#,
 );
@@ -175,10 +188,19 @@ fn spelled_frames(rt: HostRuntime) {
     assert!(rt; is_frame(rt.alloc(), b"{\"line\":5,\"session\":\"s\x011\"}", "-"));
 }
 
+// The access, or `-` where there is none.
+fn access_of(user: &User) -> &str {
+    match &user.access {
+        Some(access) => access.as_str(),
+        None => "-",
+    }
+}
+
 fn is_shown_user(alloc: Global, user: &User, want: &str) -> bool {
     let (name, email, token) = (user.name.as_str(), user.email.as_str(), user.token.as_str());
+    let access = access_of(user);
     is_text(
-        &format!(in alloc; "{name} {email} {} {token}", user.id),
+        &format!(in alloc; "{name} {email} {} {token} {access}", user.id),
         want,
     )
 }

@@ -93,7 +93,7 @@ static RESOURCES: [(Cell, Cell, bool); 15] = [
 ];
 
 // A column, its cell, and whether the rule is good beside the rows 2 and 5 of resources.
-static RULES: [(&str, Cell, bool); 35] = [
+static RULES: [(&str, Cell, bool); 36] = [
     ("aclFormula", Cell::Text(""), true),
     ("aclFormula", Cell::Text(" \t"), true),
     (
@@ -112,10 +112,10 @@ static RULES: [(&str, Cell, bool); 35] = [
     ("permissionsText", Cell::Text("+U-U"), false),
     ("permissionsText", Cell::Text("U"), false),
     ("permissionsText", Cell::Truth, false),
-    ("permissionsText", Cell::Text("+R"), false),
-    ("permissionsText", Cell::Text("-R"), false),
-    ("permissionsText", Cell::Text("all"), false),
-    ("permissionsText", Cell::Text("none"), false),
+    ("permissionsText", Cell::Text("+R"), true),
+    ("permissionsText", Cell::Text("-R"), true),
+    ("permissionsText", Cell::Text("all"), true),
+    ("permissionsText", Cell::Text("none"), true),
     ("rulePos", Cell::Number(-7), true),
     ("rulePos", Cell::Null, true),
     ("rulePos", Cell::Text("1"), false),
@@ -130,6 +130,11 @@ static RULES: [(&str, Cell, bool); 35] = [
     ("userAttributes", Cell::Text(""), true),
     ("userAttributes", Cell::Text(" "), false),
     ("userAttributes", Cell::Text("{}"), false),
+    (
+        "userAttributes",
+        Cell::Text(r#"{"charId":"Email","lookupColId":"E","name":"P","tableId":"T"}"#),
+        true,
+    ),
     ("memo", Cell::Text("any text"), true),
     ("memo", Cell::Number(1), false),
     ("memo", Cell::Null, true),

@@ -14,7 +14,7 @@ use Rattle.doc_model.specs.MetadataIds.{is_schema_id, is_acl_id, is_metadata_id,
 use Rattle.doc_model.specs.declared.refusal.Refusal.{Refusal}
 use Rattle.doc_model.specs.declared.refusal.Refusal.TheVariants as refusal
 use Rattle.doc_model.proofs.ByIdsLaws.{found_id}
-use Rattle.acl_rows.specs.GoodRows.{are_permissions, has_good_texts, holds_text, is_formula, is_good_resource, is_good_rule, is_memo, is_position, names_resource, say_resource, says_no_attributes}
+use Rattle.acl_rows.specs.GoodRows.{are_permissions, has_good_texts, holds_text, is_formula, is_good_resource, is_good_rule, is_memo, is_position, names_resource, say_resource, is_attribute}
 use Rattle.user_actions.specs.Kinds.{table_of}
 use Rattle.user_actions.specs.ObjectionLaws.{asked, asks_for, AskedLaw, is_about_rules}
 use Rattle.user_actions.specs.Objections.{against, in_table, in_records, in_schema, on_columns, on_rows, on_rules, on_values, to_records, to_schema}
@@ -42,10 +42,10 @@ module _ (f g : List ℕ → CellValue) (same : (column : List ℕ) → f column
 
   texts_alike : has_good_texts f ≡ has_good_texts g
   texts_alike =
-      ap (λ x. holds_text is_formula x && (holds_text are_permissions (f (codes "permissionsText")) && (holds_text says_no_attributes (f (codes "userAttributes")) && holds_text is_memo (f (codes "memo"))))) (same (codes "aclFormula"))
-      ∙ ap (λ x. holds_text is_formula (g (codes "aclFormula")) && (holds_text are_permissions x && (holds_text says_no_attributes (f (codes "userAttributes")) && holds_text is_memo (f (codes "memo"))))) (same (codes "permissionsText"))
-      ∙ ap (λ x. holds_text is_formula (g (codes "aclFormula")) && (holds_text are_permissions (g (codes "permissionsText")) && (holds_text says_no_attributes x && holds_text is_memo (f (codes "memo"))))) (same (codes "userAttributes"))
-      ∙ ap (λ x. holds_text is_formula (g (codes "aclFormula")) && (holds_text are_permissions (g (codes "permissionsText")) && (holds_text says_no_attributes (g (codes "userAttributes")) && holds_text is_memo x))) (same (codes "memo"))
+      ap (λ x. holds_text is_formula x && (holds_text are_permissions (f (codes "permissionsText")) && (holds_text is_attribute (f (codes "userAttributes")) && holds_text is_memo (f (codes "memo"))))) (same (codes "aclFormula"))
+      ∙ ap (λ x. holds_text is_formula (g (codes "aclFormula")) && (holds_text are_permissions x && (holds_text is_attribute (f (codes "userAttributes")) && holds_text is_memo (f (codes "memo"))))) (same (codes "permissionsText"))
+      ∙ ap (λ x. holds_text is_formula (g (codes "aclFormula")) && (holds_text are_permissions (g (codes "permissionsText")) && (holds_text is_attribute x && holds_text is_memo (f (codes "memo"))))) (same (codes "userAttributes"))
+      ∙ ap (λ x. holds_text is_formula (g (codes "aclFormula")) && (holds_text are_permissions (g (codes "permissionsText")) && (holds_text is_attribute (g (codes "userAttributes")) && holds_text is_memo x))) (same (codes "memo"))
 
   rule_alike : (resources : List ℕ) → is_good_rule resources f ≡ is_good_rule resources g
   rule_alike resources =

@@ -3,7 +3,9 @@ use Rattle.std.proofs.Common.{◌≡◌, ℕ, Bool, true, false, List, [], ◌�
 use Rattle.std.proofs.lemmas.List.{map-append, append-nil}
 use Rattle.std.specs.List.{AllByRecursion}
 use Rattle.doc_model.specs.declared.entry.Entry.{Entry}
+use Rattle.doc_model.specs.declared.request.Request.{Request}
 use Rattle.doc_model.specs.declared.user.User.{User}
+use Rattle.doc_model.specs.declared.view.ViewTable.{ViewTable}
 use Rattle.doc_model.specs.ByIds.{find_id, put_by_id, without_id, precedes}
 use Rattle.doc_model.specs.Changes.{changes}
 use Rattle.doc_model.specs.Document.{Document}
@@ -13,10 +15,10 @@ use Rattle.undo_bundles.specs.BundleLog.{Log, empty_log}
 use Rattle.bundle_core.specs.Replies.{reply_of}
 use Rattle.bundle_judge.specs.declared.bare_verdict.BareVerdict.{BareVerdict}
 use Rattle.bundle_core.specs.Dispatch.{state_of, IsSpot, Answers}
-use Rattle.bundle_core.specs.Mailbox.{Mailbox, quiet, shows_view, own, replies, emptied, posted_if_any}
+use Rattle.bundle_core.specs.Mailbox.{Mailbox, Outcome, Turn, quiet, shows_view, says, due, own, stays, replies, emptied, posted_if_any}
 use Rattle.bundle_core.specs.SessionState.{SessionState, open_of}
 use Rattle.bundle_core.specs.State.{State, Open, Holder, Verdicts, session_name, session_of, mailbox_of, answered, from_closed, from_open, from_lagging, verdicts, posted_all, with_session, step, given}
-use Rattle.bundle_judge.specs.View.{view}
+use Rattle.rule_contexts.specs.Context.{view}
 use Rattle.bundle_core.proofs.ViewLaws.{changes-again}
 use Rattle.bundle_core.proofs.Spots.{find_absent_at, find_at, without_absent, without_at, index_absent, index_at}
 
@@ -52,6 +54,16 @@ step_by users st e w m p q = ap (λ v. after_with st e v (mailbox_of e.session s
 
 pub given_by : (users : List User) (st : State) (e : Entry) (w : Verdicts) (m : Option Mailbox) → verdicts users st e ≡ w → mailbox_of e.session st ≡ m → given users st e ≡ lines_with e w m
 given_by users st e w m p q = ap (λ v. lines_with e v (mailbox_of e.session st)) p ∙ ap (lines_with e w) q
+
+-- the session of an entry stays open, and nothing else changes
+abbrev pub staying : Document → Holder → Outcome → Verdicts
+staying s h o = record { outcome = o; document = s; is_bundle = false; holder = Some h }
+
+-- the turn of a session that stays open
+own_stays : (m : Mailbox) (r : Request) (o : Outcome) (v : List ViewTable) → own (Some m) r o (Some v) ≡ stays m (due v (emptied m)) (replies r o v)
+own_stays m r quiet v = refl
+own_stays m r shows_view v = refl
+own_stays m r (says verdict) v = refl
 
 -- a session's fields as an open session
 abbrev pub open_with : Document → List ℕ → Holder → ℕ → List (List ℕ) → Bool → Open
@@ -175,23 +187,27 @@ module _ (users : List User) (doc : Document) (before behind : List SessionState
     }
 
     -- the session stays, and what waited was given
-    pub answers_staying : (v : BareVerdict) (y : SessionState) → IsWhole doc → ComesTo (answered doc (Some x.holder) v)
+    pub answers_staying : (o : Outcome) (reply : List ℕ) (y : SessionState) → IsWhole doc → ComesTo (staying doc x.holder o) → replies e.request o (view x.holder.user doc) ≡ reply ∷ []
         → open_of doc y ≡ open_with doc e.session x.holder x.made [] x.lagging
-        → Answers users doc doc (before ++ x ∷ behind) (before ++ y ∷ behind) e (x.waiting ++ reply_of v ∷ [])
-    answers_staying v y w p f =
+        → Answers users doc doc (before ++ x ∷ behind) (before ++ y ∷ behind) e (x.waiting ++ reply ∷ [])
+    answers_staying o reply y w p says_so f =
         let m : Mailbox = (open_of doc x).mailbox in
         let new : Open = open_with doc e.session x.holder x.made [] x.lagging in
+        let told : List (List ℕ) = replies e.request o m.view in
         let none : changes m.view m.view ≡ [] = changes-again x.holder.user doc w in
         let placed : put_by_id session_name new (opens doc (before ++ x ∷ behind)) ≡ opens doc (before ++ y ∷ behind) =
         ap (put_by_id session_name new) (opens-append doc before (x ∷ behind))
         ∙ index_at session_name e.session (opens doc before) (opens doc behind) new (open_of doc x) refl named below
-        ∙ ap (λ o. opens doc before ++ o ∷ opens doc behind) (sym f)
+        ∙ ap (λ z. opens doc before ++ z ∷ opens doc behind) (sym f)
         ∙ sym (opens-append doc before (y ∷ behind)) in
         record {
-          state = step_by users opened e (answered doc (Some x.holder) v) (Some m) (verdicts_open _ p) mailbox_open
+          state = step_by users opened e (staying doc x.holder o) (Some m) (verdicts_open _ p) mailbox_open
+              ∙ ap (λ (t : Turn). with_opens doc (with_session e.session (Some x.holder) t.mailbox (opens doc (before ++ x ∷ behind)))) (own_stays m e.request o m.view)
               ∙ ap (λ as'. with_opens doc (with_session e.session (Some x.holder) (Some (emptied (posted_if_any m.view as' (emptied m)))) (opens doc (before ++ x ∷ behind)))) none
               ∙ ap (with_opens doc) placed;
-          lines_given = given_by users opened e (answered doc (Some x.holder) v) (Some m) (verdicts_open _ p) mailbox_open
-              ∙ ap (λ as'. x.waiting ++ (posted_if_any m.view as' (emptied m)).waiting ++ reply_of v ∷ []) none
-              ∙ ap (λ ls. ls ++ reply_of v ∷ []) (append-nil x.waiting);
+          lines_given = given_by users opened e (staying doc x.holder o) (Some m) (verdicts_open _ p) mailbox_open
+              ∙ ap (λ (t : Turn). t.lines) (own_stays m e.request o m.view)
+              ∙ ap (λ as'. x.waiting ++ (posted_if_any m.view as' (emptied m)).waiting ++ told) none
+              ∙ ap (λ ls. ls ++ told) (append-nil x.waiting)
+              ∙ ap (λ ls. x.waiting ++ ls) says_so;
         }

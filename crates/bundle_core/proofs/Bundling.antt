@@ -19,7 +19,7 @@ use Rattle.bundle_core.specs.Dispatch.{state_of, IsSpot, Answers}
 use Rattle.bundle_core.specs.Mailbox.{Mailbox, says, emptied, posted_if_any, is_full}
 use Rattle.bundle_core.specs.SessionState.{SessionState, open_of, IsReady, after_post, line_for, posted_state}
 use Rattle.bundle_core.specs.State.{State, Open, Holder, Verdicts, session_name, posted_to, with_session}
-use Rattle.bundle_judge.specs.View.{view}
+use Rattle.rule_contexts.specs.Context.{view}
 use Rattle.bundle_core.proofs.Answering.{open_with, with_opens, opens, opens-append, opens_below, step_by, given_by, ComesTo, verdicts_open, mailbox_open}
 use Rattle.bundle_core.proofs.Spots.{index_at}
 use Rattle.bundle_core.proofs.ViewLaws.{same_view}

@@ -21,7 +21,7 @@ use Rattle.bundle_core.specs.Mailbox.{shows_view, replies}
 use Rattle.bundle_core.specs.Requests.{refusal_closed}
 use Rattle.bundle_core.specs.SessionState.{SessionState, open_of}
 use Rattle.bundle_core.specs.State.{State, Verdicts, answered, refusal, from_closed, user_of, session_bound}
-use Rattle.bundle_judge.specs.View.{view}
+use Rattle.rule_contexts.specs.Context.{view}
 use Rattle.bundle_core.proofs.Answering.{answers_closed, answers_gone, answers_opened, open_with}
 
 code_closed : (users : List User) (st : State) (r : Request) → is_gone r ≡ false → ((token : List ℕ) → r ≡ request.Open token → ⊥) → from_closed users st r ≡ answered st.document None (refusal (refusal_closed r))

@@ -35,8 +35,6 @@ use Rattle.undo_bundles.specs.declared.log.LogFault.TheVariants as fault
 use Rattle.undo_bundles.specs.InverseSteps.{inverse_steps}
 use Rattle.undo_bundles.proofs.InverseLaws.{inverse_steps_law}
 use Rattle.undo_bundles.proofs.LogLaws.{noted_own}
-use Rattle.recalc.specs.Evaluated.{filled}
-use Rattle.recalc.proofs.FilledLaws.{laid_out_law, same_parts_law}
 use Rattle.user_actions.specs.Allowed.{is_allowed}
 use Rattle.user_actions.specs.FreshIds.{HasFewIds, StepsLaw, new_columns_of}
 use Rattle.user_actions.specs.Kinds.{table_of}
@@ -45,18 +43,16 @@ use Rattle.user_actions.specs.StepLaws.{action_of}
 use Rattle.user_actions.specs.Steps.{steps_of}
 use Rattle.acl_rules.specs.declared.decision.Ctx.{Ctx}
 use Rattle.action_limits.specs.Tallies.{after}
-use Rattle.view_parts.specs.PartLaws.{AllowedLaw}
-use Rattle.view_parts.specs.Viewers.{viewer_of}
 use Rattle.bundle_judge.specs.declared.bare_verdict.BareVerdict.TheVariants as verdict
 use Rattle.bundle_judge.specs.declared.bare_verdict.BareVerdict.{BareVerdict}
 use Rattle.bundle_judge.specs.declared.created.Created.{Created}
-use Rattle.bundle_judge.specs.Context.{carry, carry_all, context}
+use Rattle.rule_contexts.specs.Context.{carry, carry_all, context, view_in}
+use Rattle.rule_contexts.specs.SeenLaws.{AllowedLaw}
 use Rattle.bundle_judge.specs.Denials.{denial_at, denial_of, denied_by, denying_row, or_else}
 use Rattle.bundle_judge.specs.JudgedBundles.{after_steps}
 use Rattle.bundle_judge.specs.Judgement.{Judgement, accepted, refused, created_at, judge, judge_from, limited, opposed, opposed_at, refusal_at, with_before}
 use Rattle.bundle_judge.specs.Undo.{judge_own_undo, judge_undo, stale_at, unfit_at}
 use Rattle.bundle_core.specs.UndoLaw.{LimitsLeaveFewIds, NewDocumentHasFewIds, has_few_columns, has_few_ids, may_be_asked}
-use Rattle.bundle_judge.specs.View.{view}
 use Rattle.bundle_judge.proofs.JudgmentLemmas.{all_valid-append, apply_all-append}
 
 -- ---- a whole document with few ids, and steps from one to another
@@ -165,11 +161,11 @@ first_none None p e = refl
 first_none (Some v) p e = absurd (cc)
 
 module _ (allowed_law : AllowedLaw) (steps_law : StepsLaw) where
-  action_done : (user : User) (s : Document) (i : ℕ) (a : UserAction) → IsFine s → may_be_asked a ≡ true → opposed_at user s i a ≡ None → AreDone s (steps_of s a) (after s a)
-  action_done user s i a fine asked none =
+  action_done : (x : Ctx) (s : Document) (i : ℕ) (a : UserAction) → IsFine s → may_be_asked a ≡ true → opposed_at x s i a ≡ None → AreDone s (steps_of s a) (after s a)
+  action_done x s i a fine asked none =
       let may = and_parts (is_well_formed a) (nat_le (new_columns_of a) (2 ^ 60)) asked in
-      let free = unopposed i (objection_to (view user s) a) (over (after s a)) none in
-      let allowed : is_allowed s a ≡ true = allowed_law (viewer_of user) s (filled s) a (same_parts_law s) (laid_out_law s fine.whole) free.0 in
+      let free = unopposed i (objection_to (view_in x s) a) (over (after s a)) none in
+      let allowed : is_allowed s a ≡ true = allowed_law x s a fine.whole free.0 in
       let steps_valid = steps_law s a fine.whole allowed (has_whole_columns-is_well_formed a may.0) (few_ids s a fine may.1) in
       record {
         valid = steps_valid;
@@ -188,7 +184,7 @@ module _ (allowed_law : AllowedLaw) (steps_law : StepsLaw) where
       ])) [
         | Some v ↦ λ _. tt
         | None ↦ λ none.
-            let d = action_done x.user.user s i a fine both.0 (first_none (opposed_at x.user.user s i a) (denial_of x s i (steps_of s a)) none) in
+            let d = action_done x s i a fine both.0 (first_none (opposed_at x s i a) (denial_of x s i (steps_of s a)) none) in
             done_before s (steps_of s a) (created_at s a ∷ []) (judge_from y (after s a) (i + 1) as') d.valid (done_from y (after s a) (i + 1) as' d.fine both.1)
       ] refl
 

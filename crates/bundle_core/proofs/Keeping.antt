@@ -25,7 +25,7 @@ use Rattle.bundle_judge.specs.Judgement.{Judgement, accepted, refused, judge}
 use Rattle.bundle_judge.specs.Undo.{judge_own_undo}
 use Rattle.bundle_core.specs.Mailbox.{Mailbox, Outcome, quiet, shows_view, says, own, due, posted, posted_if_any, emptied, is_full}
 use Rattle.bundle_core.specs.State.{State, Open, Holder, Verdicts, session_name, session_of, mailbox_of, posted_to, posted_all, with_session, turn_of, step, verdicts, from_closed, from_open, from_lagging, opened, bundle_of, user_of, answered, refusal, session_bound}
-use Rattle.bundle_judge.specs.View.{view}
+use Rattle.rule_contexts.specs.Context.{view}
 
 -- nothing of a session is counted past n
 pub record IsBelow (n : ℕ) (o : Open) : Type 0 where

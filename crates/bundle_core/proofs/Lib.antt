@@ -17,3 +17,5 @@ pub mod TurnLaws
 pub mod UndoLaws
 pub mod KeptLaws
 pub mod KeptTurns
+pub mod FollowedLemmas
+pub mod FetchLemmas

@@ -29,13 +29,13 @@ use Rattle.undo_bundles.specs.InverseSteps.{inverse_steps}
 use Rattle.bundle_core.specs.Judged.{AsksFor}
 use Rattle.bundle_judge.specs.Judgement.{Judgement, accepted, refused}
 use Rattle.bundle_judge.specs.Created.{told_of}
-use Rattle.bundle_core.specs.Mailbox.{quiet}
+use Rattle.bundle_core.specs.Mailbox.{Outcome, quiet, replies, says}
 use Rattle.bundle_core.specs.Requests.{refusal_open}
 use Rattle.bundle_core.specs.SessionState.{SessionState, open_of, IsReady, posted_state}
 use Rattle.bundle_core.specs.State.{State, Open, Holder, Verdicts, answered, refusal, from_open, from_lagging, accepted_as, bundle_of, step, given, with_undone}
 use Rattle.bundle_core.specs.Turns.{Refuses}
-use Rattle.bundle_judge.specs.View.{view}
-use Rattle.bundle_core.proofs.Answering.{with_opens, answers_leaving, answers_parting, answers_staying, open_of-fields, holder_of-fields}
+use Rattle.rule_contexts.specs.Context.{view}
+use Rattle.bundle_core.proofs.Answering.{staying, with_opens, answers_leaving, answers_parting, answers_staying, open_of-fields, holder_of-fields}
 use Rattle.bundle_core.proofs.Bundling.{answers_bundle}
 use Rattle.bundle_core.proofs.ClosedLemmas.{answers_by}
 use Rattle.bundle_core.proofs.Readied.{each_same, same_at, bundle_number-is, user_at-is}
@@ -51,7 +51,7 @@ code_open st h kept (request.Open token) n e = same_refusal AlreadyOpen n st h e
 code_open st h kept (request.Apply actions) n e = absurd (cc)
 code_open st h kept (request.Undo bundle) n e = absurd (cc)
 code_open st h kept request.Sync n e = absurd (cc)
-code_open st h kept (request.Fetch table) n e = same_refusal BadLine n st h e
+code_open st h kept (request.Fetch table) n e = absurd (cc)
 code_open st h kept request.Close n e = absurd (cc)
 code_open st h kept request.Gone n e = absurd (cc)
 
@@ -66,17 +66,17 @@ code_lagging st request.Sync other = refl
 code_lagging st (request.Fetch table) other = refl
 code_lagging st request.Close other = refl
 
-pub code_sync : (st : State) (h : Holder) (kept : Bool) (r : Request) → refusal_open r ≡ None → is_gone r ≡ false → ((actions : List UserAction) → r ≡ request.Apply actions → ⊥) → ((number : ℕ) → r ≡ request.Undo number → ⊥) → (r ≡ request.Close → ⊥)
+pub code_sync : (st : State) (h : Holder) (kept : Bool) (r : Request) → refusal_open r ≡ None → is_gone r ≡ false → ((actions : List UserAction) → r ≡ request.Apply actions → ⊥) → ((number : ℕ) → r ≡ request.Undo number → ⊥) → ((table : List ℕ) → r ≡ request.Fetch table → ⊥) → (r ≡ request.Close → ⊥)
     → from_open st h kept r ≡ answered st.document (Some h) verdict.Done
-code_sync st h kept request.Sync e g a u k = refl
-code_sync st h kept request.Bad e g a u k = absurd (cc)
-code_sync st h kept request.TooLong e g a u k = absurd (cc)
-code_sync st h kept (request.Open token) e g a u k = absurd (cc)
-code_sync st h kept (request.Apply actions) e g a u k = absurd (a actions refl)
-code_sync st h kept (request.Undo number) e g a u k = absurd (u number refl)
-code_sync st h kept (request.Fetch table) e g a u k = absurd (cc)
-code_sync st h kept request.Close e g a u k = absurd (k refl)
-code_sync st h kept request.Gone e g a u k = absurd (cc)
+code_sync st h kept request.Sync e g a u t k = refl
+code_sync st h kept request.Bad e g a u t k = absurd (cc)
+code_sync st h kept request.TooLong e g a u t k = absurd (cc)
+code_sync st h kept (request.Open token) e g a u t k = absurd (cc)
+code_sync st h kept (request.Apply actions) e g a u t k = absurd (a actions refl)
+code_sync st h kept (request.Undo number) e g a u t k = absurd (u number refl)
+code_sync st h kept (request.Fetch table) e g a u t k = absurd (t table refl)
+code_sync st h kept request.Close e g a u t k = absurd (k refl)
+code_sync st h kept request.Gone e g a u t k = absurd (cc)
 
 abbrev pub parted : Document → Verdicts
 parted s = record { outcome = quiet; document = s; is_bundle = false; holder = None }
@@ -117,14 +117,18 @@ module _ (users : List User) (s : Document) (xs : List SessionState) (p : ℕ) (
       let P : List SessionState → Type 0 = λ old. Answers users s s old (take p xs ++ drop (suc p) xs) e [] in
       subst P (around xs p d f.within) (answers_parting users s (take p xs) (drop (suc p) xs) e f.spot x (f.named d) (q (take p xs ++ x ∷ drop (suc p) xs)))
 
-  pub find_stays : (v : BareVerdict) (new : List SessionState) (lines : List (List ℕ)) → IsWhole s → comes_to (answered s (Some x.holder) v) → Stays xs new p (reply_of v) lines → Answers users s s xs new e lines
-  find_stays v new lines w q b =
+  -- the session stays open, and is given what waited and a reply
+  pub find_staying : (o : Outcome) (reply : List ℕ) (new : List SessionState) (lines : List (List ℕ)) → IsWhole s → comes_to (staying s x.holder o) → replies e.request o (view x.holder.user s) ≡ reply ∷ [] → Stays xs new p reply lines → Answers users s s xs new e lines
+  find_staying o reply new lines w q says_so b =
       let k = b.emptied_box d in
-      let P : List SessionState → Type 0 = λ old. Answers users s s old (take p xs ++ b.after ∷ drop (suc p) xs) e (x.waiting ++ reply_of v ∷ []) in
-      let Q : List SessionState → Type 0 = λ ys. Answers users s s xs ys e (x.waiting ++ reply_of v ∷ []) in
+      let P : List SessionState → Type 0 = λ old. Answers users s s old (take p xs ++ b.after ∷ drop (suc p) xs) e (x.waiting ++ reply ∷ []) in
+      let Q : List SessionState → Type 0 = λ ys. Answers users s s xs ys e (x.waiting ++ reply ∷ []) in
       answers_by _ _ _ _ _ _ _ _ (b.given_lines d) (subst Q (sym b.stands) (subst P (around xs p d f.within)
-      (answers_staying users s (take p xs) (drop (suc p) xs) e f.spot x (f.named d) v b.after w (q (take p xs ++ x ∷ drop (suc p) xs))
+      (answers_staying users s (take p xs) (drop (suc p) xs) e f.spot x (f.named d) o reply b.after w (q (take p xs ++ x ∷ drop (suc p) xs)) says_so
       (open_of-fields s b.after e.session x.holder x.made [] x.lagging (k.session ∙ f.named d) (holder_of-fields b.after.holder x.holder.user x.holder.log k.user (b.log d)) (b.made d) k.waiting k.lagging))))
+
+  pub find_stays : (v : BareVerdict) (new : List SessionState) (lines : List (List ℕ)) → IsWhole s → comes_to (answered s (Some x.holder) v) → Stays xs new p (reply_of v) lines → Answers users s s xs new e lines
+  find_stays v new lines w q b = find_staying (says v) (reply_of v) new lines w q refl b
 
   -- a bundle, or an undo, that is refused
   pub find_refused : (undone : Option ℕ) (j : Judgement) (v : BareVerdict) (new : List SessionState) (lines : List (List ℕ)) → IsWhole s → AsksFor x.holder s e.request undone j → e.kept ≡ true → x.lagging ≡ false

@@ -6,8 +6,7 @@ use Rattle.doc_model.specs.declared.view.ViewAction.{ViewAction}
 use Rattle.doc_model.specs.NewDocument.{new_document}
 use Rattle.doc_model.proofs.Choices.{each_mapped, each_unmapped}
 use Rattle.doc_model.specs.Document.{Document}
-use Rattle.view_parts.specs.declared.viewers.Viewer.{Viewer}
-use Rattle.view_parts.specs.Viewers.{viewer_of}
+use Rattle.context_changes.specs.Users.{is_among}
 use Rattle.bundle_core.specs.Replies.{reply_of}
 use Rattle.undo_bundles.specs.BundleLog.{count}
 use Rattle.bundle_judge.specs.declared.created.Created.{Created}
@@ -15,8 +14,7 @@ use Rattle.bundle_core.specs.Dispatch.{AreSame, bundle_number, bundle_reply, use
 use Rattle.bundle_judge.specs.Created.{told_of}
 use Rattle.bundle_core.specs.SessionState.{SessionState, open_of, IsReady, MayPost, line_for}
 use Rattle.bundle_core.specs.State.{Open, accepted_as}
-use Rattle.bundle_core.specs.ViewChanges.{is_among}
-use Rattle.bundle_judge.specs.View.{view}
+use Rattle.rule_contexts.specs.Context.{view}
 
 -- what holds of the sessions as open ones holds of them when more is ready
 pub each_same : (P : Open → Type 0) (old new : List SessionState) → AreSame old new → AllByRecursion (λ x. P (open_of new_document x)) old → AllByRecursion (λ x. P (open_of new_document x)) new
@@ -70,14 +68,14 @@ reply_is xs p d undone s ms lt =
     sym (ap (λ n. reply_of (accepted_as undone n (values_told (user_at xs p) s ms))) (bundle_number-is xs p d lt)
     ∙ ap (λ u. reply_of (accepted_as undone (count (get_or xs p d).holder.log + 1) (values_told u s ms))) (user_at-is xs p d lt))
 
-as_told : (f h : User → List ViewAction) (viewers : List Viewer) (xs : List SessionState) → AllByRecursion (λ x. is_among viewers (viewer_of x.holder.user) ≡ true) xs
-    → ((user : User) → is_among viewers (viewer_of user) ≡ true → f user ≡ h user) → AllByRecursion (IsReady f) xs → AllByRecursion (IsReady h) xs
-as_told f h viewers [] among same k = tt
-as_told f h viewers (x ∷ xs) among same k =
-    (record { line = k.0.line ∙ ap (λ as'. line_for as' x) (same x.holder.user among.0); room = k.0.room }, as_told f h viewers xs among.1 same k.1)
+as_told : (f h : User → List ViewAction) (users : List User) (xs : List SessionState) → AllByRecursion (λ x. is_among users x.holder.user ≡ true) xs
+    → ((user : User) → is_among users user ≡ true → f user ≡ h user) → AllByRecursion (IsReady f) xs → AllByRecursion (IsReady h) xs
+as_told f h users [] among same k = tt
+as_told f h users (x ∷ xs) among same k =
+    (record { line = k.0.line ∙ ap (λ as'. line_for as' x) (same x.holder.user among.0); room = k.0.room }, as_told f h users xs among.1 same k.1)
 
--- lines that tell the same to the viewers of all sessions are ready for it
-pub ready_as : (f h : User → List ViewAction) (viewers : List Viewer) (old new : List SessionState) → AreSame old new → AllByRecursion (λ x. is_among viewers (viewer_of x.holder.user) ≡ true) old
-    → ((user : User) → is_among viewers (viewer_of user) ≡ true → f user ≡ h user) → AllByRecursion (IsReady f) new → AllByRecursion (IsReady h) new
-ready_as f h viewers old new same among told k =
-    as_told f h viewers new (each_same (λ (o : Open). is_among viewers (viewer_of o.holder.user) ≡ true) old new same among) told k
+-- lines that tell the same to the users of all sessions are ready for it
+pub ready_as : (f h : User → List ViewAction) (users : List User) (old new : List SessionState) → AreSame old new → AllByRecursion (λ x. is_among users x.holder.user ≡ true) old
+    → ((user : User) → is_among users user ≡ true → f user ≡ h user) → AllByRecursion (IsReady f) new → AllByRecursion (IsReady h) new
+ready_as f h users old new same among told k =
+    as_told f h users new (each_same (λ (o : Open). is_among users o.holder.user ≡ true) old new same among) told k

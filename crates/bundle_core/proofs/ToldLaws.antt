@@ -10,7 +10,7 @@ use Rattle.doc_model.specs.Changes.{changes}
 use Rattle.bundle_core.specs.Mailbox.{Mailbox, posted_if_any}
 use Rattle.bundle_core.specs.State.{State, Open, Holder, Verdicts, session_of, mailbox_of, posted_to, posted_all, verdicts, turn_of, step}
 use Rattle.bundle_core.specs.Told.{Seen, mine, seen_if_any, seen_by, seen_elsewhere, observed, told, with_newlines, out}
-use Rattle.bundle_judge.specs.View.{view}
+use Rattle.rule_contexts.specs.Context.{view}
 use Rattle.bundle_core.proofs.SessionLaws.{mailbox_in, posted_in, mailbox-own, find-with_session, find-posted_all}
 
 -- a walk goes on from the mailbox that another's entry left

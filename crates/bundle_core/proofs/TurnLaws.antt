@@ -23,7 +23,7 @@ use Rattle.bundle_core.specs.Mailbox.{Mailbox, Outcome, shows_view, says, own}
 use Rattle.bundle_core.specs.State.{Holder, Open, State, Verdicts, answered, bundle_of, from_closed, from_lagging, from_open, mailbox_of, opened, posted_all, posted_to, refusal, session_bound, session_name, session_of, step, turn_of, user_of, verdicts, with_session}
 use Rattle.bundle_judge.specs.Undo.{judge_own_undo}
 use Rattle.bundle_core.specs.UndoLaw.{asks_so, number_told}
-use Rattle.bundle_judge.specs.View.{view}
+use Rattle.rule_contexts.specs.Context.{view}
 use Rattle.bundle_core.proofs.SessionLaws.{find-posted_all, find-with_session, posted_in}
 use Rattle.bundle_core.proofs.DoneBundles.{AreDone, BundlesAreDone, IsDone, IsFine, IsKept, done_own}
 

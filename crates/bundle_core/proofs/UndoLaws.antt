@@ -10,7 +10,7 @@ use Rattle.doc_model.specs.Document.{Document}
 use Rattle.undo_bundles.specs.BundleLog.{Log, count, noted, undo_of}
 use Rattle.undo_bundles.specs.InverseSteps.{inverse_steps}
 use Rattle.user_actions.specs.FreshIds.{StepsLaw}
-use Rattle.view_parts.specs.PartLaws.{AllowedLaw}
+use Rattle.rule_contexts.specs.SeenLaws.{AllowedLaw}
 use Rattle.bundle_judge.specs.Judgement.{Judgement, accepted, refused}
 use Rattle.bundle_core.specs.State.{Holder, Open, State, Verdicts, bundle_of, from_closed, from_lagging, from_open, opening, records_kept, run, session_of, step, verdicts}
 use Rattle.bundle_judge.specs.Undo.{judge_own_undo}

@@ -15,7 +15,7 @@ use Rattle.bundle_judge.specs.declared.created.Created.{Created}
 use Rattle.bundle_judge.specs.Created.{told_of}
 use Rattle.bundle_core.specs.State.{State, accepted_as, step, given}
 use Rattle.bundle_core.specs.Noting.{log_after}
-use Rattle.bundle_judge.specs.View.{view}
+use Rattle.rule_contexts.specs.Context.{view}
 
 abbrev pub kept_name : SessionState → List ℕ
 kept_name x = x.session

@@ -9,6 +9,7 @@ pub mod SessionState
 pub mod State
 pub mod Steps
 pub mod ViewChanges
+pub mod Followed
 pub mod Told
 pub mod UndoLaw
 pub mod KeptBundles

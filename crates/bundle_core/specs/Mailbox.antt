@@ -1,6 +1,6 @@
 -- What a session that is open has seen and is still to be given. Every line that a session is ever
 -- given is made here, from the session's own requests and views alone.
-use Rattle.std.specs.Prelude.{ℕ, ◌+◌, Bool, true, false, ◌||◌, List, [], ◌∷◌, ◌++◌, length, nat_le, filter, Option, Some, None, if◌then◌else◌}
+use Rattle.std.specs.Prelude.{ℕ, ◌+◌, Bool, true, false, ◌||◌, List, [], ◌∷◌, ◌++◌, length, nat_le, Option, Some, None, if◌then◌else◌}
 use Rattle.std.specs.List.{sum_by}
 use Rattle.std.specs.Str.{bytes_eq}
 use Rattle.doc_model.specs.declared.request.Request.{Request}
@@ -9,6 +9,7 @@ use Rattle.doc_model.specs.declared.verdict.Verdict.TheVariants.{Changes}
 use Rattle.doc_model.specs.declared.view.ViewAction.{ViewAction}
 use Rattle.doc_model.specs.declared.view.ViewTable.{ViewTable}
 use Rattle.doc_model.specs.Changes.{changes}
+use Rattle.plain_view.specs.PartsOfViews.{part_of}
 use Rattle.grist_json.specs.Lines.{reply_text, stream_text}
 use Rattle.bundle_core.specs.Replies.{reply_of}
 use Rattle.bundle_judge.specs.declared.bare_verdict.BareVerdict.{BareVerdict}
@@ -55,9 +56,13 @@ pub data Outcome : Type 0 where
   shows_view : Outcome
   says : BareVerdict → Outcome
 
+-- the table that is asked for, with all its rows, where the view has it
+abbrev pub asked_table : List ℕ → List ViewTable → List ViewTable
+asked_table table v = part_of (λ c. bytes_eq c table) (λ c r. true) v
+
 -- what a reply shows of a view: all of it, or the table that was asked for
 abbrev pub shown_part : Request → List ViewTable → List ViewAction
-shown_part (Fetch table) v = changes [] (filter (λ (t : ViewTable). bytes_eq t.id table) v)
+shown_part (Fetch table) v = changes [] (asked_table table v)
 shown_part r v = changes [] v
 
 -- the reply to a request, where it has one

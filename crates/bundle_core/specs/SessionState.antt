@@ -6,7 +6,7 @@ use Rattle.doc_model.specs.Document.{Document}
 use Rattle.grist_json.specs.Lines.{stream_text}
 use Rattle.bundle_core.specs.Mailbox.{is_full}
 use Rattle.bundle_core.specs.State.{Holder, Open}
-use Rattle.bundle_judge.specs.View.{view}
+use Rattle.rule_contexts.specs.Context.{view}
 
 -- a session without its view, which is the document's; a line that is ready to be posted, and for
 -- how many lines, and how many bundles, there is room

@@ -6,7 +6,7 @@ use Rattle.doc_model.specs.declared.entry.Entry.{Entry}
 use Rattle.doc_model.specs.declared.user.User.{User}
 use Rattle.doc_model.specs.declared.limit.LimitKind.TheVariants as limit
 use Rattle.doc_model.specs.declared.refusal.Refusal.{Refusal}
-use Rattle.doc_model.specs.declared.refusal.Refusal.TheVariants.{BadLine, LineTooLong, NotOpen, AlreadyOpen, UnknownToken, StoreFault, Lagged}
+use Rattle.doc_model.specs.declared.refusal.Refusal.TheVariants.{BadLine, LineTooLong, NotOpen, AlreadyOpen, UnknownToken, NoSuchTable, StoreFault, Lagged}
 use Rattle.doc_model.specs.declared.request.Request.{Request}
 use Rattle.doc_model.specs.declared.request.Request.TheVariants as request
 use Rattle.doc_model.specs.ByIds.{find_id, put_by_id, without_id}
@@ -20,8 +20,9 @@ use Rattle.bundle_judge.specs.declared.bare_verdict.BareVerdict.{BareVerdict}
 use Rattle.bundle_judge.specs.Judgement.{Judgement, accepted, refused, judge}
 use Rattle.bundle_judge.specs.Undo.{judge_own_undo}
 use Rattle.bundle_judge.specs.Created.{told_of}
-use Rattle.bundle_core.specs.Mailbox.{Mailbox, Outcome, quiet, shows_view, says, Turn, due, own}
-use Rattle.bundle_judge.specs.View.{view}
+use Rattle.doc_model.specs.declared.view.ViewTable.{ViewTable}
+use Rattle.bundle_core.specs.Mailbox.{Mailbox, Outcome, quiet, shows_view, says, Turn, asked_table, due, own}
+use Rattle.rule_contexts.specs.Context.{view}
 
 -- who has a session open, and the bundles of it that were accepted
 pub record Holder : Type 0 where
@@ -85,7 +86,7 @@ opened users st token =
           }
     ]
 
--- a request of a session that is not open; what is not built yet is no request
+-- a request of a session that is not open
 abbrev pub from_closed : List User → State → Request → Verdicts
 from_closed users st request.Bad = answered st.document None (refusal BadLine)
 from_closed users st request.TooLong = answered st.document None (refusal LineTooLong)
@@ -95,7 +96,7 @@ from_closed users st request.Gone =
 from_closed users st (request.Apply actions) = answered st.document None (refusal NotOpen)
 from_closed users st request.Sync = answered st.document None (refusal NotOpen)
 from_closed users st (request.Undo bundle) = answered st.document None (refusal NotOpen)
-from_closed users st (request.Fetch table) = answered st.document None (refusal BadLine)
+from_closed users st (request.Fetch table) = answered st.document None (refusal NotOpen)
 from_closed users st request.Close = answered st.document None (refusal NotOpen)
 
 -- the verdict of an accepted bundle: where it is an undo, it has no values
@@ -123,7 +124,21 @@ bundle_of h target s true (accepted after steps ms) = record {
   });
 }
 
--- a request of a session that is open and does not lag; what is not built yet is no request
+-- a table that is asked for is shown, or there is none
+abbrev pub shown_if_any : List ViewTable → Outcome
+shown_if_any [] = says (refusal NoSuchTable)
+shown_if_any (t ∷ ts) = shows_view
+
+-- an open session asks for a table: its user may see it
+abbrev pub fetched : Document → Holder → List ℕ → Verdicts
+fetched s h table = record {
+  outcome = shown_if_any (asked_table table (view h.user s));
+  document = s;
+  is_bundle = false;
+  holder = Some h;
+}
+
+-- a request of a session that is open and does not lag
 abbrev pub from_open : State → Holder → Bool → Request → Verdicts
 from_open st h kept request.Bad = answered st.document (Some h) (refusal BadLine)
 from_open st h kept request.TooLong = answered st.document (Some h) (refusal LineTooLong)
@@ -134,7 +149,7 @@ from_open st h kept (request.Undo number) =
     bundle_of h (Some number) st.document kept
     (judge_own_undo h.user (undo_of h.log number) st.document)
 from_open st h kept request.Sync = answered st.document (Some h) verdict.Done
-from_open st h kept (request.Fetch table) = answered st.document (Some h) (refusal BadLine)
+from_open st h kept (request.Fetch table) = fetched st.document h table
 from_open st h kept request.Close = answered st.document None verdict.Done
 from_open st h kept request.Gone =
     record { outcome = quiet; document = st.document; is_bundle = false; holder = None }

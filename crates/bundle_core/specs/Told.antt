@@ -11,7 +11,7 @@ use Rattle.doc_model.specs.Changes.{changes}
 use Rattle.doc_model.specs.Document.{Document}
 use Rattle.bundle_core.specs.Mailbox.{Mailbox, Outcome, due, own}
 use Rattle.bundle_core.specs.State.{State, Open, Holder, Verdicts, opening, verdicts, session_of, step, given}
-use Rattle.bundle_judge.specs.View.{view}
+use Rattle.rule_contexts.specs.Context.{view}
 
 -- what a session may know of an entry: its own request with the outcome and its view after it, or
 -- the new view that another session's entry led to

@@ -1,6 +1,6 @@
 //! An accepted bundle: its actions are done, and each open session is told of them.
 
-ghost use Rattle.std.specs.Prelude.{true, ◌≡◌, ◌+◌, ◌<◌, ◌^◌, [], ◌∷◌, ◌++◌, ◌≤◌, length, map, get_or, IfOk, OnOk, OnErr, vec_len, vec_capacity};
+ghost use Rattle.std.specs.Prelude.{true, ◌≡◌, ◌+◌, ◌<◌, ◌^◌, [], ◌∷◌, ◌++◌, ◌≤◌, length, map, get_or, IfOk, OnOk, OnErr, vec_len, vec_capacity, IfSome, None};
 ghost use Rattle.std.specs.List.{AllByRecursion, insert};
 ghost use Rattle.doc_model.specs.Apply.{all_valid, apply_all};
 ghost use Rattle.user_actions.specs.StepLaws.{action_of};
@@ -8,9 +8,7 @@ ghost use Rattle.undo_bundles.specs.BundleLog.{count};
 ghost use Rattle.undo_bundles.specs.InverseSteps.{inverse_steps};
 ghost use Rattle.doc_model.specs.DocumentLaws.{IsWhole};
 ghost use Rattle.doc_model.specs.declared.user.User.{User};
-ghost use Rattle.recalc.specs.Evaluated.{filled};
-ghost use Rattle.view_parts.specs.PartLaws.{AreSameOutside};
-ghost use Rattle.view_parts.specs.Viewers.{viewer_of};
+ghost use Rattle.context_changes.specs.Users.{is_among};
 ghost use Rattle.bundle_records.specs.Ledger.{IsNextRecord};
 ghost use Rattle.bundle_core.specs.Replies.{reply_of};
 ghost use Rattle.bundle_core.specs.Dispatch.{AreSame, Posts, bundle_number, bundle_reply};
@@ -20,21 +18,25 @@ ghost use Rattle.bundle_core.specs.Noting.{HasBundleRoom, MayBeUndone, note_of};
 ghost use Rattle.bundle_core.specs.State.{accepted_as, refusal};
 ghost use Rattle.bundle_core.specs.Turns.{IsAcceptance};
 ghost use Rattle.bundle_core.specs.SessionState.{SessionState, IsReady, MayPost, posted_state};
-ghost use Rattle.bundle_core.specs.ViewChanges.{is_among, told_by};
-ghost use Rattle.bundle_judge.specs.View.{view};
+ghost use Rattle.bundle_core.specs.ViewChanges.{told_by};
+ghost use Rattle.rule_contexts.specs.Context.{view};
 ghost use Rattle.bundle_judge.specs.Rollback.{AllLeadBack, gone_back};
 
+use crate::followed::{are_of_records, follow_all, steps_told};
 use crate::session::{BundleNote, OpenSession};
 use crate::turns::{post_all, prepare_all, reply_with, stay_ready};
-use crate::view_changes::{ToldChanges, see_parts, tell_changes, viewers_of};
+use crate::view_changes::{ToldChanges, contexts_of, see_all, tell_changes, users_of};
+use acl_reading::RuleReading;
 use bundle_judge::{BareVerdict, BundlePlan, SplitSteps, all_told, do_for_good, go_back_all};
 use bundle_records::RecordLedger;
 use doc_keeper::{KeepFault, Keeper};
-use doc_model::{DocTables, Refusal, RetValueList, StepList};
+use doc_model::{DocTables, Refusal, RetValueList, StepList, User};
 use grist_json::Line;
 use recalc::{Doc, Trace};
+use rule_contexts::{context_of, followed_law, may_change_contexts};
 use std::alloc::{AllocError, Global};
-use view_parts::{ChangedRows, Viewer, part_law};
+use std::mem;
+use user_attrs::load_attributes;
 
 /// What is ready of an accepted bundle: its reply, and what is noted of it.
 #[derive(Drop)]
@@ -82,9 +84,6 @@ pub(crate) fn accept<D: DocTables, K: Keeper>(
     requires within { index < length sessions.old.items }
     requires whole { IsWhole (D.document doc.old) }
     requires valid { all_valid (D.document doc.old) (map action_of plan.now.steps) ≡ true }
-    requires outside { AreSameOutside (map action_of plan.now.steps) plan.now.changed.items
-        (filled (D.document doc.old))
-        (filled (after_steps (D.document doc.old) plan.now.steps)) }
     requires few { AllByRecursion (λ x. x.made < 2 ^ 62) sessions.old.items }
     requires few_bundles { AllByRecursion (λ x. count x.holder.log < 2 ^ 62) sessions.old.items }
     requires own { (d : SessionState)
@@ -136,9 +135,6 @@ fn ready_to_keep<D: DocTables, K: Keeper>(
     requires within { index < length sessions.old.items }
     requires whole { IsWhole (D.document doc.old) }
     requires valid { all_valid (D.document doc.old) (map action_of plan.now.steps) ≡ true }
-    requires outside { AreSameOutside (map action_of plan.now.steps) plan.now.changed.items
-        (filled (D.document doc.old))
-        (filled (after_steps (D.document doc.old) plan.now.steps)) }
     requires few { AllByRecursion (λ x. x.made < 2 ^ 63) sessions.old.items }
     requires few_bundles { AllByRecursion (λ x. count x.holder.log < 2 ^ 62) sessions.old.items }
     requires first { traces.old.items ≡ [] }
@@ -194,9 +190,6 @@ fn ready_bundle<D: DocTables>(
     requires within { index < length sessions.old.items }
     requires whole { IsWhole (D.document doc.old) }
     requires valid { all_valid (D.document doc.old) (map action_of plan.now.steps) ≡ true }
-    requires outside { AreSameOutside (map action_of plan.now.steps) plan.now.changed.items
-        (filled (D.document doc.old))
-        (filled (after_steps (D.document doc.old) plan.now.steps)) }
     requires few { AllByRecursion (λ x. x.made < 2 ^ 63) sessions.old.items }
     requires few_bundles { AllByRecursion (λ x. count x.holder.log < 2 ^ 62) sessions.old.items }
     requires first { traces.old.items ≡ [] }
@@ -217,8 +210,8 @@ fn ready_bundle<D: DocTables>(
         → HasBundleRoom (get_or sessions.new.items index d)) }
     ensures length { length sessions.new.items ≡ length sessions.old.items }
 {
-    let viewers = viewers_of(alloc, sessions)?;
-    let done = done_and_told(alloc, doc, &plan.steps, &plan.changed, &viewers, traces)?;
+    let users = users_of(alloc, sessions)?;
+    let done = done_and_told(alloc, doc, &plan.steps, &users, traces)?;
     let reply = reply_to(alloc, doc, &sessions[index], plan)?;
     ready_all(alloc, sessions, index, &done.told)?;
     Ok(ReadyBundle {
@@ -230,35 +223,100 @@ fn ready_bundle<D: DocTables>(
     })
 }
 
-// Does the steps, and works out what these viewers are told of them.
+// Does the steps, and works out what these users are told of them.
 fn done_and_told<D: DocTables>(
     alloc: Global,
     doc: &mut Doc<D>,
     steps: &SplitSteps,
-    changed: &[ChangedRows],
-    viewers: &[Viewer],
+    users: &[User],
     traces: &mut Vec<Trace<D>>,
 ) -> Result<DoneSteps, AllocError>
     requires whole { IsWhole (D.document doc.old) }
     requires valid { all_valid (D.document doc.old) (map action_of steps.now) ≡ true }
-    requires outside { AreSameOutside (map action_of steps.now) changed.now
-        (filled (D.document doc.old)) (filled (after_steps (D.document doc.old) steps.now)) }
     requires first { traces.old.items ≡ [] }
     ensures document { OnOk result
         (D.document doc.new ≡ after_steps (D.document doc.old) steps.now) }
     ensures led { AllLeadBack D.fits D.undone traces.new.items (D.document doc.new) }
     ensures back { gone_back D.fits D.undone traces.new.items (D.document doc.new)
         ≡ D.document doc.old }
-    ensures told { IfOk result (λ d. (user : User) → is_among viewers.now (viewer_of user) ≡ true
+    ensures told { IfOk result (λ d. (user : User) → is_among users.now user ≡ true
         → told_by d.told.items user
         ≡ told_changes (D.document doc.old) (map action_of steps.now) user) }
     ensures inverse { IfOk result (λ d. d.inverse ≡ inverse_steps (D.document doc.old) steps.now) }
 {
-    let before = see_parts(alloc, doc, steps.actions(), changed, viewers)?;
+    if let Some(done) = done_and_followed(alloc, doc, steps, users, traces)? {
+        return Ok(done);
+    }
+    done_and_seen(alloc, doc, steps, users, traces)
+}
+
+// Does the steps, and tells each user what changed of all that the user sees.
+fn done_and_seen<D: DocTables>(
+    alloc: Global,
+    doc: &mut Doc<D>,
+    steps: &SplitSteps,
+    users: &[User],
+    traces: &mut Vec<Trace<D>>,
+) -> Result<DoneSteps, AllocError>
+    requires whole { IsWhole (D.document doc.old) }
+    requires valid { all_valid (D.document doc.old) (map action_of steps.now) ≡ true }
+    requires first { traces.old.items ≡ [] }
+    ensures document { OnOk result
+        (D.document doc.new ≡ after_steps (D.document doc.old) steps.now) }
+    ensures led { AllLeadBack D.fits D.undone traces.new.items (D.document doc.new) }
+    ensures back { gone_back D.fits D.undone traces.new.items (D.document doc.new)
+        ≡ D.document doc.old }
+    ensures told { IfOk result (λ d. (user : User) → is_among users.now user ≡ true
+        → told_by d.told.items user
+        ≡ told_changes (D.document doc.old) (map action_of steps.now) user) }
+    ensures inverse { IfOk result (λ d. d.inverse ≡ inverse_steps (D.document doc.old) steps.now) }
+{
+    let before = see_all(alloc, doc, users)?;
     let inverse = do_for_good(alloc, doc, steps, traces)?;
-    part_law();
-    let told = tell_changes(alloc, doc, steps.actions(), changed, &before)?;
+    let told = tell_changes(alloc, doc, &before)?;
     Ok(DoneSteps { inverse, told })
+}
+
+// Does the steps, and follows them in the context of each user; where they may change contexts, it
+// does nothing.
+fn done_and_followed<D: DocTables>(
+    alloc: Global,
+    doc: &mut Doc<D>,
+    steps: &SplitSteps,
+    users: &[User],
+    traces: &mut Vec<Trace<D>>,
+) -> Result<Option<DoneSteps>, AllocError>
+    requires whole { IsWhole (D.document doc.old) }
+    requires valid { all_valid (D.document doc.old) (map action_of steps.now) ≡ true }
+    requires first { traces.old.items ≡ [] }
+    ensures nothing { IfOk result (λ o. o ≡ None
+        → (D.document doc.new ≡ D.document doc.old) × (traces.new.items ≡ [])) }
+    ensures document { IfOk result (λ o. IfSome o (λ d.
+        D.document doc.new ≡ after_steps (D.document doc.old) steps.now)) }
+    ensures led { AllLeadBack D.fits D.undone traces.new.items (D.document doc.new) }
+    ensures back { gone_back D.fits D.undone traces.new.items (D.document doc.new)
+        ≡ D.document doc.old }
+    ensures told { IfOk result (λ o. IfSome o (λ d. (user : User)
+        → is_among users.now user ≡ true → told_by d.told.items user
+        ≡ told_changes (D.document doc.old) (map action_of steps.now) user)) }
+    ensures inverse { IfOk result (λ o. IfSome o (λ d.
+        d.inverse ≡ inverse_steps (D.document doc.old) steps.now)) }
+{
+    if !are_of_records(steps.actions()) {
+        return Ok(None);
+    }
+    followed_law();
+    let contexts = contexts_of(alloc, doc, users)?;
+    let attributes = load_attributes(alloc, doc.tables())?;
+    let inverse = do_for_good(alloc, doc, steps, traces)?;
+    let done = steps_told(alloc, steps.actions(), traces.as_slice())?;
+    if may_change_contexts(attributes.as_slice(), done.as_slice()) {
+        drop((done, inverse));
+        go_back_all(doc, mem::replace(traces, Vec::new(alloc)));
+        return Ok(None);
+    }
+    let told = follow_all(alloc, doc, done.as_slice(), contexts.as_slice())?;
+    Ok(Some(DoneSteps { inverse, told }))
 }
 
 // The verdict of an accepted bundle: where it is an undo, it has no values.
@@ -286,7 +344,8 @@ fn reply_to<D: DocTables>(
         (map (told_of (view session.now.holder.user (D.document doc.now)))
         plan.now.created.items))) }
 {
-    let values = all_told(alloc, doc, session.user(), &plan.created)?;
+    let ctx = context_of(alloc, doc, session.user())?;
+    let values = all_told(alloc, &RuleReading { ctx: &ctx }, doc, &plan.created)?;
     let number = session.bundles() + 1;
     reply_with(alloc, accepted_as(plan.undone, number, values))
 }

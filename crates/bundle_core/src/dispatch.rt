@@ -6,11 +6,10 @@ ghost use Rattle.std.specs.List.{AllByRecursion, list_all};
 ghost use Rattle.std.specs.Option.{option_copied};
 ghost use Rattle.std.specs.Str.{bytes_eq};
 ghost use Rattle.doc_model.specs.ByIds.{IsByIds};
-ghost use Rattle.doc_model.specs.Changes.{changes};
+ghost use Rattle.doc_model.specs.Changes.{IsView, changes};
 ghost use Rattle.doc_model.specs.DocumentLaws.{IsWhole};
-ghost use Rattle.doc_model.specs.LaidOut.{IsLaidOut};
 ghost use Rattle.doc_model.specs.WellFormed.{asks_well_formed, is_well_formed};
-ghost use Rattle.doc_model.specs.declared.request.Request.TheVariants.{Open, Apply, Undo};
+ghost use Rattle.doc_model.specs.declared.request.Request.TheVariants.{Open, Apply, Fetch, Undo};
 ghost use Rattle.grist_json.specs.Lines.{reply_text};
 ghost use Rattle.action_limits.specs.Tallies.{IsTally};
 ghost use Rattle.undo_bundles.specs.BundleLog.{count};
@@ -19,28 +18,28 @@ ghost use Rattle.bundle_core.specs.Dispatch.{AreSame, Answers, Misses, Finds, ke
 ghost use Rattle.bundle_core.specs.Judged.{IsJudgedFor};
 ghost use Rattle.bundle_core.specs.Requests.{refusal_closed, refusal_open};
 ghost use Rattle.bundle_core.specs.SessionState.{SessionState};
-ghost use Rattle.bundle_core.specs.State.{user_of};
+ghost use Rattle.bundle_core.specs.Mailbox.{asked_table, replies};
+ghost use Rattle.bundle_core.specs.State.{shown_if_any, user_of};
 ghost use Rattle.bundle_core.specs.Turns.{IsTurn};
-ghost use Rattle.view_parts.specs.Shown.{view as shown_to};
-ghost use Rattle.view_parts.specs.Viewers.{viewer_of};
+ghost use Rattle.rule_contexts.specs.Context.{view};
 
 use crate::bundle::{Acceptance, accept, put_back};
 use crate::session::OpenSession;
 use crate::session_index::index_of;
-use crate::turns::{leave, line_alone, reply_alone, stay};
+use crate::turns::{give, leave, line_alone, reply_alone, reply_with, stay};
+use crate::view_changes::{seen_by, table_seen};
 use action_limits::Tally;
 use bundle_judge::{BareVerdict, JudgedBundle, judge, judge_own_undo};
 use bundle_records::RecordLedger;
 use doc_keeper::Keeper;
 use doc_model::{
-    DocReader, DocTables, Entry, LimitKind, MAX_SESSIONS, Refusal, Request, User, UserActionList,
-    Verdict, View, ViewTableList,
+    DocTables, Entry, LimitKind, MAX_SESSIONS, Refusal, Request, User, UserActionList, Verdict,
+    View, ViewTableList,
 };
 use grist_json::{Line, write_reply};
 use plain_view::changes;
 use recalc::Doc;
 use std::alloc::{AllocError, Global};
-use view_parts::{Viewer, whole_view};
 
 /// The lines that are given at an entry, and whether the entry is kept.
 #[derive(Drop)]
@@ -56,24 +55,27 @@ fn refusal_closed(request: &Request) -> Refusal
 {
     match request {
         Request::TooLong => Refusal::LineTooLong,
-        Request::Apply { .. } | Request::Undo { .. } | Request::Sync | Request::Close => {
-            Refusal::NotOpen
-        }
+        Request::Apply { .. }
+        | Request::Undo { .. }
+        | Request::Sync
+        | Request::Fetch { .. }
+        | Request::Close => { Refusal::NotOpen }
         _ => Refusal::BadLine,
     }
 }
 
-// Why a request of an open session is refused; what is not built yet is no request.
+// Why a request of an open session is refused, whatever the document holds.
 fn refusal_open(request: &Request) -> Option<Refusal>
     ensures { result ≡ refusal_open request.now }
 {
     match request {
-        Request::Bad | Request::Fetch { .. } => Some(Refusal::BadLine),
+        Request::Bad => Some(Refusal::BadLine),
         Request::TooLong => Some(Refusal::LineTooLong),
         Request::Open { .. } => Some(Refusal::AlreadyOpen),
         Request::Apply { .. }
         | Request::Undo { .. }
         | Request::Sync
+        | Request::Fetch { .. }
         | Request::Close
         | Request::Gone => None,
     }
@@ -189,7 +191,6 @@ fn open<D: DocTables>(
 }
 
 // Opens the session for that user, where there is room for one more.
-#[tactic(auto, using(recalc::proofs::FilledLaws::laid_out_law))]
 fn open_for<D: DocTables>(
     alloc: Global,
     users: &[User],
@@ -218,19 +219,27 @@ fn open_for<D: DocTables>(
     Ok(lines)
 }
 
-// The reply that shows a user the whole document.
-fn show_all<D: DocReader>(alloc: Global, tables: &D, user: &User) -> Result<Vec<Line>, AllocError>
-    requires { IsLaidOut (D.document tables.now) }
+// The reply that shows a user all that the user sees of the document.
+fn show_all<D: DocTables>(alloc: Global, doc: &Doc<D>, user: &User) -> Result<Vec<Line>, AllocError>
+    requires { IsWhole (D.document doc.now) }
     ensures { IfOk result (λ v. v.items
-        ≡ reply_text (Verdict.Changes (changes []
-        (shown_to (viewer_of user.now) (D.document tables.now)))) ∷ []) }
+        ≡ reply_text (Verdict.Changes (changes [] (view user.now (D.document doc.now)))) ∷ []) }
+{
+    let seen = seen_by(alloc, doc, user)?;
+    line_alone(alloc, reply_showing(alloc, &seen.view)?)
+}
+
+// The reply that shows these tables to one who saw nothing.
+fn reply_showing(alloc: Global, seen: &View) -> Result<Line, AllocError>
+    requires { IsView seen.now.tables }
+    ensures { IfOk result (λ l. l ≡ reply_text (Verdict.Changes (changes [] seen.now.tables))) }
 {
     let nothing = View {
         tables: ViewTableList::new(alloc),
     };
-    let seen = whole_view(alloc, tables, Viewer::of(user))?;
-    let actions = changes(alloc, &nothing, &seen)?;
-    line_alone(alloc, write_reply(alloc, &Verdict::Changes(actions))?)
+    let actions = changes(alloc, &nothing, seen)?;
+    let line = write_reply(alloc, &Verdict::Changes(actions))?;
+    Ok(line)
 }
 
 fn too_many() -> BareVerdict
@@ -289,9 +298,54 @@ fn answer_open<D: DocTables, K: Keeper>(
                 alloc, users, doc, tally, sessions, records, index, entry, *bundle,
             )
         }
+        Request::Fetch { table } => {
+            quiet(answer_fetch(alloc, users, doc, sessions, index, entry, table.as_str()))
+        }
         Request::Close => quiet(leave(alloc, sessions, index, BareVerdict::Done)),
         _ => quiet(stay(alloc, sessions, index, BareVerdict::Done)),
     }
+}
+
+// Gives the open session of that index, which does not lag, the table that it asks for.
+fn answer_fetch<D: DocTables>(
+    alloc: Global,
+    users: &[User],
+    doc: &Doc<D>,
+    sessions: &mut Vec<OpenSession>,
+    index: usize,
+    entry: &Entry,
+    table: &str,
+) -> Result<Vec<Line>, AllocError>
+    requires finds { Finds entry.now.session sessions.old.items index }
+    requires quick { (d : SessionState) → (get_or sessions.old.items index d).lagging ≡ false }
+    requires asks { entry.now.request ≡ Fetch table.now }
+    requires kept { entry.now.kept ≡ true }
+    requires whole { IsWhole (D.document doc.now) }
+    ensures ok { IfOk result (λ v. Answers users.now (D.document doc.now)
+        (D.document doc.now) sessions.old.items sessions.new.items entry.now v.items) }
+    ensures err { OnErr result (AreSame sessions.old.items sessions.new.items) }
+{
+    let reply = fetch_reply(alloc, doc, sessions[index].user(), table)?;
+    give(alloc, sessions, index, reply)
+}
+
+// The reply to a user who asks for a table.
+fn fetch_reply<D: DocTables>(
+    alloc: Global,
+    doc: &Doc<D>,
+    user: &User,
+    table: &str,
+) -> Result<Line, AllocError>
+    requires { IsWhole (D.document doc.now) }
+    ensures { IfOk result (λ l. replies (Fetch table.now)
+        (shown_if_any (asked_table table.now (view user.now (D.document doc.now))))
+        (view user.now (D.document doc.now)) ≡ l ∷ []) }
+{
+    let asked = table_seen(alloc, doc, user, table)?;
+    if asked.tables.is_empty() {
+        return reply_with(alloc, refused(Refusal::NoSuchTable));
+    }
+    reply_showing(alloc, &asked)
 }
 
 // Judges a bundle of the open session of that index, which does not lag, and does it where it is

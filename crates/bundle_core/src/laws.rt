@@ -3,8 +3,8 @@
 ghost use Rattle.bundle_core.specs.Told.{EqualBytesLaw, IsolationLaw};
 ghost use Rattle.bundle_core.specs.UndoLaw.{LimitsLeaveFewIds, NewDocumentHasFewIds, UndoLaw};
 
+use rule_contexts::seen_law;
 use user_actions::steps_law;
-use view_parts::allowed_law;
 
 /// A session is given exactly what its own requests, verdicts and views tell.
 pub fn isolation_law()
@@ -25,6 +25,6 @@ pub fn undo_law()
     ensures new { NewDocumentHasFewIds }
     ensures limits { LimitsLeaveFewIds }
 {
-    allowed_law();
+    seen_law();
     steps_law();
 }

@@ -2,11 +2,12 @@
 //!
 //! Stands on `doc_model` (documents, changes, entries), `bundle_judge` (what bundles and undos come
 //! to), `row_tables` (the document in memory), `recalc` (its formula cells evaluated),
-//! `undo_bundles` (a session's bundles with their inverses), `view_parts` and `plain_view` (what
-//! users see and are told), `grist_json` (the texts of lines), `doc_keeper` and `bundle_records`
-//! (the keeper of accepted bundles) and `doc_opening` (the document that its records lead to). What
-//! an entry comes to is said in specs/State.antt, over plain lists, for every document; what users
-//! see is the document with the value of each formula cell in its place.
+//! `undo_bundles` (a session's bundles with their inverses), `rule_contexts`, `censored_view` and
+//! `action_censor` (what users see and are told), `grist_json` (the texts of lines), `doc_keeper`
+//! and `bundle_records` (the keeper of accepted bundles) and `doc_opening` (the document that its
+//! records lead to). What an entry comes to is said in specs/State.antt, over plain lists, for
+//! every document; what a user sees is what the rules in force for the user let be read of the
+//! document with the value of each formula cell in its place.
 //!
 //! Promises: `Core::start` makes the document of a keeper's records. `Core::step` gives the lines
 //! that the state after the history says, and adds the entry; an accepted bundle is kept before it
@@ -17,15 +18,18 @@
 //! observes alike give it equal bytes.
 //! `undo_law`: where no other bundle was accepted since, an undo of a session's bundle is never
 //! stale, and where it is accepted the document is that before the bundle.
-//! Not built yet: fetching a table, rules about reading, attributes of users.
 //! Costs: a bundle costs its judgement, its actions once more, and a line for each session; its
-//! inverse costs what its actions take away. A session's index is found by a walk.
+//! inverse costs what its actions take away. What is told of a bundle of records costs the rows
+//! that it touched, for each user who has a session open; of one that changes the schema, or what
+//! is in force for users, the document. The rules are read for each of these users. A session's
+//! index is found by a walk.
 //! Read first: specs/State.antt, specs/Told.antt, specs/Core.antt, specs/KeptBundles.antt and
 //! specs/KeptCore.antt, then history_core.rt, loading.rt, dispatch.rt and bundle.rt.
 #![tactic(auto)]
 
 mod bundle;
 mod dispatch;
+mod followed;
 mod history_core;
 mod laws;
 mod loading;

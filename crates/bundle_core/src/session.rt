@@ -11,7 +11,6 @@
 ghost use Rattle.std.specs.Prelude.{◌≡◌, ◌<◌, ◌≤◌, ◌+◌, ◌^◌, [], ◌∷◌, ◌++◌, length, option_to_list, None, false, IfOk, OnOk};
 ghost use Rattle.bundle_core.specs.Mailbox.{is_full};
 ghost use Rattle.bundle_core.specs.ViewChanges.{told_by};
-ghost use Rattle.view_parts.specs.Viewers.{viewer_of};
 ghost use Rattle.bundle_core.specs.SessionState.{IsReady, IsPrepared, IsEmptied, MayPost, line_for, posted_state};
 ghost use Rattle.bundle_core.specs.Noting.{HasBundleRoom, MayBeUndone, log_after};
 ghost use Rattle.undo_bundles.specs.BundleLog.{count, empty_log};
@@ -24,7 +23,6 @@ use std::alloc::{AllocError, Global};
 use std::marker::Model;
 use std::mem;
 use undo_bundles::BundleLog;
-use view_parts::Viewer;
 
 /// How many lines may wait for a session.
 pub const MAX_WAITING_LINES: usize = 4_096;
@@ -128,13 +126,6 @@ impl OpenSession {
         &self.user
     }
 
-    /// The viewer that its user is.
-    pub fn viewer(&self) -> Viewer
-        ensures { result ≡ viewer_of self.now.holder.user }
-    {
-        Viewer::of(&self.user)
-    }
-
     /// How many of its bundles were accepted.
     pub fn bundles(&self) -> u64
         requires { count self.now.holder.log < 2 ^ 63 }
@@ -190,7 +181,7 @@ impl OpenSession {
     {
         self.make_room(1)?;
         self.ready = None;
-        if let Some(actions) = told_to(told, self.viewer()) {
+        if let Some(actions) = told_to(told, &self.user) {
             self.ready = self.line_for(alloc, actions)?;
         }
         Ok(())
@@ -296,7 +287,8 @@ fn copy_name(name: &Name) -> Result<Name, AllocError>
     name.clone()
 }
 
-fn copy_user(user: &User) -> Result<User, AllocError>
+/// A copy of the user.
+pub(crate) fn copy_user(user: &User) -> Result<User, AllocError>
     ensures { IfOk result (λ u. u ≡ user.now) }
 {
     user.clone()

@@ -57,6 +57,24 @@ pub(crate) fn leave(
     Ok(session.leave(reply))
 }
 
+/// Gives the session of that index what waits and this reply. When out of memory, the sessions are
+/// the same.
+pub(crate) fn give(
+    alloc: Global,
+    sessions: &mut Vec<OpenSession>,
+    index: usize,
+    reply: Line,
+) -> Result<Vec<Line>, AllocError>
+    requires { index < length sessions.old.items }
+    ensures ok { IfOk result (λ v. Stays sessions.old.items sessions.new.items index reply
+        v.items) }
+    ensures err { OnErr result (AreSame sessions.old.items sessions.new.items) }
+{
+    let session = &mut sessions[index];
+    session.make_room(1)?;
+    Ok(session.give(alloc, reply))
+}
+
 /// Gives the session of that index what waits and the reply. When out of memory, the sessions are
 /// the same.
 pub(crate) fn stay(
@@ -71,9 +89,7 @@ pub(crate) fn stay(
     ensures err { OnErr result (AreSame sessions.old.items sessions.new.items) }
 {
     let reply = reply_with(alloc, verdict)?;
-    let session = &mut sessions[index];
-    session.make_room(1)?;
-    Ok(session.give(alloc, reply))
+    give(alloc, sessions, index, reply)
 }
 
 /// Gives the session of that index what waits and the reply, for which there is room.

@@ -1,154 +1,198 @@
-//! What viewers see and are told of the actions of a bundle. Users of one viewer are told the same,
-//! so it is worked out for each viewer once.
+//! What users see, and what they are told of the steps of a bundle. Sessions of one user are told
+//! the same, so it is worked out for each user once.
 
-ghost use Rattle.std.specs.Prelude.{◌≡◌, [], find, map, true, IfOk, OnOk, MatchOption};
+ghost use Rattle.std.specs.Prelude.{◌≡◌, [], find, map, true, IfOk, MatchOption};
 ghost use Rattle.std.specs.List.{AllByRecursion};
 ghost use Rattle.std.specs.Option.{option_copied};
-ghost use Rattle.doc_model.specs.LaidOut.{IsLaidOut};
-ghost use Rattle.view_parts.specs.Viewers.{is_same, viewer_of};
-ghost use Rattle.bundle_core.specs.ViewChanges.{IsSeen, changes_since, is_among, seen_part, told_to};
+ghost use Rattle.doc_model.specs.Changes.{IsView};
+ghost use Rattle.doc_model.specs.DocumentLaws.{IsWhole};
+ghost use Rattle.context_changes.specs.Users.{is_among, same_user};
+ghost use Rattle.rule_contexts.specs.Context.{context, view};
+ghost use Rattle.bundle_core.specs.Mailbox.{asked_table};
+ghost use Rattle.bundle_core.specs.ViewChanges.{IsSeen, changes_since, seen_by, told_by};
 
-use crate::session::OpenSession;
-use doc_model::{DocAction, DocReader, View, ViewAction, ViewActionList};
-use list_ops::all_made;
+use crate::session::{OpenSession, copy_user};
+use acl_reading::RuleReading;
+use acl_rules::Ctx;
+use cell_types::Name;
+use censored_view::{Selection, part, whole_view};
+use context_changes::{add_user, same_user};
+use doc_model::{DocTables, User, View, ViewActionList};
 use plain_view::changes;
+use recalc::Doc;
+use rule_contexts::{context_of, seen_law};
 use std::alloc::{AllocError, Global};
-use view_parts::{ChangedRows, Viewer, affected_view};
 
-/// What a viewer sees of what actions and changed cells are about.
+/// What a user sees of the document.
 #[derive(Drop)]
-pub(crate) struct SeenPart {
-    pub viewer: Viewer,
+pub(crate) struct SeenBy {
+    pub user: User,
     pub view: View,
 }
 
-/// What a viewer is told of actions.
+/// What a user is told.
 #[derive(Drop)]
 pub(crate) struct ToldChanges {
-    pub viewer: Viewer,
+    pub user: User,
     pub actions: ViewActionList,
 }
 
-fn is_among(viewers: &[Viewer], viewer: Viewer) -> bool
-    ensures { result ≡ is_among viewers.now viewer }
+/// The users who have these sessions open, each once.
+pub(crate) fn users_of(alloc: Global, sessions: &[OpenSession]) -> Result<Vec<User>, AllocError>
+    ensures { IfOk result (λ l. AllByRecursion (λ x. is_among l.items x.holder.user ≡ true)
+        sessions.now) }
 {
-    viewers.iter().any(|one| one.is(viewer))
-}
-
-// Adds the viewer, where it is not there.
-fn add_viewer(viewers: &mut Vec<Viewer>, viewer: Viewer) -> Result<(), AllocError>
-    ensures there { OnOk result (is_among viewers.new.items viewer ≡ true) }
-    ensures keeps { OnOk result ((other : Viewer) → is_among viewers.old.items other ≡ true
-        → is_among viewers.new.items other ≡ true) }
-{
-    if is_among(viewers.as_slice(), viewer) {
-        return Ok(());
-    }
-    viewers.push(viewer)?;
-    Ok(())
-}
-
-/// The viewers who have these sessions open, each once.
-pub(crate) fn viewers_of(alloc: Global, sessions: &[OpenSession]) -> Result<Vec<Viewer>, AllocError>
-    ensures { IfOk result (λ l. AllByRecursion (λ x. is_among l.items (viewer_of x.holder.user)
-        ≡ true) sessions.now) }
-{
-    let mut viewers = Vec::new(alloc);
+    let mut users = Vec::new(alloc);
     for session in sessions {
-        add_viewer(&mut viewers, session.viewer())?;
+        add_user(&mut users, session.user())?;
     }
-    Ok(viewers)
+    Ok(users)
 }
 
-fn seen_part<D: DocReader>(
+/// What is in force for each of these users now.
+pub(crate) fn contexts_of<D: DocTables>(
     alloc: Global,
-    tables: &D,
-    actions: &[DocAction],
-    changed: &[ChangedRows],
-    viewer: &Viewer,
-) -> Result<SeenPart, AllocError>
-    requires { IsLaidOut (D.document tables.now) }
-    ensures { IfOk result (λ p. p
-        ≡ seen_part actions.now changed.now (D.document tables.now) viewer.now) }
+    doc: &Doc<D>,
+    users: &[User],
+) -> Result<Vec<Ctx>, AllocError>
+    ensures { IfOk result (λ l. l.items
+        ≡ map (λ user. context user (D.document doc.now)) users.now) }
 {
-    let view = affected_view(alloc, tables, *viewer, actions, changed)?;
-    Ok(SeenPart {
-        viewer: *viewer,
+    let mut contexts = Vec::with_capacity(alloc, users.len())?;
+    for user in users {
+        contexts.push(context_of(alloc, doc, user)?)?;
+    }
+    Ok(contexts)
+}
+
+/// What the user sees now.
+#[tactic(auto, using(recalc::proofs::FilledLaws::laid_out_law))]
+pub(crate) fn seen_by<D: DocTables>(
+    alloc: Global,
+    doc: &Doc<D>,
+    user: &User,
+) -> Result<SeenBy, AllocError>
+    requires { IsWhole (D.document doc.now) }
+    ensures seen { IfOk result (λ p. p ≡ seen_by (D.document doc.now) user.now) }
+    ensures is_view { IfOk result IsSeen }
+{
+    let ctx = context_of(alloc, doc, user)?;
+    let view = whole_view(alloc, &RuleReading { ctx: &ctx }, doc)?;
+    Ok(SeenBy {
+        user: copy_user(user)?,
         view,
     })
 }
 
-/// What each viewer sees now of what these actions and changed cells are about.
-pub(crate) fn see_parts<D: DocReader>(
-    alloc: Global,
-    tables: &D,
-    actions: &[DocAction],
-    changed: &[ChangedRows],
-    viewers: &[Viewer],
-) -> Result<Vec<SeenPart>, AllocError>
-    requires { IsLaidOut (D.document tables.now) }
-    ensures { IfOk result (λ l. l.items
-        ≡ map (seen_part actions.now changed.now (D.document tables.now)) viewers.now) }
-{
-    let parts = all_made(
-        alloc,
-        viewers,
-        |viewer| seen_part(alloc, tables, actions, changed, viewer),
-    )?;
-    Ok(parts)
+// The table of that id, with all its rows.
+#[derive(Drop)]
+struct Asked<'a> {
+    table: &'a str,
 }
 
-fn changes_since<D: DocReader>(
+impl Selection for Asked<'_> {
+    ghost use Rattle.std.specs.Prelude.{true};
+    ghost use Rattle.std.specs.Str.{bytes_eq};
+
+    ghost takes = { λ x table. bytes_eq table x.table.now };
+
+    ghost takes_row = { λ _ table row. true };
+
+    fn takes_table(&self, table: &Name) -> bool {
+        table.as_str() == self.table
+    }
+
+    fn rows_taken(
+        &self,
+        alloc: Global,
+        _table: &Name,
+        rows: &[u32],
+    ) -> Result<Vec<u32>, AllocError> {
+        let all = Vec::from_slice(alloc, rows)?;
+        Ok(all)
+    }
+}
+
+/// The table of that id as the user sees it now, alone; nothing where the user does not see it.
+#[tactic(auto, using(recalc::proofs::FilledLaws::laid_out_law))]
+pub(crate) fn table_seen<D: DocTables>(
     alloc: Global,
-    tables: &D,
-    actions: &[DocAction],
-    changed: &[ChangedRows],
-    before: &SeenPart,
-) -> Result<ToldChanges, AllocError>
-    requires laid_out { IsLaidOut (D.document tables.now) }
-    requires seen { IsSeen before.now }
-    ensures { IfOk result (λ t. t
-        ≡ changes_since actions.now changed.now (D.document tables.now) before.now) }
+    doc: &Doc<D>,
+    user: &User,
+    table: &str,
+) -> Result<View, AllocError>
+    requires { IsWhole (D.document doc.now) }
+    ensures seen { IfOk result (λ v. v.tables
+        ≡ asked_table table.now (view user.now (D.document doc.now))) }
+    ensures is_view { IfOk result (λ v. IsView v.tables) }
 {
-    let after = affected_view(alloc, tables, before.viewer, actions, changed)?;
+    let ctx = context_of(alloc, doc, user)?;
+    let asked = Asked { table };
+    part(alloc, &RuleReading { ctx: &ctx }, doc, &asked)
+}
+
+/// What each of these users sees now.
+pub(crate) fn see_all<D: DocTables>(
+    alloc: Global,
+    doc: &Doc<D>,
+    users: &[User],
+) -> Result<Vec<SeenBy>, AllocError>
+    requires { IsWhole (D.document doc.now) }
+    ensures { IfOk result (λ l. l.items ≡ map (seen_by (D.document doc.now)) users.now) }
+{
+    let mut seen = Vec::with_capacity(alloc, users.len())?;
+    for user in users {
+        seen.push(seen_by(alloc, doc, user)?)?;
+    }
+    Ok(seen)
+}
+
+fn changes_since<D: DocTables>(
+    alloc: Global,
+    doc: &Doc<D>,
+    before: &SeenBy,
+) -> Result<ToldChanges, AllocError>
+    requires whole { IsWhole (D.document doc.now) }
+    requires seen { IsSeen before.now }
+    ensures { IfOk result (λ t. t ≡ changes_since (D.document doc.now) before.now) }
+{
+    let SeenBy { user, view } = seen_by(alloc, doc, &before.user)?;
     Ok(ToldChanges {
-        viewer: before.viewer,
-        actions: changes(alloc, &before.view, &after)?,
+        user,
+        actions: changes(alloc, &before.view, &view)?,
     })
 }
 
-/// What each viewer is told, in the document after the actions.
-pub(crate) fn tell_changes<D: DocReader>(
+/// What each user is told, by what it saw before and what it sees now.
+pub(crate) fn tell_changes<D: DocTables>(
     alloc: Global,
-    tables: &D,
-    actions: &[DocAction],
-    changed: &[ChangedRows],
-    before: &[SeenPart],
+    doc: &Doc<D>,
+    before: &[SeenBy],
 ) -> Result<Vec<ToldChanges>, AllocError>
-    requires laid_out { IsLaidOut (D.document tables.now) }
+    requires whole { IsWhole (D.document doc.now) }
     requires seen { AllByRecursion IsSeen before.now }
-    ensures { IfOk result (λ l. l.items
-        ≡ map (changes_since actions.now changed.now (D.document tables.now)) before.now) }
+    ensures { IfOk result (λ l. l.items ≡ map (changes_since (D.document doc.now)) before.now) }
 {
     let mut told = Vec::new(alloc);
-    for part in before {
-        told.push(changes_since(alloc, tables, actions, changed, part)?)?;
+    for one in before {
+        told.push(changes_since(alloc, doc, one)?)?;
     }
     Ok(told)
 }
 
-fn find_told(told: &[ToldChanges], viewer: Viewer) -> Option<&ToldChanges>
-    ensures { option_copied result ≡ find (λ (t : ToldChanges). is_same t.viewer viewer) told.now }
+fn find_told<'a>(told: &'a [ToldChanges], user: &User) -> Option<&'a ToldChanges>
+    ensures { option_copied result
+        ≡ find (λ (t : ToldChanges). same_user user.now t.user) told.now }
 {
-    told.iter().find(|one| one.viewer.is(viewer))
+    told.iter().find(|one| same_user(user, &one.user))
 }
 
-/// What the viewer is told, where it is told of.
-pub(crate) fn told_to(told: &[ToldChanges], viewer: Viewer) -> Option<&ViewActionList>
-    ensures { MatchOption result (told_to told.now viewer ≡ []) (λ actions. told_to told.now viewer
-        ≡ actions.now) }
+/// What the user is told, where it is told of.
+pub(crate) fn told_to<'a>(told: &'a [ToldChanges], user: &User) -> Option<&'a ViewActionList>
+    ensures { MatchOption result (told_by told.now user.now ≡ []) (λ actions.
+        told_by told.now user.now ≡ actions.now) }
 {
-    match find_told(told, viewer) {
+    match find_told(told, user) {
         Some(one) => Some(&one.actions),
         None => None,
     }

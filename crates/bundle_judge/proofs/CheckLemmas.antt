@@ -13,7 +13,7 @@ use Rattle.acl_checks.specs.Checks.{checks_of}
 use Rattle.acl_checks.specs.Denials.{first_denied}
 use Rattle.acl_checks.specs.Unchecked.{UncheckedLaw, are_unchecked}
 use Rattle.bundle_judge.specs.declared.bare_verdict.BareVerdict.{BareVerdict}
-use Rattle.bundle_judge.specs.Context.{carry, carry_all}
+use Rattle.rule_contexts.specs.Context.{carry, carry_all}
 use Rattle.bundle_judge.specs.Denials.{denial_at, denial_of, denied_by, denying_row, or_else}
 use Rattle.bundle_judge.proofs.RollbackLemmas.{nothing_left}
 

@@ -30,13 +30,12 @@ use Rattle.bundle_judge.specs.Judgement.{Judgement, accepted, refused, judge, ju
 use Rattle.bundle_judge.specs.Created.{created_of}
 use Rattle.bundle_judge.specs.declared.judging.BundlePlan.{BundlePlan}
 use Rattle.bundle_judge.specs.declared.judging.JudgedBundle.{JudgedBundle}
-use Rattle.bundle_judge.specs.Context.{carry_all, context}
+use Rattle.rule_contexts.specs.Context.{carry_all, context, view_in}
 use Rattle.bundle_judge.specs.Denials.{denial_of, or_else}
 use Rattle.bundle_judge.specs.JudgedBundles.{IsBundlePlan, IsJudgedBundle, after_steps}
 use Rattle.bundle_judge.specs.JudgedActions.{IsAt, IsActionPlan}
 use Rattle.recalc.specs.Evaluated.{filled}
 use Rattle.view_parts.specs.PartLaws.{AreSameOutside}
-use Rattle.bundle_judge.specs.View.{view}
 use Rattle.bundle_judge.proofs.RollbackLemmas.{nothing_left}
 
 -- what holds of each holds of the one at an index
@@ -51,31 +50,31 @@ map-last f [] x ys = refl
 map-last f (z ∷ xs) x ys = ap (λ l. f z ∷ l) (map-last f xs x ys)
 
 -- what stands against an action is its refusal
-pub ruled_refused : (user : User) (s : Document) (i : ℕ) (a : UserAction) (r : Refusal) → Some r ≡ objection_to (view user s) a → opposed_at user s i a ≡ Some (Refused r (Some i))
-ruled_refused user s i a r is = ap (λ o. opposed i o (over (after s a))) (sym is)
+pub ruled_refused : (x : Ctx) (s : Document) (i : ℕ) (a : UserAction) (r : Refusal) → Some r ≡ objection_to (view_in x s) a → opposed_at x s i a ≡ Some (Refused r (Some i))
+ruled_refused x s i a r is = ap (λ o. opposed i o (over (after s a))) (sym is)
 
 -- a limit is its refusal
-pub ruled_limit : (user : User) (s : Document) (i : ℕ) (a : UserAction) (kind : LimitKind) (v : BareVerdict) → objection_to (view user s) a ≡ None → over (after s a) ≡ Some kind → Some v ≡ limited i (Some kind) → opposed_at user s i a ≡ Some v
-ruled_limit user s i a kind v none over_it e = ap (λ o. opposed i o (over (after s a))) none ∙ ap (limited i) over_it ∙ sym e
+pub ruled_limit : (x : Ctx) (s : Document) (i : ℕ) (a : UserAction) (kind : LimitKind) (v : BareVerdict) → objection_to (view_in x s) a ≡ None → over (after s a) ≡ Some kind → Some v ≡ limited i (Some kind) → opposed_at x s i a ≡ Some v
+ruled_limit x s i a kind v none over_it e = ap (λ o. opposed i o (over (after s a))) none ∙ ap (limited i) over_it ∙ sym e
 
 -- nothing stands against it, and no limit is passed
-pub accepted_action : (user : User) (s : Document) (i : ℕ) (a : UserAction) (n : ActionPlan) (steps : List Step) → objection_to (view user s) a ≡ None → AreSteps s a steps n.tally → n.steps ≡ steps → n.created ≡ created_of a (map action_of steps) → IsActionPlan user s i a n
-accepted_action user s i a n steps none x e f =
-    let leads : apply_all s (map action_of n.steps) ≡ after s a = ap (λ l. apply_all s (map action_of l)) (e ∙ x.made) in
+pub accepted_action : (x : Ctx) (s : Document) (i : ℕ) (a : UserAction) (n : ActionPlan) (steps : List Step) → objection_to (view_in x s) a ≡ None → AreSteps s a steps n.tally → n.steps ≡ steps → n.created ≡ created_of a (map action_of steps) → IsActionPlan x s i a n
+accepted_action x s i a n steps none are e f =
+    let leads : apply_all s (map action_of n.steps) ≡ after s a = ap (λ l. apply_all s (map action_of l)) (e ∙ are.made) in
     let P : Document → Type 0 = λ t. IsTally t n.tally in
     record {
-      unopposed = ap (λ o. opposed i o (over (after s a))) none ∙ ap (limited i) x.room;
-      steps = e ∙ x.made;
-      created = f ∙ ap (λ l. created_of a (map action_of l)) x.made;
-      may = record { valid = ap (λ l. all_valid s (map action_of l)) e ∙ x.valid; counts = subst P (sym leads) x.tally };
+      unopposed = ap (λ o. opposed i o (over (after s a))) none ∙ ap (limited i) are.room;
+      steps = e ∙ are.made;
+      created = f ∙ ap (λ l. created_of a (map action_of l)) are.made;
+      may = record { valid = ap (λ l. all_valid s (map action_of l)) e ∙ are.valid; counts = subst P (sym leads) are.tally };
     }
 
 -- what stands against it whatever the rules are is its refusal
-pub opposed_refused : (x : Ctx) (s : Document) (i : ℕ) (a : UserAction) (v : BareVerdict) → opposed_at x.user.user s i a ≡ Some v → refusal_at x s i a ≡ Some v
+pub opposed_refused : (x : Ctx) (s : Document) (i : ℕ) (a : UserAction) (v : BareVerdict) → opposed_at x s i a ≡ Some v → refusal_at x s i a ≡ Some v
 opposed_refused x s i a v e = ap (λ o. or_else o (denial_of x s i (steps_of s a))) e
 
 -- a denial of its steps is its refusal
-pub denied_refused : (x : Ctx) (s : Document) (i : ℕ) (a : UserAction) (n : ActionPlan) (v : BareVerdict) → IsActionPlan x.user.user s i a n → denial_of x s i n.steps ≡ Some v → refusal_at x s i a ≡ Some v
+pub denied_refused : (x : Ctx) (s : Document) (i : ℕ) (a : UserAction) (n : ActionPlan) (v : BareVerdict) → IsActionPlan x s i a n → denial_of x s i n.steps ≡ Some v → refusal_at x s i a ≡ Some v
 denied_refused x s i a n v plan e = ap (λ o. or_else o (denial_of x s i (steps_of s a))) plan.unopposed ∙ ap (denial_of x s i) (sym plan.steps) ∙ e
 
 pub apply_all-append : (s : Document) (as' bs : List DocAction) → apply_all s (as' ++ bs) ≡ apply_all (apply_all s as') bs
@@ -192,7 +191,7 @@ module _ (x : Ctx) (start : Document) (requested : List UserAction) where
         ∙ ap (λ o. with_before done created (elim o as (λ _. Judgement) [ Some w ↦ refused w | None ↦ behind ])) r
 
     -- nothing stands against it
-    pub at_next : (n : ActionPlan) (ms : List Created) (z : Ctx) → drop (i + 1) requested ≡ rest → IsActionPlan y.user.user s i a n → denial_of y s i n.steps ≡ None → z ≡ carry_all n.steps y → ms ≡ created ++ n.created ∷ [] → IsAt x start requested (i + 1) z s done n.steps ms n.tally
+    pub at_next : (n : ActionPlan) (ms : List Created) (z : Ctx) → drop (i + 1) requested ≡ rest → IsActionPlan y s i a n → denial_of y s i n.steps ≡ None → z ≡ carry_all n.steps y → ms ≡ created ++ n.created ∷ [] → IsAt x start requested (i + 1) z s done n.steps ms n.tally
     at_next n ms z f p none along items = record {
       done_so_far = h.done_so_far;
       valid = h.valid;

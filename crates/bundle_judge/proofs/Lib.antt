@@ -6,3 +6,4 @@ pub mod TakeLemmas
 pub mod RollbackLemmas
 pub mod StepLemmas
 pub mod UndoneLemmas
+mod LossLemmas

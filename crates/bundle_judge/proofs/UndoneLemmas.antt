@@ -13,7 +13,7 @@ use Rattle.user_actions.specs.StepLaws.{action_of}
 use Rattle.view_parts.specs.PartLaws.{AreSameOutside}
 use Rattle.bundle_judge.specs.declared.bare_verdict.BareVerdict.{BareVerdict}
 use Rattle.bundle_judge.specs.declared.judging.BundlePlan.{BundlePlan}
-use Rattle.bundle_judge.specs.Context.{carry}
+use Rattle.rule_contexts.specs.Context.{carry}
 use Rattle.bundle_judge.specs.Denials.{denial_at, or_else}
 use Rattle.bundle_judge.specs.JudgedBundles.{IsBundlePlan, after_steps}
 use Rattle.bundle_judge.specs.Judgement.{Judgement, accepted, refused, with_before}

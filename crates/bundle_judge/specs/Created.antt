@@ -1,5 +1,5 @@
 -- What the actions of a bundle created, and what is told of it.
-use Rattle.std.specs.Prelude.{ℕ, Bool, true, false, cond, List, [], ◌∷◌, map, Option, Some, None, is_some}
+use Rattle.std.specs.Prelude.{ℕ, Bool, true, false, cond, List, [], ◌∷◌, map, Option, Some, None}
 use Rattle.doc_model.specs.declared.action.DocAction.{DocAction}
 use Rattle.doc_model.specs.declared.action.DocAction.TheVariants as action
 use Rattle.doc_model.specs.declared.user_action.UserAction.{UserAction}
@@ -7,8 +7,9 @@ use Rattle.doc_model.specs.declared.user_action.UserAction.TheVariants.{Add, Ren
 use Rattle.doc_model.specs.declared.verdict.RetValue.{RetValue}
 use Rattle.doc_model.specs.declared.verdict.RetValue.TheVariants as ret
 use Rattle.doc_model.specs.declared.view.ViewTable.{ViewTable}
-use Rattle.doc_model.specs.Rows.{has}
-use Rattle.view_parts.specs.Shown.{rows_shown, is_column_shown}
+use Rattle.doc_model.specs.ByIds.{has_id}
+use Rattle.doc_model.specs.Changes.{shown_table_id}
+use Rattle.censored_view.specs.Questions.{is_column_in, is_row_in}
 use Rattle.bundle_judge.specs.declared.created.Created.{Created}
 use Rattle.bundle_judge.specs.declared.created.Created.TheVariants as created
 
@@ -42,19 +43,15 @@ abbrev pub created_of : UserAction → List DocAction → Created
 created_of a [] = created_alone a
 created_of a (step ∷ steps) = created_by a step
 
--- the row, where it is one of these
-abbrev pub row_told : List ℕ → ℕ → Option ℕ
-row_told rows r = cond (has rows r) (Some r) None
-
--- the rows that a view shows of a table, none where it does not show the table
-abbrev pub known_rows : List ViewTable → List ℕ → List ℕ
-known_rows v table = elim (rows_shown v table) [ None ↦ [] | Some rows ↦ rows ]
+-- the row, where the view shows it
+abbrev pub row_told : List ViewTable → List ℕ → ℕ → Option ℕ
+row_told v table r = cond (is_row_in v table r) (Some r) None
 
 -- what is told of it in a view: what the view does not show is nothing
 abbrev pub told_of : List ViewTable → Created → RetValue
 told_of v created.Nothing = ret.Null
-told_of v (created.Record table r) = cond (has (known_rows v table) r) (ret.Id r) ret.Null
-told_of v (created.Records table rows) = ret.Ids (map (row_told (known_rows v table)) rows)
-told_of v (created.Table table) = cond (is_some (rows_shown v table)) (ret.Name table) ret.Null
+told_of v (created.Record table r) = cond (is_row_in v table r) (ret.Id r) ret.Null
+told_of v (created.Records table rows) = ret.Ids (map (row_told v table) rows)
+told_of v (created.Table table) = cond (has_id shown_table_id v table) (ret.Name table) ret.Null
 told_of v (created.Column table column) =
-    cond (is_column_shown v table column) (ret.Name column) ret.Null
+    cond (is_column_in v table column) (ret.Name column) ret.Null

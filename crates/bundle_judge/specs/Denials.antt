@@ -10,7 +10,7 @@ use Rattle.acl_checks.specs.Checks.{checks_of}
 use Rattle.acl_checks.specs.Denials.{first_denied}
 use Rattle.bundle_judge.specs.declared.bare_verdict.BareVerdict.TheVariants.{Denied}
 use Rattle.bundle_judge.specs.declared.bare_verdict.BareVerdict.{BareVerdict}
-use Rattle.bundle_judge.specs.Context.{carry}
+use Rattle.rule_contexts.specs.Context.{carry}
 
 -- the row of the rule that denies a step: a direct one is checked, with the evaluated document just
 -- before and just after it

@@ -1,7 +1,6 @@
 -- What one action of a bundle comes to, and how far a judgement has come.
 use Rattle.std.specs.Prelude.{ℕ, true, List, ◌++◌, map, drop, ◌≡◌, Some, None}
 use Rattle.doc_model.specs.declared.action.Step.{Step}
-use Rattle.doc_model.specs.declared.user.User.{User}
 use Rattle.doc_model.specs.declared.user_action.UserAction.{UserAction}
 use Rattle.doc_model.specs.Apply.{apply_all, all_valid}
 use Rattle.doc_model.specs.Document.{Document}
@@ -13,7 +12,7 @@ use Rattle.bundle_judge.specs.declared.judging.ActionPlan.{ActionPlan}
 use Rattle.bundle_judge.specs.declared.judging.JudgedAction.{JudgedAction}
 use Rattle.bundle_judge.specs.declared.judging.JudgedAction.TheVariants as judged
 use Rattle.bundle_judge.specs.declared.created.Created.{Created}
-use Rattle.bundle_judge.specs.Context.{carry_all}
+use Rattle.rule_contexts.specs.Context.{carry_all}
 use Rattle.bundle_judge.specs.Denials.{denial_of}
 use Rattle.bundle_judge.specs.Judgement.{judge_from, created_at, opposed_at, refusal_at, with_before}
 use Rattle.bundle_judge.specs.JudgedBundles.{MayBeDone, after_steps}
@@ -22,17 +21,17 @@ use Rattle.view_parts.specs.declared.changed.ChangedRows.{ChangedRows}
 use Rattle.view_parts.specs.PartLaws.{AreSameOutside}
 
 -- nothing but a rule stands against the action at that index: its steps and what it created
-pub record IsActionPlan (user : User) (s : Document) (i : ℕ) (a : UserAction)
+pub record IsActionPlan (x : Ctx) (s : Document) (i : ℕ) (a : UserAction)
     (n : ActionPlan) : Type 0 where
-  pub unopposed : opposed_at user s i a ≡ None
+  pub unopposed : opposed_at x s i a ≡ None
   pub steps : n.steps ≡ steps_of s a
   pub created : n.created ≡ created_at s a
   pub may : MayBeDone s (map action_of n.steps) n.tally
 
--- what the action at that index comes to, rules aside
-abbrev pub IsJudgedAction : User → Document → ℕ → UserAction → JudgedAction → Type 0
-IsJudgedAction user s i a (judged.Accepted n) = IsActionPlan user s i a n
-IsJudgedAction user s i a (judged.Refused v) = opposed_at user s i a ≡ Some v
+-- what the action at that index comes to, before its steps are checked
+abbrev pub IsJudgedAction : Ctx → Document → ℕ → UserAction → JudgedAction → Type 0
+IsJudgedAction x s i a (judged.Accepted n) = IsActionPlan x s i a n
+IsJudgedAction x s i a (judged.Refused v) = opposed_at x s i a ≡ Some v
 
 -- these steps are done, and no rule denied one of them
 pub record AreLetDone (x : Ctx) (s : Document) (i : ℕ) (steps : List Step) (y : Ctx)
@@ -45,7 +44,7 @@ pub record AreLetDone (x : Ctx) (s : Document) (i : ℕ) (steps : List Step) (y 
 -- nothing stands against the action at that index, and its steps are done
 pub record IsDonePlan (x : Ctx) (s : Document) (i : ℕ) (a : UserAction) (y : Ctx) (t : Document)
     (changed : List ChangedRows) (n : ActionPlan) : Type 0 where
-  pub plan : IsActionPlan x.user.user s i a n
+  pub plan : IsActionPlan x s i a n
   pub done : AreLetDone x s i n.steps y t changed
 
 -- what the action at that index comes to, where it is done

@@ -14,7 +14,7 @@ use Rattle.bundle_judge.specs.declared.judging.JudgedBundle.TheVariants as judge
 use Rattle.bundle_judge.specs.declared.judging.BundlePlan.{BundlePlan}
 use Rattle.bundle_judge.specs.Judgement.{Judgement, accepted, refused}
 use Rattle.user_actions.specs.StepLaws.{action_of}
-use Rattle.bundle_judge.specs.View.{view}
+use Rattle.rule_contexts.specs.Context.{view}
 use Rattle.recalc.specs.Evaluated.{filled}
 use Rattle.view_parts.specs.PartLaws.{AreSameOutside}
 

@@ -16,10 +16,9 @@ use Rattle.acl_rules.specs.declared.decision.Ctx.{Ctx}
 use Rattle.bundle_judge.specs.declared.bare_verdict.BareVerdict.TheVariants.{Limited, Refused}
 use Rattle.bundle_judge.specs.declared.bare_verdict.BareVerdict.{BareVerdict}
 use Rattle.bundle_judge.specs.declared.created.Created.{Created}
-use Rattle.bundle_judge.specs.Context.{carry_all, context}
+use Rattle.rule_contexts.specs.Context.{carry_all, context, view_in}
 use Rattle.bundle_judge.specs.Created.{created_of}
 use Rattle.bundle_judge.specs.Denials.{denial_of, or_else}
-use Rattle.bundle_judge.specs.View.{view}
 
 -- accepted with the document after it, its steps, and what its actions created, or refused
 pub data Judgement : Type 0 where
@@ -36,14 +35,14 @@ abbrev pub opposed : ℕ → Option Refusal → Option LimitKind → Option Bare
 opposed i (Some this) kind = Some (Refused this (Some i))
 opposed i None kind = limited i kind
 
--- why an action is refused whatever the rules are: by the user's view of the document there, or by
--- a limit that the document after its steps passes
-abbrev pub opposed_at : User → Document → ℕ → UserAction → Option BareVerdict
-opposed_at user s i a = opposed i (objection_to (view user s) a) (over (after s a))
+-- why an action is refused before its steps are checked: by what its context shows of the document
+-- there, or by a limit that the document after its steps passes
+abbrev pub opposed_at : Ctx → Document → ℕ → UserAction → Option BareVerdict
+opposed_at x s i a = opposed i (objection_to (view_in x s) a) (over (after s a))
 
 -- why the action at that index of its bundle is refused: for that, or else by a rule
 abbrev pub refusal_at : Ctx → Document → ℕ → UserAction → Option BareVerdict
-refusal_at x s i a = or_else (opposed_at x.user.user s i a) (denial_of x s i (steps_of s a))
+refusal_at x s i a = or_else (opposed_at x s i a) (denial_of x s i (steps_of s a))
 
 -- steps and what was created, before those that are judged
 abbrev pub with_before : List Step → List Created → Judgement → Judgement

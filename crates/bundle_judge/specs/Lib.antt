@@ -1,12 +1,11 @@
 pub mod BareVerdicts
-pub mod Context
 pub mod Denials
 pub mod Judgement
 pub mod Created
 pub mod JudgedBundles
 pub mod JudgedActions
-pub mod View
 pub mod Rollback
+pub mod Losses
 pub mod ChangedCells
 pub mod SplitSteps
 pub mod Undo

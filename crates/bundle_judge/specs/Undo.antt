@@ -14,7 +14,7 @@ use Rattle.undo_bundles.specs.declared.log.LogFault.{LogFault}
 use Rattle.undo_bundles.specs.declared.log.LogFault.TheVariants as fault
 use Rattle.bundle_judge.specs.declared.bare_verdict.BareVerdict.TheVariants.{Refused}
 use Rattle.bundle_judge.specs.declared.bare_verdict.BareVerdict.{BareVerdict}
-use Rattle.bundle_judge.specs.Context.{carry, context}
+use Rattle.rule_contexts.specs.Context.{carry, context}
 use Rattle.bundle_judge.specs.Denials.{denial_at, or_else}
 use Rattle.bundle_judge.specs.Judgement.{Judgement, accepted, refused, limited, with_before}
 

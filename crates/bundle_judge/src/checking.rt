@@ -10,7 +10,7 @@ ghost use Rattle.acl_checks.specs.Unchecked.{are_unchecked};
 ghost use Rattle.recalc.specs.Evaluated.{filled};
 ghost use Rattle.view_parts.specs.PartLaws.{AreSameOutside};
 ghost use Rattle.bundle_judge.specs.ChangedCells.{StayNoted};
-ghost use Rattle.bundle_judge.specs.Context.{carry, context};
+ghost use Rattle.rule_contexts.specs.Context.{carry};
 ghost use Rattle.bundle_judge.specs.Denials.{denial_at, denial_of, denied_by, denying_row};
 ghost use Rattle.bundle_judge.specs.JudgedActions.{AreLetDone};
 ghost use Rattle.bundle_judge.specs.Rollback.{AllLeadBack, gone_back};
@@ -19,31 +19,11 @@ use crate::bare_verdict::BareVerdict;
 use crate::rollback::do_one;
 use acl_checks::laws::unchecked_law;
 use acl_checks::{after_step, are_unchecked, before_step};
-use acl_formula::{AttributeList, UserInfo};
-use acl_rules::{Ctx, RuleId, carry, load, rule_ref};
-use doc_model::{DocTables, Step, User};
+use acl_rules::{Ctx, RuleId, carry, rule_ref};
+use doc_model::{DocTables, Step};
 use recalc::{Doc, Trace};
 use std::alloc::{AllocError, Global};
 use view_parts::ChangedRows;
-
-/// The rules of a document with a user, who has no attributes yet.
-///
-/// Errors: out of memory. Cost: linear in the rules.
-pub fn context_of<D: DocTables>(alloc: Global, tables: &D, user: &User) -> Result<Ctx, AllocError>
-    ensures { IfOk result (λ x. x ≡ context user.now (D.document tables.now)) }
-{
-    let user = UserInfo {
-        user: user.clone()?,
-        attributes: AttributeList::new(alloc),
-    };
-    match load(alloc, tables) {
-        Ok(book) => Ok(Ctx { book, user }),
-        Err(error) => {
-            drop(user);
-            Err(error)
-        }
-    }
-}
 
 // The denial of the action at that index by a rule, where one denies it.
 fn denied_by(

@@ -1,23 +1,20 @@
 //! What the actions of a bundle created, and what is told of it.
 
-ghost use Rattle.std.specs.Prelude.{◌≡◌, [], map, true, IfOk, is_some};
+ghost use Rattle.std.specs.Prelude.{◌≡◌, [], map, true, IfOk};
 ghost use Rattle.doc_model.specs.DocumentLaws.{IsWhole};
 ghost use Rattle.doc_model.specs.LaidOut.{IsLaidOut};
-ghost use Rattle.doc_model.specs.Rows.{IsAscending};
 ghost use Rattle.user_actions.specs.Allowed.{is_allowed};
 ghost use Rattle.user_actions.specs.StepLaws.{action_of};
-ghost use Rattle.view_parts.specs.Shown.{view as shown_to};
-ghost use Rattle.view_parts.specs.Viewers.{viewer_of};
-ghost use Rattle.bundle_judge.specs.Created.{is_single, known_rows, created_alone, created_by, created_of, records_created, row_told, told_of};
+ghost use Rattle.censored_view.specs.View.{view};
+ghost use Rattle.bundle_judge.specs.Created.{is_single, created_alone, created_by, created_of, records_created, row_told, told_of};
 
 use cell_types::{Name, RowList};
+use censored_view::{Lets, is_column_seen, is_row_seen, is_table_seen};
 use doc_model::{
-    DocAction, DocReader, DocTables, RetIdList, RetValue, RetValueList, Step, User, UserAction,
+    DocAction, DocReader, DocTables, RetIdList, RetValue, RetValueList, Step, UserAction,
 };
-use doc_readers::holds_row;
 use name_rules::name_of;
 use std::alloc::{AllocError, Global};
-use view_parts::{Viewer, is_column_shown, rows_shown};
 
 /// What one user action created, under the ids as it left them: nothing, a record, records, a
 /// table, or a column.
@@ -118,35 +115,31 @@ pub fn created_of<D: DocTables>(
     }
 }
 
-// The rows of a table that a viewer sees, none where it does not see the table.
-fn known_rows<'a, D: DocReader>(tables: &'a D, viewer: Viewer, table: &Name) -> &'a [u32]
+// The row, where the context shows it.
+fn row_told<X: Lets, D: DocReader>(ctx: &X, tables: &D, table: &Name, row: u32) -> Option<u32>
     requires { IsLaidOut (D.document tables.now) }
-    ensures rows { result.now ≡ known_rows (shown_to viewer (D.document tables.now)) table.now }
-    ensures ascending { IsAscending result.now }
+    ensures { result ≡ row_told (view (X.lets ctx.now) (D.document tables.now)) table.now row }
 {
-    match rows_shown(tables, viewer, table) {
-        Some(rows) => rows,
-        None => &[],
-    }
-}
-
-fn row_told(known: &[u32], row: u32) -> Option<u32>
-    requires { IsAscending known.now }
-    ensures { result ≡ row_told known.now row }
-{
-    if holds_row(known, row) {
+    if is_row_seen(ctx, tables, table, row) {
         return Some(row);
     }
     None
 }
 
-fn rows_told(alloc: Global, known: &[u32], rows: &[u32]) -> Result<RetValue, AllocError>
-    requires { IsAscending known.now }
-    ensures { IfOk result (λ v. v ≡ RetValue.Ids (map (row_told known.now) rows.now)) }
+fn rows_told<X: Lets, D: DocReader>(
+    alloc: Global,
+    ctx: &X,
+    tables: &D,
+    table: &Name,
+    rows: &[u32],
+) -> Result<RetValue, AllocError>
+    requires { IsLaidOut (D.document tables.now) }
+    ensures { IfOk result (λ v. v ≡ RetValue.Ids
+        (map (row_told (view (X.lets ctx.now) (D.document tables.now)) table.now) rows.now)) }
 {
     let mut told = Vec::with_capacity(alloc, rows.len())?;
     for row in rows {
-        told.push(row_told(known, *row))?;
+        told.push(row_told(ctx, tables, table, *row))?;
     }
     Ok(RetValue::Ids(RetIdList::from(told)))
 }
@@ -157,47 +150,47 @@ fn name_told(name: &Name) -> Result<RetValue, AllocError>
     Ok(RetValue::Name(name.clone()?))
 }
 
-// What a viewer is told of what an action created, by what it sees of the document now.
-fn told_of<D: DocReader>(
+// What is told of what an action created, by what the context shows of the document now.
+fn told_of<X: Lets, D: DocReader>(
     alloc: Global,
+    ctx: &X,
     tables: &D,
-    viewer: Viewer,
     created: &Created,
 ) -> Result<RetValue, AllocError>
     requires { IsLaidOut (D.document tables.now) }
-    ensures { IfOk result (λ v. v ≡ told_of (shown_to viewer (D.document tables.now)) created.now) }
+    ensures { IfOk result (λ v. v
+        ≡ told_of (view (X.lets ctx.now) (D.document tables.now)) created.now) }
 {
     match created {
-        Created::Record { table, row } if holds_row(known_rows(tables, viewer, table), *row) => {
+        Created::Record { table, row } if is_row_seen(ctx, tables, table, *row) => {
             Ok(RetValue::Id(*row))
         }
-        Created::Records { table, rows } => {
-            rows_told(alloc, known_rows(tables, viewer, table), rows.as_slice())
-        }
-        Created::Table(table) if rows_shown(tables, viewer, table).is_some() => name_told(table),
-        Created::Column { table, column } if is_column_shown(tables, viewer, table, column) => {
+        Created::Records { table, rows } => rows_told(alloc, ctx, tables, table, rows.as_slice()),
+        Created::Table(table) if is_table_seen(ctx, tables, table) => name_told(table),
+        Created::Column { table, column } if is_column_seen(ctx, tables, table, column) => {
             name_told(column)
         }
         _ => Ok(RetValue::Null),
     }
 }
 
-/// What a user is told of what the actions of a bundle created, by what he sees of the document
+/// What is told of what the actions of a bundle created, by what the context shows of the document
 /// now.
-pub fn all_told<D: DocReader>(
+///
+/// Errors: out of memory. Cost: for each created record the decisions that show its row.
+pub fn all_told<X: Lets, D: DocReader>(
     alloc: Global,
+    ctx: &X,
     tables: &D,
-    user: &User,
     created: &[Created],
 ) -> Result<RetValueList, AllocError>
     requires { IsLaidOut (D.document tables.now) }
     ensures { IfOk result (λ l. l
-        ≡ map (told_of (shown_to (viewer_of user.now) (D.document tables.now))) created.now) }
+        ≡ map (told_of (view (X.lets ctx.now) (D.document tables.now))) created.now) }
 {
-    let viewer = Viewer::of(user);
     let mut told = Vec::with_capacity(alloc, created.len())?;
     for one in created {
-        told.push(told_of(alloc, tables, viewer, one)?)?;
+        told.push(told_of(alloc, ctx, tables, one)?)?;
     }
     Ok(RetValueList::from(told))
 }

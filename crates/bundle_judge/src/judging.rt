@@ -16,23 +16,25 @@ ghost use Rattle.bundle_judge.specs.Created.{created_of};
 ghost use Rattle.bundle_judge.specs.JudgedBundles.{IsJudgedBundle};
 ghost use Rattle.bundle_judge.specs.JudgedActions.{IsDoneAction, IsJudgedAction};
 ghost use Rattle.bundle_judge.specs.Rollback.{AllLeadBack, gone_back};
-ghost use Rattle.bundle_judge.specs.View.{view};
+ghost use Rattle.rule_contexts.specs.Context.{view_in};
 
 use crate::bare_verdict::BareVerdict;
-use crate::checking::{context_of, do_all_checked};
+use crate::checking::do_all_checked;
 use crate::created::{Created, created_of};
 use crate::rollback::{do_all, do_last, go_back_all};
 use crate::split_steps::SplitSteps;
 use acl_checks::are_unchecked;
 use acl_checks::laws::unchecked_law;
+use acl_reading::RuleReading;
 use acl_rules::Ctx;
 use action_limits::{Expansion, Tally, expand};
 use doc_model::{DocTables, LimitKind, MAX_ACTIONS, Refusal, StepList, User, UserAction};
-use recalc::laws::{laid_out_law, same_parts_law};
 use recalc::{Doc, Trace};
+use rule_contexts::{context_of, seen_law};
 use std::alloc::{AllocError, Global};
 use user_actions::refuse;
-use view_parts::{ChangedRows, Viewer, allowed_law, requested_law, requested_view};
+use view_parts::{ChangedRows, requested_law};
+use view_refusals::asked_of;
 
 /// A bundle that is accepted: its steps, the rows in which they changed cells, what its user
 /// actions created, which bundle it undoes, and the tally of the document after it.
@@ -115,20 +117,17 @@ fn judge_steps<D: DocTables>(
     alloc: Global,
     tables: &D,
     tally: Tally,
-    user: &User,
+    ctx: &Ctx,
     action: &UserAction,
     index: u32,
 ) -> Result<JudgedAction, AllocError>
     requires whole { IsWhole (D.document tables.now) }
     requires well_formed { is_well_formed action.now ≡ true }
-    requires unopposed { objection_to (view user.now (D.document tables.now)) action.now ≡ None }
+    requires unopposed { objection_to (view_in ctx.now (D.document tables.now)) action.now ≡ None }
     requires tally { IsTally (D.document tables.now) tally }
-    ensures { IfOk result (λ r. IsJudgedAction user.now
-        (D.document tables.now) index action.now r) }
+    ensures { IfOk result (λ r. IsJudgedAction ctx.now (D.document tables.now) index action.now r) }
 {
-    allowed_law();
-    laid_out_law();
-    same_parts_law();
+    seen_law();
     match expand(alloc, tables, tally, action)? {
         Expansion::Limit(kind) => Ok(JudgedAction::Refused(limited(kind, index))),
         Expansion::Steps { steps, tally } => {
@@ -144,21 +143,20 @@ fn judge_action<D: DocTables>(
     alloc: Global,
     doc: &Doc<D>,
     tally: Tally,
-    user: &User,
+    ctx: &Ctx,
     action: &UserAction,
     index: u32,
 ) -> Result<JudgedAction, AllocError>
     requires whole { IsWhole (D.document doc.now) }
     requires well_formed { is_well_formed action.now ≡ true }
     requires tally { IsTally (D.document doc.now) tally }
-    ensures { IfOk result (λ r. IsJudgedAction user.now
-        (D.document doc.now) index action.now r) }
+    ensures { IfOk result (λ r. IsJudgedAction ctx.now (D.document doc.now) index action.now r) }
 {
-    let view = requested_view(alloc, doc, Viewer::of(user), action)?;
+    let asked = asked_of(alloc, &RuleReading { ctx }, doc, action)?;
     requested_law();
-    match refuse(alloc, &view, action)? {
+    match refuse(alloc, &asked, action)? {
         Some(refusal) => Ok(JudgedAction::Refused(refused(refusal, index))),
-        None => judge_steps(alloc, doc.tables(), tally, user, action, index),
+        None => judge_steps(alloc, doc.tables(), tally, ctx, action, index),
     }
 }
 
@@ -193,14 +191,7 @@ fn judge_unchecked<D: DocTables>(
     for index in 0..requested.len() {
         do_all(alloc, doc, &next, traces, &mut changed)?;
         steps.append(&mut next)?;
-        match judge_action(
-            alloc,
-            doc,
-            tally,
-            &ctx.user.user,
-            &requested[index],
-            index as u32,
-        )? {
+        match judge_action(alloc, doc, tally, ctx, &requested[index], index as u32)? {
             JudgedAction::Refused(verdict) => {
                 drop((steps, changed, created, next));
                 return Ok(JudgedBundle::Refused(verdict));
@@ -245,7 +236,7 @@ fn judge_and_do<D: DocTables>(
         ≡ gone_back D.fits D.undone traces.old.items (D.document doc.old) }
     ensures stays { OnOk result (StayNoted changed.old.items changed.new.items) }
 {
-    let plan = match judge_action(alloc, doc, tally, &ctx.user.user, action, index)? {
+    let plan = match judge_action(alloc, doc, tally, ctx, action, index)? {
         JudgedAction::Refused(verdict) => return Ok(JudgedAction::Refused(verdict)),
         JudgedAction::Accepted(plan) => plan,
     };
@@ -364,7 +355,7 @@ pub fn judge<D: DocTables>(
     if requested.len() as u64 > MAX_ACTIONS {
         return Ok(JudgedBundle::Refused(limited(LimitKind::Actions, MAX_ACTIONS as u32)));
     }
-    let mut ctx = context_of(alloc, doc.tables(), user)?;
+    let mut ctx = context_of(alloc, doc, user)?;
     let mut traces = Vec::new(alloc);
     let judged = judge_in(alloc, doc, tally, &mut ctx, requested, &mut traces);
     go_back_all(doc, traces);

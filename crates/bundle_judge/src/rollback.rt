@@ -1,6 +1,6 @@
 //! Actions done one after another, and gone back over.
 
-ghost use Rattle.std.specs.Prelude.{◌≡◌, [], ◌∷◌, true, false, map, IfOk, OnOk};
+ghost use Rattle.std.specs.Prelude.{◌≡◌, [], ◌∷◌, ◌++◌, true, false, map, IfOk, OnOk};
 ghost use Rattle.std.specs.List.{list_any};
 ghost use Rattle.doc_model.specs.Apply.{all_valid, apply};
 ghost use Rattle.doc_model.specs.DocumentLaws.{IsWhole};
@@ -10,9 +10,11 @@ ghost use Rattle.user_actions.specs.StepLaws.{action_of};
 ghost use Rattle.undo_bundles.specs.InverseSteps.{inverse_steps};
 ghost use Rattle.recalc.specs.Current.{brings_formula, has_formulas};
 ghost use Rattle.recalc.specs.Evaluated.{filled};
+ghost use Rattle.recalc.specs.Lost.{lost};
 ghost use Rattle.view_parts.specs.PartLaws.{AreSameOutside};
 ghost use Rattle.bundle_judge.specs.ChangedCells.{StayNoted};
 ghost use Rattle.bundle_judge.specs.JudgedBundles.{after_steps};
+ghost use Rattle.bundle_judge.specs.Losses.{all_lost, cells_told};
 ghost use Rattle.bundle_judge.specs.Rollback.{AllLeadBack, gone_back};
 
 use crate::changed_rows::note_rows;
@@ -136,6 +138,8 @@ fn put_one<D: DocTables>(
     ensures led { AllLeadBack D.fits D.undone traces.new.items (D.document doc.new) }
     ensures back { gone_back D.fits D.undone traces.new.items (D.document doc.new)
         ≡ gone_back D.fits D.undone traces.old.items (D.document doc.old) }
+    ensures cells { OnOk result (cells_told traces.new.items ≡ cells_told traces.old.items
+        ++ lost (D.document doc.old) (apply (D.document doc.old) action.now) action.now ∷ []) }
 {
     traces.reserve(1)?;
     let trace = doc.put(alloc, action)?;
@@ -143,8 +147,8 @@ fn put_one<D: DocTables>(
     Ok(())
 }
 
-/// Does the valid steps of a bundle, notes the traces that lead back, and gives the inverse of the
-/// bundle. When out of memory, some of them are done.
+/// Does the valid steps of a bundle, notes the traces that lead back and tell what each step lost,
+/// and gives the inverse of the bundle. When out of memory, some of them are done.
 pub fn do_for_good<D: DocTables>(
     alloc: Global,
     doc: &mut Doc<D>,
@@ -158,6 +162,8 @@ pub fn do_for_good<D: DocTables>(
     ensures led { AllLeadBack D.fits D.undone traces.new.items (D.document doc.new) }
     ensures back { gone_back D.fits D.undone traces.new.items (D.document doc.new)
         ≡ gone_back D.fits D.undone traces.old.items (D.document doc.old) }
+    ensures cells { OnOk result (cells_told traces.new.items ≡ cells_told traces.old.items
+        ++ all_lost (D.document doc.old) (map action_of steps.now)) }
     ensures inverse { IfOk result (λ l. l ≡ inverse_steps (D.document doc.old) steps.now) }
 {
     let actions = steps.actions();

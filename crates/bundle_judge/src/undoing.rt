@@ -5,14 +5,14 @@ ghost use Rattle.doc_model.specs.DocumentLaws.{IsWhole};
 ghost use Rattle.action_limits.specs.Tallies.{IsTally};
 ghost use Rattle.bundle_judge.specs.declared.bare_verdict.BareVerdict.TheVariants.{Refused};
 ghost use Rattle.bundle_judge.specs.JudgedBundles.{IsJudgedBundle};
-ghost use Rattle.bundle_judge.specs.Context.{context};
+ghost use Rattle.rule_contexts.specs.Context.{context};
 ghost use Rattle.bundle_judge.specs.Rollback.{AllLeadBack, gone_back};
 ghost use Rattle.bundle_judge.specs.Undo.{judge_own_undo, judge_undo, refusal_of, stale_at};
 ghost use Rattle.bundle_judge.specs.UndoneSteps.{MayGoOn};
 ghost use Rattle.undo_bundles.specs.BundleLog.{undo_of};
 
 use crate::bare_verdict::BareVerdict;
-use crate::checking::{context_of, do_checked};
+use crate::checking::do_checked;
 use crate::judging::{BundlePlan, JudgedBundle, limited};
 use crate::rollback::go_back_all;
 use crate::split_steps::SplitSteps;
@@ -21,6 +21,7 @@ use action_limits::Tally;
 use doc_actions::is_valid;
 use doc_model::{DocAction, DocTables, Refusal, Step, StepList, User};
 use recalc::{Doc, Trace};
+use rule_contexts::context_of;
 use std::alloc::{AllocError, Global};
 use undo_bundles::{BundleLog, LogFault};
 
@@ -120,7 +121,7 @@ fn judge_steps<D: DocTables>(
         // Never taken: no memory holds so many steps.
         return Err(AllocError);
     }
-    let mut ctx = context_of(alloc, doc.tables(), user)?;
+    let mut ctx = context_of(alloc, doc, user)?;
     let mut traces = Vec::new(alloc);
     let steps = steps.as_slice();
     let judged = judge_each(alloc, doc, tally, &mut ctx, number, steps, &mut traces);

@@ -61,7 +61,7 @@ static ANSWERED: [&str; 4] = [
 > {"line":{"method":"sync"},"session":"s"}
 < {"line":{"error":{"code":3,"name":"NotOpen"}},"session":"s"}
 > {"line":{"method":"fetchTable","table":"Table1"},"session":"é"}
-< {"line":{"error":{"code":1,"name":"BadLine"}},"session":"é"}
+< {"line":{"error":{"code":3,"name":"NotOpen"}},"session":"é"}
 > no
 < {"line":{"error":{"code":1,"name":"BadLine"}},"session":"_"}"#,
     r#"> {"user":{"access":"owners","email":"a","id":1,"name":"Ann","token":"ta"}}
@@ -120,7 +120,7 @@ static ANSWERED: [&str; 4] = [
 > {"line":{"method":"closeDoc"},"session":"s1"}
 < {"line":{"error":{"code":3,"name":"NotOpen"}},"session":"s1"}
 > {"line":{"method":"fetchTable","table":"Table1"},"session":"s1"}
-< {"line":{"error":{"code":1,"name":"BadLine"}},"session":"s1"}"#,
+< {"line":{"error":{"code":3,"name":"NotOpen"}},"session":"s1"}"#,
     r#"> {"user":{"access":"owners","email":"a","id":1,"name":"Ann","token":"ta"}}
 > {"user":{"access":"editors","email":"e","id":2,"name":"Ed","token":"te"}}
 > {"line":{"method":"openDoc","token":"ta"},"session":"s1"}

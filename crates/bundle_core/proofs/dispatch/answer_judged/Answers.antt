@@ -33,12 +33,6 @@ accept-requires-clause-valid g c =
     let plan : IsBundlePlan k.judgement k.undone (g.D.DocReader.document c.args.doc.now) c.in-Accepted.plan = rw c.in-Accepted.is at k.judged in
     plan.may.valid
 
-pub accept-requires-clause-outside : goal.accept-requires-clause-outside
-accept-requires-clause-outside g c =
-    let k = c.requires.judged some_session in
-    let plan : IsBundlePlan k.judgement k.undone (g.D.DocReader.document c.args.doc.now) c.in-Accepted.plan = rw c.in-Accepted.is at k.judged in
-    plan.outside
-
 pub accept-requires-clause-own : goal.accept-requires-clause-own
 accept-requires-clause-own g c = λ d. rw c.in-Accepted.is at (c.requires.judged d).own
 

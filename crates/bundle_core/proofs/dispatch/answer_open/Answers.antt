@@ -1,11 +1,11 @@
-use Rattle.std.proofs.Common.{◌≡◌, true, false, get_or, Some, None, refl, sym, ap, ◌∙◌, arith}
+use Rattle.std.proofs.Common.{◌≡◌, Bool, true, false, get_or, Some, None, refl, sym, ap, subst, ◌∙◌, arith}
 use Rattle.std.proofs.lemmas.Result.{IfOk-weaker}
 use Rattle.bundle_judge.specs.declared.bare_verdict.BareVerdict.TheVariants.{Done}
 use Rattle.bundle_core.specs.declared.dispatch.Turn.{Turn}
 use Rattle.bundle_core.specs.Core.{marked}
-use Rattle.bundle_core.specs.Dispatch.{state_of}
+use Rattle.bundle_core.specs.Dispatch.{Answers, state_of}
 use Rattle.bundle_core.specs.SessionState.{SessionState}
-use Rattle.bundle_core.specs.State.{answered, from_open}
+use Rattle.bundle_core.specs.State.{answered, fetched, from_open}
 use Rattle.bundle_core.specs.Turns.{IsTurn}
 use Rattle.bundle_core.proofs.KeptTurns.{found_none, quiet_err, quiet_kept, quiet_ok}
 use Rattle.bundle_core.proofs.OpenLemmas.{code_lagging, code_open, code_sync, find_leaves, find_stays, comes_lagging, comes_open}
@@ -75,7 +75,7 @@ returns-in_default-request g c =
     let h = (get_or xs c.args.index d).holder in
     let quick : (get_or xs c.args.index d).lagging ≡ false = ap (λ (z : SessionState). z.lagging) (sym c.index.ensures) ∙ sym c.is_lagging.ensures ∙ c.if-is_lagging.false in
     let comes = comes_open users s xs c.args.index e c.requires.finds d _ quick
-    (λ z. code_sync (state_of s z) h true e.request (sym c.refusal_open.ensures ∙ c.in_default.is) c.requires.stays (λ actions is. c.in_default-request.not-Apply actions is) (λ number is. c.in_default-request.not-Undo number is) c.in_default-request.not-Close) in
+    (λ z. code_sync (state_of s z) h true e.request (sym c.refusal_open.ensures ∙ c.in_default.is) c.requires.stays (λ actions is. c.in_default-request.not-Apply actions is) (λ number is. c.in_default-request.not-Undo number is) (λ table is. c.in_default-request.not-Fetch table is) c.in_default-request.not-Close) in
     let P : Turn → Type 0 = λ t. IsTurn users s s xs ys l l (marked c.args.entry.now t.kept) t.lines.items in
     record {
       ok = quiet_ok (λ v. let t : Turn = record { lines = v; kept = true } in t) P c.stay-in_default-request.result c.quiet-in_default-request.result c.quiet-in_default-request.ensures (IfOk-weaker c.stay-in_default-request.result _ _
@@ -86,6 +86,33 @@ returns-in_default-request g c =
       err_document = on_err_always c.quiet-in_default-request.result refl;
       err = quiet_err (λ v. let t : Turn = record { lines = v; kept = true } in t) _ c.stay-in_default-request.result c.quiet-in_default-request.result c.quiet-in_default-request.ensures c.stay-in_default-request.ensures.err;
       err_told = on_err_always c.quiet-in_default-request.result refl;
+      later = omega arith;
+    }
+
+pub returns-in-Fetch : goal.returns-in-Fetch
+returns-in-Fetch g c =
+    let s = g.D.DocReader.document c.args.doc.now in
+    let users = c.args.users.now in
+    let xs = c.args.sessions.now.items in
+    let ys = c.answer_fetch.new.sessions.items in
+    let l = c.args.records.now in
+    let e = marked c.args.entry.now true in
+    let d = c.index.result.now in
+    let h = (get_or xs c.args.index d).holder in
+    let table = c.in-Fetch.table in
+    let quick : (get_or xs c.args.index d).lagging ≡ false = ap (λ (z : SessionState). z.lagging) (sym c.index.ensures) ∙ sym c.is_lagging.ensures ∙ c.if-is_lagging.false in
+    let comes = comes_open users s xs c.args.index e c.requires.finds d (fetched s h table) quick
+    (λ z. ap (from_open (state_of s z) h true) c.in-Fetch.is) in
+    let P : Turn → Type 0 = λ t. IsTurn users s s xs ys l l (marked c.args.entry.now t.kept) t.lines.items in
+    record {
+      ok = quiet_ok (λ v. let t : Turn = record { lines = v; kept = true } in t) P c.answer_fetch.result c.quiet-in-Fetch.result c.quiet-in-Fetch.ensures (IfOk-weaker c.answer_fetch.result _ _
+          (λ v answers. quiet_kept users s xs ys l e v.items refl (found_none users s xs c.args.index e c.requires.finds d (fetched s h table) comes refl)
+          (let Q : Bool → Type 0 = λ b. Answers users s s xs ys (marked c.args.entry.now b) v.items in subst Q c.requires.kept answers)) c.answer_fetch.ensures.ok);
+      whole = c.requires.whole;
+      tally = c.requires.tally;
+      err_document = on_err_always c.quiet-in-Fetch.result refl;
+      err = quiet_err (λ v. let t : Turn = record { lines = v; kept = true } in t) _ c.answer_fetch.result c.quiet-in-Fetch.result c.quiet-in-Fetch.ensures c.answer_fetch.ensures.err;
+      err_told = on_err_always c.quiet-in-Fetch.result refl;
       later = omega arith;
     }
 

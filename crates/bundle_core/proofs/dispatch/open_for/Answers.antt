@@ -7,7 +7,7 @@ use Rattle.grist_json.specs.Lines.{reply_text}
 use Rattle.undo_bundles.specs.BundleLog.{empty_log}
 use Rattle.bundle_core.specs.Replies.{reply_of}
 use Rattle.bundle_core.specs.Dispatch.{Answers}
-use Rattle.bundle_judge.specs.View.{view}
+use Rattle.rule_contexts.specs.Context.{view}
 use Rattle.doc_model.specs.Changes.{changes}
 use Rattle.bundle_core.specs.SessionState.{SessionState}
 use Rattle.bundle_core.specs.State.{session_bound}

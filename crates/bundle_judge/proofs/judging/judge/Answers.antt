@@ -1,6 +1,5 @@
-use Rattle.std.proofs.Common.{ap, ◌∙◌, arith}
+use Rattle.std.proofs.Common.{arith}
 use Rattle.std.proofs.lemmas.Result.{IfOk-weaker}
-use Rattle.bundle_judge.specs.Context.{context}
 use Rattle.bundle_judge.proofs.JudgmentLemmas.{judged_few}
 use Rattle.bundle_judge.proofs.judging.judge.Goals as goal
 
@@ -8,4 +7,4 @@ pub returns-clause-judged : goal.returns-clause-judged
 returns-clause-judged g c =
     IfOk-weaker c.judge_in-judged.result _ _ (λ j k.
     judged_few c.args.user.now (g.D.DocReader.document c.args.doc.now) c.args.requested.now c.in_ok-ctx.ctx j (omega (arith, c.if-requested-gt-MAX_ACTIONS.false))
-    (c.in_ok-ctx.ensures ∙ ap (λ d. context c.args.user.now (g.D.DocReader.document d)) c.tables.ensures.value) k) c.judge_in-judged.ensures.judged
+    c.in_ok-ctx.ensures.ok k) c.judge_in-judged.ensures.judged

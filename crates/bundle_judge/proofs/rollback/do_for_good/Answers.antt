@@ -1,4 +1,4 @@
-use Rattle.std.proofs.Common.{◌≡◌, ◌<◌, List, ◌++◌, map, length, get_or, ap, ◌∙◌, arith}
+use Rattle.std.proofs.Common.{◌≡◌, ◌<◌, ◌≤◌, List, ◌++◌, map, length, get_or, ap, ◌∙◌, arith}
 use Rattle.doc_model.specs.declared.action.DocAction.{DocAction}
 use Rattle.doc_model.specs.declared.action.Step.{Step}
 use Rattle.doc_model.specs.Inverse.{inverse}
@@ -6,7 +6,9 @@ use Rattle.doc_model.proofs.Choices.{length_map}
 use Rattle.recalc.specs.WayBack.{IsWayBack}
 use Rattle.user_actions.specs.StepLaws.{action_of}
 use Rattle.undo_bundles.specs.InverseSteps.{marked}
+use Rattle.bundle_judge.specs.Losses.{cells_told}
 use Rattle.bundle_judge.specs.Rollback.{led_back}
+use Rattle.bundle_judge.proofs.LossLemmas.{lost_all, lost_next}
 use Rattle.bundle_judge.proofs.RollbackLemmas.{doing_next, left_at}
 use Rattle.bundle_judge.proofs.StepLemmas.{actions_left, noting_next, step_at}
 use Rattle.bundle_judge.proofs.rollback.do_for_good.Goals as goal
@@ -29,4 +31,13 @@ loop-index-preserved g c =
       more.whole,
       noting_next start xs l.index s t l.inverse c.note.new.self x l.invariant.2 (left_at l.index xs x lt is) more.done
           (c.in_ok-note.ensures ∙ ap (λ d. map (marked c.is_direct.result) (inverse (g.D.DocReader.document d) a) ++ l.inverse) c.tables.ensures.value),
+      lost_next start (map action_of xs) l.index s t a (cells_told c.args.traces.now.items) (cells_told l.traces.items) (cells_told c.put_one.new.traces.items) l.invariant.3
+          (actions_left l.index xs x lt is) more.done more.cells,
     )
+
+pub returns-clause-cells : goal.returns-clause-cells
+returns-clause-cells g c =
+    let l = c.loop-index in
+    let xs = c.args.steps.now in
+    let le : length (map action_of xs) ≤ l.index = omega (arith, c.loop-index-test.false, ap (λ (as' : List DocAction). length as') c.actions-actions.ensures) in
+    lost_all (g.D.DocReader.document c.args.doc.now) (map action_of xs) l.index (g.D.DocReader.document l.doc) (cells_told c.args.traces.now.items) (cells_told l.traces.items) l.invariant.3 le

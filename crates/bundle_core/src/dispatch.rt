@@ -48,8 +48,7 @@ pub(crate) struct Turn {
     pub kept: bool,
 }
 
-// Why a request of a session that is not open is refused, where it does not ask for the document;
-// what is not built yet is no request.
+// Why a request of a session that is not open is refused, where it does not ask for the document.
 fn refusal_closed(request: &Request) -> Refusal
     ensures { result ≡ refusal_closed request.now }
 {

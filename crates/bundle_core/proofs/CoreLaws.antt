@@ -57,10 +57,10 @@ more_good n m os le g = record {
 
 -- ---- the end of a connection
 
-abbrev gone_verdicts : State → Verdicts
+abbrev pub gone_verdicts : State → Verdicts
 gone_verdicts st = record { outcome = quiet; document = st.document; is_bundle = false; holder = None }
 
-verdicts_gone : (users : List User) (st : State) (e : Entry) → e.request ≡ request.Gone → verdicts users st e ≡ gone_verdicts st
+pub verdicts_gone : (users : List User) (st : State) (e : Entry) → e.request ≡ request.Gone → verdicts users st e ≡ gone_verdicts st
 verdicts_gone users st e is =
     elim (session_of e.session st) as (λ o. elim o as (λ _. Verdicts) [
       | None ↦ from_closed users st e.request

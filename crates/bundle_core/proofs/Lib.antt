@@ -15,7 +15,9 @@ pub mod ViewLaws
 pub mod DoneBundles
 pub mod TurnLaws
 pub mod UndoLaws
+pub mod RefusalLemmas
 pub mod KeptLaws
 pub mod KeptTurns
+pub mod MachineLaws
 pub mod FollowedLemmas
 pub mod FetchLemmas

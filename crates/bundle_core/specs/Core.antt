@@ -51,10 +51,13 @@ abbrev pub is_full : List Entry → Request → ℕ → Bool
 is_full es r size = not (is_gone r)
     && (nat_le entry_bound (length es) || nat_lt size_bound (sum_by size_of es + size))
 
+-- the session is open after the history
+abbrev pub is_open_in : CoreState → List ℕ → Bool
+is_open_in c name = is_some (session_of name (state_after c.users c.start c.history))
+
 -- an entry without effect is not kept: a session that is not open is gone
 abbrev pub has_no_effect : CoreState → Entry → Bool
-has_no_effect c e = is_gone e.request
-    && not (is_some (session_of e.session (state_after c.users c.start c.history)))
+has_no_effect c e = is_gone e.request && not (is_open_in c e.session)
 
 -- the core after an entry
 abbrev pub with_entry : CoreState → Entry → CoreState

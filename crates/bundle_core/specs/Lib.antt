@@ -8,10 +8,12 @@ pub mod Requests
 pub mod SessionState
 pub mod State
 pub mod Steps
+pub mod Machine
 pub mod ViewChanges
 pub mod Followed
 pub mod Told
 pub mod UndoLaw
+pub mod RefusalLaw
 pub mod KeptBundles
 pub mod KeptCore
 pub mod Turns

@@ -7,7 +7,7 @@ ghost use Rattle.doc_model.specs.WellFormed.{asks_well_formed};
 ghost use Rattle.doc_model.specs.declared.request.Request.TheVariants.{Gone};
 ghost use Rattle.doc_opening.specs.Opening.{FirstBad};
 ghost use Rattle.doc_opening.specs.declared.opening.StartCause.TheVariants.{BadStore, StoreFault};
-ghost use Rattle.bundle_core.specs.Core.{bytes_left, entry_of, history_bound, is_full, is_gone, marked, size_bound};
+ghost use Rattle.bundle_core.specs.Core.{bytes_left, entry_of, history_bound, is_full, is_gone, is_open_in, marked, size_bound};
 ghost use Rattle.bundle_core.specs.KeptCore.{IsKeeping, IsStarted, IsTaken, IsUnchanged};
 ghost use Rattle.bundle_core.specs.Loading.{IsLoaded};
 ghost use Rattle.bundle_core.specs.Steps.{IsAnswer};
@@ -252,6 +252,15 @@ impl<K: Keeper> Core<K> {
             history: EntryList::from(self.entries),
             keeper: self.records.into_keeper(),
         }
+    }
+
+    /// Whether the session is open.
+    ///
+    /// Memory: none. Cost: linear in the open sessions before it.
+    pub(crate) fn has_open(&self, session: &Name) -> bool
+        ensures { result ≡ is_open_in self.now.state session.now }
+    {
+        index_of(&self.sessions, session).is_ok()
     }
 
     fn is_full(&self, request: &Request, size: u32) -> bool

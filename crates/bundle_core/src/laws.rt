@@ -1,5 +1,6 @@
 //! Laws of histories.
 
+ghost use Rattle.bundle_core.specs.RefusalLaw.{ObjectionLaw, RefusalLaw};
 ghost use Rattle.bundle_core.specs.Told.{EqualBytesLaw, IsolationLaw};
 ghost use Rattle.bundle_core.specs.UndoLaw.{LimitsLeaveFewIds, NewDocumentHasFewIds, UndoLaw};
 
@@ -28,3 +29,11 @@ pub fn undo_law()
     seen_law();
     steps_law();
 }
+
+/// Where the users of open sessions see the same in two states, a bundle is refused for its first
+/// action in both for the same reason, or in neither: whatever users, histories and documents these
+/// have. Limits, rules and the keeper answer otherwise.
+pub fn refusal_law()
+    ensures objection { ObjectionLaw }
+    ensures same { RefusalLaw }
+{}

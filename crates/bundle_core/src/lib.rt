@@ -4,10 +4,11 @@
 //! to), `row_tables` (the document in memory), `recalc` (its formula cells evaluated),
 //! `undo_bundles` (a session's bundles with their inverses), `rule_contexts`, `censored_view` and
 //! `action_censor` (what users see and are told), `grist_json` (the texts of lines), `doc_keeper`
-//! and `bundle_records` (the keeper of accepted bundles) and `doc_opening` (the document that its
-//! records lead to). What an entry comes to is said in specs/State.antt, over plain lists, for
-//! every document; what a user sees is what the rules in force for the user let be read of the
-//! document with the value of each formula cell in its place.
+//! and `bundle_records` (the keeper of accepted bundles), `doc_opening` (the document that its
+//! records lead to) and `session_gate` (machines that threads step in turn). What an entry comes to
+//! is said in specs/State.antt, over plain lists, for every document; what a user sees is what the
+//! rules in force for the user let be read of the document with the value of each formula cell in
+//! its place.
 //!
 //! Promises: `Core::start` makes the document of a keeper's records. `Core::step` gives the lines
 //! that the state after the history says, and adds the entry; an accepted bundle is kept before it
@@ -17,7 +18,12 @@
 //! exactly what its own requests, verdicts and views tell; `equal_bytes_law`: histories that it
 //! observes alike give it equal bytes.
 //! `undo_law`: where no other bundle was accepted since, an undo of a session's bundle is never
-//! stale, and where it is accepted the document is that before the bundle.
+//! stale, and where it is accepted the document is that before the bundle. `refusal_law`: a bundle
+//! is refused for its first action by what its session's user sees, and by nothing else.
+//! A core is a `Machine`, so that threads may step it by a gate, by histories alone
+//! (specs/Machine.antt): it answers as `Core::step` does and tells whether that closed the session;
+//! the end of any connection takes no memory. What is told of its keeper is there when the gate is
+//! closed: `history` and `finish` say it of every core (`IsKeeping`).
 //! Costs: a bundle costs its judgement, its actions once more, and a line for each session; its
 //! inverse costs what its actions take away. What is told of a bundle of records costs the rows
 //! that it touched, for each user who has a session open; of one that changes the schema, or what
@@ -33,6 +39,7 @@ mod followed;
 mod history_core;
 mod laws;
 mod loading;
+mod machine;
 mod session;
 mod session_index;
 mod turns;
@@ -41,5 +48,6 @@ mod view_changes;
 pub use history_core::{
     Answer, Core, Finished, LineList, MAX_ENTRIES, MAX_HISTORY_BYTES, StartFault,
 };
-pub use laws::{equal_bytes_law, isolation_law, undo_law};
+pub use laws::{equal_bytes_law, isolation_law, refusal_law, undo_law};
+pub use machine::{CoreOpening, Event, Given};
 pub use session::{MAX_WAITING_BYTES, MAX_WAITING_LINES};

@@ -8,7 +8,6 @@ pub mod Requests
 pub mod SessionState
 pub mod State
 pub mod Steps
-pub mod ViewChanges
 pub mod Followed
 pub mod Told
 pub mod UndoLaw

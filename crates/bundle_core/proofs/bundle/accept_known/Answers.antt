@@ -6,7 +6,7 @@ use Rattle.bundle_core.specs.Dispatch.{Posts, Stays, bundle_reply}
 use Rattle.bundle_judge.specs.JudgedBundles.{after_steps, told_changes}
 use Rattle.bundle_core.specs.Noting.{MayBeUndone}
 use Rattle.bundle_core.proofs.Readied.{all_may_post, few_bundles, same_log}
-use Rattle.bundle_core.proofs.bundle.accept.Goals as goal
+use Rattle.bundle_core.proofs.bundle.accept_known.Goals as goal
 
 pub post-requires-clause-may : goal.post-requires-clause-may
 post-requires-clause-may g c =

@@ -6,7 +6,8 @@ use Rattle.doc_model.specs.declared.view.ViewAction.{ViewAction}
 use Rattle.doc_model.specs.NewDocument.{new_document}
 use Rattle.doc_model.proofs.Choices.{each_mapped, each_unmapped}
 use Rattle.doc_model.specs.Document.{Document}
-use Rattle.context_changes.specs.Users.{is_among}
+use Rattle.acl_rules.specs.declared.decision.Ctx.{Ctx}
+use Rattle.context_changes.specs.Known.{is_known}
 use Rattle.bundle_core.specs.Replies.{reply_of}
 use Rattle.undo_bundles.specs.BundleLog.{count}
 use Rattle.bundle_judge.specs.declared.created.Created.{Created}
@@ -68,14 +69,14 @@ reply_is xs p d undone s ms lt =
     sym (ap (λ n. reply_of (accepted_as undone n (values_told (user_at xs p) s ms))) (bundle_number-is xs p d lt)
     ∙ ap (λ u. reply_of (accepted_as undone (count (get_or xs p d).holder.log + 1) (values_told u s ms))) (user_at-is xs p d lt))
 
-as_told : (f h : User → List ViewAction) (users : List User) (xs : List SessionState) → AllByRecursion (λ x. is_among users x.holder.user ≡ true) xs
-    → ((user : User) → is_among users user ≡ true → f user ≡ h user) → AllByRecursion (IsReady f) xs → AllByRecursion (IsReady h) xs
-as_told f h users [] among same k = tt
-as_told f h users (x ∷ xs) among same k =
-    (record { line = k.0.line ∙ ap (λ as'. line_for as' x) (same x.holder.user among.0); room = k.0.room }, as_told f h users xs among.1 same k.1)
+as_told : (f h : User → List ViewAction) (known : List Ctx) (xs : List SessionState) → AllByRecursion (λ x. is_known known x.holder.user ≡ true) xs
+    → ((user : User) → is_known known user ≡ true → f user ≡ h user) → AllByRecursion (IsReady f) xs → AllByRecursion (IsReady h) xs
+as_told f h known [] among same k = tt
+as_told f h known (x ∷ xs) among same k =
+    (record { line = k.0.line ∙ ap (λ as'. line_for as' x) (same x.holder.user among.0); room = k.0.room }, as_told f h known xs among.1 same k.1)
 
 -- lines that tell the same to the users of all sessions are ready for it
-pub ready_as : (f h : User → List ViewAction) (users : List User) (old new : List SessionState) → AreSame old new → AllByRecursion (λ x. is_among users x.holder.user ≡ true) old
-    → ((user : User) → is_among users user ≡ true → f user ≡ h user) → AllByRecursion (IsReady f) new → AllByRecursion (IsReady h) new
-ready_as f h users old new same among told k =
-    as_told f h users new (each_same (λ (o : Open). is_among users o.holder.user ≡ true) old new same among) told k
+pub ready_as : (f h : User → List ViewAction) (known : List Ctx) (old new : List SessionState) → AreSame old new → AllByRecursion (λ x. is_known known x.holder.user ≡ true) old
+    → ((user : User) → is_known known user ≡ true → f user ≡ h user) → AllByRecursion (IsReady f) new → AllByRecursion (IsReady h) new
+ready_as f h known old new same among told k =
+    as_told f h known new (each_same (λ (o : Open). is_known known o.holder.user ≡ true) old new same among) told k

@@ -1,17 +1,16 @@
--- What users are told of a bundle of records that leaves what is in force for them as it is.
-use Rattle.std.specs.Prelude.{List, [], ◌∷◌}
+-- What users are told of bundles, beside the contexts that are known.
+use Rattle.std.specs.Prelude.{true, List, [], ◌∷◌, ◌≡◌}
+use Rattle.std.specs.List.{AllByRecursion}
 use Rattle.cell_types.specs.declared.cell.CellOld.{CellOld}
 use Rattle.doc_model.specs.declared.action.DocAction.{DocAction}
-use Rattle.doc_model.specs.Changes.{changes}
+use Rattle.doc_model.specs.declared.user.User.{User}
+use Rattle.doc_model.specs.declared.view.ViewAction.{ViewAction}
 use Rattle.doc_model.specs.Document.{Document}
-use Rattle.recalc.specs.Evaluated.{filled}
 use Rattle.acl_rules.specs.declared.decision.Ctx.{Ctx}
-use Rattle.acl_reading.specs.RulesLet.{rules_let}
-use Rattle.action_censor.specs.Back.{back}
 use Rattle.action_censor.specs.Step.{Step}
-use Rattle.censored_view.specs.View.{view as shown_by}
-use Rattle.rule_contexts.specs.Context.{view_in}
-use Rattle.bundle_core.specs.declared.view_changes.ToldChanges.{ToldChanges}
+use Rattle.context_changes.specs.Known.{is_known, told_by}
+use Rattle.bundle_judge.specs.JudgedBundles.{told_changes}
+use Rattle.bundle_core.specs.SessionState.{SessionState}
 
 -- actions, each with the cells that it changed
 abbrev pub with_cells : List DocAction → List (List CellOld) → List Step
@@ -20,10 +19,12 @@ with_cells (a ∷ actions) [] = []
 with_cells (a ∷ actions) (cells ∷ told) =
     record { action = a; cells = cells } ∷ with_cells actions told
 
--- what the user of a context is told: the changes from what it shows of the document before the
--- steps to what it shows now
-abbrev pub followed : List Step → Document → Ctx → ToldChanges
-followed ks s x = record {
-  user = x.user.user;
-  actions = changes (shown_by (rules_let x) (back ks (filled s))) (view_in x s);
-}
+-- the context of each session's user is among these
+abbrev pub AreAllKnown : List Ctx → List SessionState → Type 0
+AreAllKnown xs sessions = AllByRecursion (λ x. is_known xs x.holder.user ≡ true) sessions
+
+-- beside these contexts it is told what their users are told of the actions
+abbrev pub IsToldOf : Document → List DocAction → List Ctx → List (List ViewAction) → Type 0
+IsToldOf s actions xs told =
+    (user : User) → is_known xs user ≡ true
+    → told_by xs told user ≡ told_changes s actions user

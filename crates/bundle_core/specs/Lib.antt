@@ -9,7 +9,6 @@ pub mod SessionState
 pub mod State
 pub mod Steps
 pub mod Machine
-pub mod ViewChanges
 pub mod Followed
 pub mod Told
 pub mod UndoLaw

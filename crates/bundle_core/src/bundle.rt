@@ -1,14 +1,20 @@
 //! An accepted bundle: its actions are done, and each open session is told of them.
 
-ghost use Rattle.std.specs.Prelude.{true, ◌≡◌, ◌+◌, ◌<◌, ◌^◌, [], ◌∷◌, ◌++◌, ◌≤◌, length, map, get_or, IfOk, OnOk, OnErr, vec_len, vec_capacity, IfSome, None};
+ghost use Rattle.std.specs.Prelude.{List, true, ◌≡◌, ◌+◌, ◌<◌, ◌^◌, [], ◌∷◌, ◌++◌, ◌≤◌, length, map, get_or, IfOk, OnOk, OnErr, vec_len, vec_capacity, IfSome, None};
 ghost use Rattle.std.specs.List.{AllByRecursion, insert};
 ghost use Rattle.doc_model.specs.Apply.{all_valid, apply_all};
 ghost use Rattle.user_actions.specs.StepLaws.{action_of};
 ghost use Rattle.undo_bundles.specs.BundleLog.{count};
 ghost use Rattle.undo_bundles.specs.InverseSteps.{inverse_steps};
 ghost use Rattle.doc_model.specs.DocumentLaws.{IsWhole};
-ghost use Rattle.doc_model.specs.declared.user.User.{User};
-ghost use Rattle.context_changes.specs.Users.{is_among};
+ghost use Rattle.doc_model.specs.Document.{Document};
+ghost use Rattle.doc_model.specs.declared.action.DocAction.{DocAction};
+ghost use Rattle.recalc.specs.Evaluated.{filled};
+ghost use Rattle.action_censor.specs.Step.{are_records, step_of};
+ghost use Rattle.context_changes.specs.Known.{AreKnown, known_after, told_by};
+ghost use Rattle.context_changes.specs.Bundle.{IsBundle};
+ghost use Rattle.context_changes.specs.Told.{IsSeen, told_of as told_in, told_since, view_of};
+ghost use Rattle.bundle_core.specs.Followed.{AreAllKnown, IsToldOf};
 ghost use Rattle.bundle_records.specs.Ledger.{IsNextRecord};
 ghost use Rattle.bundle_core.specs.Replies.{reply_of};
 ghost use Rattle.bundle_core.specs.Dispatch.{AreSame, Posts, bundle_number, bundle_reply};
@@ -18,25 +24,28 @@ ghost use Rattle.bundle_core.specs.Noting.{HasBundleRoom, MayBeUndone, note_of};
 ghost use Rattle.bundle_core.specs.State.{accepted_as, refusal};
 ghost use Rattle.bundle_core.specs.Turns.{IsAcceptance};
 ghost use Rattle.bundle_core.specs.SessionState.{SessionState, IsReady, MayPost, posted_state};
-ghost use Rattle.bundle_core.specs.ViewChanges.{told_by};
-ghost use Rattle.rule_contexts.specs.Context.{view};
+ghost use Rattle.rule_contexts.specs.Context.{view, view_in};
 ghost use Rattle.bundle_judge.specs.Rollback.{AllLeadBack, gone_back};
 
-use crate::followed::{are_of_records, follow_all, steps_told};
+use crate::followed::{are_of_records, steps_told};
+use crate::ruled_document::RuledDocument;
 use crate::session::{BundleNote, OpenSession};
 use crate::turns::{post_all, prepare_all, reply_with, stay_ready};
-use crate::view_changes::{ToldChanges, contexts_of, see_all, tell_changes, users_of};
 use acl_reading::RuleReading;
-use bundle_judge::{BareVerdict, BundlePlan, SplitSteps, all_told, do_for_good, go_back_all};
+use acl_rules::Ctx;
+use action_censor::StepTrace;
+use bundle_judge::{
+    BareVerdict, BundlePlan, Created, SplitSteps, all_told, do_for_good, go_back_all,
+};
 use bundle_records::RecordLedger;
+use context_changes::{KnownContexts, see_all, tell_narrow, tell_whole};
 use doc_keeper::{KeepFault, Keeper};
-use doc_model::{DocTables, Refusal, RetValueList, StepList, User};
+use doc_model::{DocTables, Refusal, RetValueList, StepList, View, ViewActionList};
 use grist_json::Line;
 use recalc::{Doc, Trace};
-use rule_contexts::{context_of, followed_law, may_change_contexts};
+use rule_contexts::{may_change_contexts, same_attributes_law, same_context_law};
 use std::alloc::{AllocError, Global};
 use std::mem;
-use user_attrs::load_attributes;
 
 /// What is ready of an accepted bundle: its reply, and what is noted of it.
 #[derive(Drop)]
@@ -52,13 +61,16 @@ struct KeepReady {
     bundle: ReadyBundle,
     record: Line,
     refusal: Line,
+    next: Option<KnownContexts>,
 }
 
-/// What was done and what is told of it.
+/// What was done, what is told of it beside each context, and what is known of the rules afterwards
+/// where that may not be what was known.
 #[derive(Drop)]
 struct DoneSteps {
     inverse: StepList,
-    told: Vec<ToldChanges>,
+    told: Vec<ViewActionList>,
+    next: Option<KnownContexts>,
 }
 
 /// What became of an accepted bundle, and the lines that its session is given.
@@ -75,7 +87,7 @@ pub(crate) enum Acceptance {
 /// is called; where it fails, what was done is gone back over, and the session is told so.
 pub(crate) fn accept<D: DocTables, K: Keeper>(
     alloc: Global,
-    doc: &mut Doc<D>,
+    doc: &mut RuledDocument<D>,
     sessions: &mut Vec<OpenSession>,
     records: &mut RecordLedger<K>,
     index: usize,
@@ -95,8 +107,68 @@ pub(crate) fn accept<D: DocTables, K: Keeper>(
     ensures err { OnErr result (AreSame sessions.old.items sessions.new.items) }
     ensures err_told { OnErr result (records.new.told ≡ records.old.told) }
 {
+    let known = &mut doc.known;
+    known.keep_at_most(sessions.len());
+    know_all(alloc, &doc.doc, known, sessions)?;
+    accept_known(alloc, &mut doc.doc, known, sessions, records, index, plan)
+}
+
+// Makes the contexts that are missing of the users who have these sessions open.
+fn know_all<D: DocTables>(
+    alloc: Global,
+    doc: &Doc<D>,
+    known: &mut KnownContexts,
+    sessions: &[OpenSession],
+) -> Result<(), AllocError>
+    requires { AreKnown (D.document doc.now) known.old }
+    ensures known { AreKnown (D.document doc.now) known.new }
+    ensures all { OnOk result (AreAllKnown known.new.contexts.items sessions.now) }
+{
+    for session in sessions {
+        known.place_for(alloc, doc, session.user())?;
+    }
+    Ok(())
+}
+
+// Does the same as `accept`, where the context of each session's user is known. What is known of
+// the rules is made anew where the bundle may change it.
+fn accept_known<D: DocTables, K: Keeper>(
+    alloc: Global,
+    doc: &mut Doc<D>,
+    known: &mut KnownContexts,
+    sessions: &mut Vec<OpenSession>,
+    records: &mut RecordLedger<K>,
+    index: usize,
+    plan: &BundlePlan,
+) -> Result<Acceptance, AllocError>
+    requires known { AreKnown (D.document doc.old) known.old }
+    requires all { AreAllKnown known.old.contexts.items sessions.old.items }
+    requires within { index < length sessions.old.items }
+    requires whole { IsWhole (D.document doc.old) }
+    requires valid { all_valid (D.document doc.old) (map action_of plan.now.steps) ≡ true }
+    requires few { AllByRecursion (λ x. x.made < 2 ^ 62) sessions.old.items }
+    requires few_bundles { AllByRecursion (λ x. count x.holder.log < 2 ^ 62) sessions.old.items }
+    requires own { (d : SessionState)
+        → MayBeUndone plan.now.undone (get_or sessions.old.items index d).holder.log }
+    ensures ok { IfOk result (λ a. IsAcceptance (D.document doc.old) (D.document doc.new)
+        sessions.old.items sessions.new.items records.old records.new index plan.now a) }
+    ensures later { records.old.faults ≤ records.new.faults }
+    ensures err_document { OnErr result (D.document doc.new ≡ D.document doc.old) }
+    ensures err { OnErr result (AreSame sessions.old.items sessions.new.items) }
+    ensures err_told { OnErr result (records.new.told ≡ records.old.told) }
+    ensures known { AreKnown (D.document doc.new) known.new }
+{
     let mut traces = Vec::new(alloc);
-    let ready = match ready_to_keep(alloc, doc, sessions, records, index, plan, &mut traces) {
+    let ready = match ready_to_keep(
+        alloc,
+        doc,
+        known,
+        sessions,
+        records,
+        index,
+        plan,
+        &mut traces,
+    ) {
         Ok(ready) => ready,
         Err(fault) => {
             go_back_all(doc, traces);
@@ -107,9 +179,13 @@ pub(crate) fn accept<D: DocTables, K: Keeper>(
         bundle,
         record,
         refusal,
+        next,
     } = ready;
     match records.keep(&record) {
-        Ok(()) => Ok(Acceptance::Done(post(alloc, sessions, index, bundle))),
+        Ok(()) => {
+            known.renew(next);
+            Ok(Acceptance::Done(post(alloc, sessions, index, bundle)))
+        }
         Err(KeepFault::Failed) => {
             go_back_all(doc, traces);
             Ok(Acceptance::Unkept(stay_ready(alloc, sessions, index, refusal)))
@@ -126,12 +202,15 @@ pub(crate) fn accept<D: DocTables, K: Keeper>(
 fn ready_to_keep<D: DocTables, K: Keeper>(
     alloc: Global,
     doc: &mut Doc<D>,
+    known: &KnownContexts,
     sessions: &mut Vec<OpenSession>,
     records: &RecordLedger<K>,
     index: usize,
     plan: &BundlePlan,
     traces: &mut Vec<Trace<D>>,
 ) -> Result<KeepReady, AllocError>
+    requires known { AreKnown (D.document doc.old) known.now }
+    requires all { AreAllKnown known.now.contexts.items sessions.old.items }
     requires within { index < length sessions.old.items }
     requires whole { IsWhole (D.document doc.old) }
     requires valid { all_valid (D.document doc.old) (map action_of plan.now.steps) ≡ true }
@@ -147,6 +226,8 @@ fn ready_to_keep<D: DocTables, K: Keeper>(
         plan.now.undone (after_steps (D.document doc.old) plan.now.steps)
         plan.now.created.items) }
     ensures note { IfOk result (λ r. r.bundle.note ≡ note_of (D.document doc.old) plan.now) }
+    ensures next { IfOk result (λ r.
+        AreKnown (D.document doc.new) (known_after known.now r.next)) }
     ensures record { IfOk result (λ r.
         IsNextRecord records.now.told (map action_of plan.now.steps) r.record) }
     ensures refusal { IfOk result (λ r. r.refusal ≡ reply_of (refusal Refusal.StoreFault)) }
@@ -160,11 +241,12 @@ fn ready_to_keep<D: DocTables, K: Keeper>(
 {
     let record = records.record_of(alloc, plan.steps.action_list())?;
     let refusal = reply_with(alloc, unkept())?;
-    let bundle = ready_bundle(alloc, doc, sessions, index, plan, traces)?;
+    let (bundle, next) = ready_bundle(alloc, doc, known, sessions, index, plan, traces)?;
     Ok(KeepReady {
         bundle,
         record,
         refusal,
+        next,
     })
 }
 
@@ -182,11 +264,14 @@ fn unkept() -> BareVerdict
 fn ready_bundle<D: DocTables>(
     alloc: Global,
     doc: &mut Doc<D>,
+    known: &KnownContexts,
     sessions: &mut Vec<OpenSession>,
     index: usize,
     plan: &BundlePlan,
     traces: &mut Vec<Trace<D>>,
-) -> Result<ReadyBundle, AllocError>
+) -> Result<(ReadyBundle, Option<KnownContexts>), AllocError>
+    requires known { AreKnown (D.document doc.old) known.now }
+    requires all { AreAllKnown known.now.contexts.items sessions.old.items }
     requires within { index < length sessions.old.items }
     requires whole { IsWhole (D.document doc.old) }
     requires valid { all_valid (D.document doc.old) (map action_of plan.now.steps) ≡ true }
@@ -198,10 +283,12 @@ fn ready_bundle<D: DocTables>(
     ensures led { AllLeadBack D.fits D.undone traces.new.items (D.document doc.new) }
     ensures back { gone_back D.fits D.undone traces.new.items (D.document doc.new)
         ≡ D.document doc.old }
-    ensures reply { IfOk result (λ r. r.reply ≡ bundle_reply sessions.old.items index
+    ensures reply { IfOk result (λ r. r.0.reply ≡ bundle_reply sessions.old.items index
         plan.now.undone (after_steps (D.document doc.old) plan.now.steps)
         plan.now.created.items) }
-    ensures note { IfOk result (λ r. r.note ≡ note_of (D.document doc.old) plan.now) }
+    ensures note { IfOk result (λ r. r.0.note ≡ note_of (D.document doc.old) plan.now) }
+    ensures next { IfOk result (λ r.
+        AreKnown (D.document doc.new) (known_after known.now r.1)) }
     ensures same { AreSame sessions.old.items sessions.new.items }
     ensures ready { OnOk result
         (AllByRecursion (IsReady (told_changes (D.document doc.old) (map action_of plan.now.steps)))
@@ -210,27 +297,47 @@ fn ready_bundle<D: DocTables>(
         → HasBundleRoom (get_or sessions.new.items index d)) }
     ensures length { length sessions.new.items ≡ length sessions.old.items }
 {
-    let users = users_of(alloc, sessions)?;
-    let done = done_and_told(alloc, doc, &plan.steps, &users, traces)?;
-    let reply = reply_to(alloc, doc, &sessions[index], plan)?;
-    ready_all(alloc, sessions, index, &done.told)?;
-    Ok(ReadyBundle {
-        reply,
-        note: BundleNote {
-            inverse: done.inverse,
-            undone: plan.undone,
-        },
-    })
+    let done = done_and_told(alloc, doc, known, &plan.steps, traces)?;
+    let reply = reply_to(
+        alloc,
+        doc,
+        known_now(known, &done.next),
+        &sessions[index],
+        plan,
+    )?;
+    ready_all(
+        alloc,
+        sessions,
+        index,
+        known.contexts.as_slice(),
+        &done.told,
+    )?;
+    let note = BundleNote {
+        inverse: done.inverse,
+        undone: plan.undone,
+    };
+    Ok((ReadyBundle { reply, note }, done.next))
 }
 
-// Does the steps, and works out what these users are told of them.
+// What is known of the rules after a bundle.
+fn known_now<'a>(known: &'a KnownContexts, next: &'a Option<KnownContexts>) -> &'a KnownContexts
+    ensures { result.now ≡ known_after known.now next.now }
+{
+    match next {
+        Some(next) => next,
+        None => known,
+    }
+}
+
+// Does the steps, and works out what is told of them beside each known context.
 fn done_and_told<D: DocTables>(
     alloc: Global,
     doc: &mut Doc<D>,
+    known: &KnownContexts,
     steps: &SplitSteps,
-    users: &[User],
     traces: &mut Vec<Trace<D>>,
 ) -> Result<DoneSteps, AllocError>
+    requires known { AreKnown (D.document doc.old) known.now }
     requires whole { IsWhole (D.document doc.old) }
     requires valid { all_valid (D.document doc.old) (map action_of steps.now) ≡ true }
     requires first { traces.old.items ≡ [] }
@@ -239,25 +346,27 @@ fn done_and_told<D: DocTables>(
     ensures led { AllLeadBack D.fits D.undone traces.new.items (D.document doc.new) }
     ensures back { gone_back D.fits D.undone traces.new.items (D.document doc.new)
         ≡ D.document doc.old }
-    ensures told { IfOk result (λ d. (user : User) → is_among users.now user ≡ true
-        → told_by d.told.items user
-        ≡ told_changes (D.document doc.old) (map action_of steps.now) user) }
+    ensures told { IfOk result (λ d. IsToldOf (D.document doc.old) (map action_of steps.now)
+        known.now.contexts.items d.told.items) }
+    ensures next { IfOk result (λ d.
+        AreKnown (D.document doc.new) (known_after known.now d.next)) }
     ensures inverse { IfOk result (λ d. d.inverse ≡ inverse_steps (D.document doc.old) steps.now) }
 {
-    if let Some(done) = done_and_followed(alloc, doc, steps, users, traces)? {
+    if let Some(done) = done_and_followed(alloc, doc, known, steps, traces)? {
         return Ok(done);
     }
-    done_and_seen(alloc, doc, steps, users, traces)
+    done_and_seen(alloc, doc, known, steps, traces)
 }
 
-// Does the steps, and tells each user what changed of all that the user sees.
+// Does the steps, and tells beside each context what changed of all that its user sees.
 fn done_and_seen<D: DocTables>(
     alloc: Global,
     doc: &mut Doc<D>,
+    known: &KnownContexts,
     steps: &SplitSteps,
-    users: &[User],
     traces: &mut Vec<Trace<D>>,
 ) -> Result<DoneSteps, AllocError>
+    requires known { AreKnown (D.document doc.old) known.now }
     requires whole { IsWhole (D.document doc.old) }
     requires valid { all_valid (D.document doc.old) (map action_of steps.now) ≡ true }
     requires first { traces.old.items ≡ [] }
@@ -266,26 +375,64 @@ fn done_and_seen<D: DocTables>(
     ensures led { AllLeadBack D.fits D.undone traces.new.items (D.document doc.new) }
     ensures back { gone_back D.fits D.undone traces.new.items (D.document doc.new)
         ≡ D.document doc.old }
-    ensures told { IfOk result (λ d. (user : User) → is_among users.now user ≡ true
-        → told_by d.told.items user
-        ≡ told_changes (D.document doc.old) (map action_of steps.now) user) }
+    ensures told { IfOk result (λ d. IsToldOf (D.document doc.old) (map action_of steps.now)
+        known.now.contexts.items d.told.items) }
+    ensures next { IfOk result (λ d.
+        AreKnown (D.document doc.new) (known_after known.now d.next)) }
     ensures inverse { IfOk result (λ d. d.inverse ≡ inverse_steps (D.document doc.old) steps.now) }
 {
-    let before = see_all(alloc, doc, users)?;
+    let before = see_known(alloc, doc, known.contexts.as_slice())?;
     let inverse = do_for_good(alloc, doc, steps, traces)?;
-    let told = tell_changes(alloc, doc, &before)?;
-    Ok(DoneSteps { inverse, told })
+    let next = known.anew(alloc, doc)?;
+    let told = tell_anew(alloc, doc, &before, next.contexts.as_slice())?;
+    Ok(DoneSteps {
+        inverse,
+        told,
+        next: Some(next),
+    })
 }
 
-// Does the steps, and follows them in the context of each user; where they may change contexts, it
-// does nothing.
+// What each context shows of the document.
+#[tactic(auto, using(recalc::proofs::FilledLaws::laid_out_law))]
+fn see_known<D: DocTables>(
+    alloc: Global,
+    doc: &Doc<D>,
+    contexts: &[Ctx],
+) -> Result<Vec<View>, AllocError>
+    requires { IsWhole (D.document doc.now) }
+    ensures value { IfOk result
+        (λ l. l.items ≡ map (view_of (filled (D.document doc.now))) contexts.now) }
+    ensures seen { IfOk result (λ l. AllByRecursion IsSeen l.items) }
+{
+    see_all(alloc, doc, contexts)
+}
+
+// What has changed since these views in what each context shows of the document.
+#[tactic(auto, using(recalc::proofs::FilledLaws::laid_out_law))]
+fn tell_anew<D: DocTables>(
+    alloc: Global,
+    doc: &Doc<D>,
+    before: &[View],
+    contexts: &[Ctx],
+) -> Result<Vec<ViewActionList>, AllocError>
+    requires whole { IsWhole (D.document doc.now) }
+    requires seen { AllByRecursion IsSeen before.now }
+    ensures { IfOk result (λ l. l.items
+        ≡ told_since (filled (D.document doc.now)) before.now contexts.now) }
+{
+    tell_whole(alloc, doc, before, contexts)
+}
+
+// Does the steps, and tells beside each context what changed in the rows that they touched; where
+// they may change contexts, it does nothing.
 fn done_and_followed<D: DocTables>(
     alloc: Global,
     doc: &mut Doc<D>,
+    known: &KnownContexts,
     steps: &SplitSteps,
-    users: &[User],
     traces: &mut Vec<Trace<D>>,
 ) -> Result<Option<DoneSteps>, AllocError>
+    requires known { AreKnown (D.document doc.old) known.now }
     requires whole { IsWhole (D.document doc.old) }
     requires valid { all_valid (D.document doc.old) (map action_of steps.now) ≡ true }
     requires first { traces.old.items ≡ [] }
@@ -296,27 +443,50 @@ fn done_and_followed<D: DocTables>(
     ensures led { AllLeadBack D.fits D.undone traces.new.items (D.document doc.new) }
     ensures back { gone_back D.fits D.undone traces.new.items (D.document doc.new)
         ≡ D.document doc.old }
-    ensures told { IfOk result (λ o. IfSome o (λ d. (user : User)
-        → is_among users.now user ≡ true → told_by d.told.items user
-        ≡ told_changes (D.document doc.old) (map action_of steps.now) user)) }
+    ensures told { IfOk result (λ o. IfSome o (λ d. IsToldOf (D.document doc.old)
+        (map action_of steps.now) known.now.contexts.items d.told.items)) }
+    ensures next { IfOk result (λ o. IfSome o (λ d.
+        AreKnown (D.document doc.new) (known_after known.now d.next))) }
     ensures inverse { IfOk result (λ o. IfSome o (λ d.
         d.inverse ≡ inverse_steps (D.document doc.old) steps.now)) }
 {
     if !are_of_records(steps.actions()) {
         return Ok(None);
     }
-    followed_law();
-    let contexts = contexts_of(alloc, doc, users)?;
-    let attributes = load_attributes(alloc, doc.tables())?;
+    same_context_law();
+    same_attributes_law();
     let inverse = do_for_good(alloc, doc, steps, traces)?;
     let done = steps_told(alloc, steps.actions(), traces.as_slice())?;
-    if may_change_contexts(attributes.as_slice(), done.as_slice()) {
+    if may_change_contexts(known.attributes.as_slice(), done.as_slice()) {
         drop((done, inverse));
         go_back_all(doc, mem::replace(traces, Vec::new(alloc)));
         return Ok(None);
     }
-    let told = follow_all(alloc, doc, done.as_slice(), contexts.as_slice())?;
-    Ok(Some(DoneSteps { inverse, told }))
+    let told = tell_touched(alloc, doc, done.as_slice(), known.contexts.as_slice())?;
+    Ok(Some(DoneSteps {
+        inverse,
+        told,
+        next: None,
+    }))
+}
+
+// What each context is told of the steps of records that led to the document, by the rows that they
+// touched.
+#[tactic(auto, using(recalc::proofs::FilledLaws::laid_out_law))]
+fn tell_touched<D: DocTables>(
+    alloc: Global,
+    doc: &Doc<D>,
+    steps: &[StepTrace<'_>],
+    contexts: &[Ctx],
+) -> Result<Vec<ViewActionList>, AllocError>
+    requires whole { IsWhole (D.document doc.now) }
+    requires records { are_records (map step_of steps.now) ≡ true }
+    ensures { IfOk result (λ l. (s : Document) (actions : List DocAction)
+        → IsBundle s actions (map step_of steps.now) (filled (D.document doc.now))
+        → l.items ≡ map (λ x. told_in (filled s) (filled (D.document doc.now)) x x)
+        contexts.now) }
+{
+    tell_narrow(alloc, doc, steps, contexts)
 }
 
 // The verdict of an accepted bundle: where it is an undo, it has no values.
@@ -330,13 +500,14 @@ fn accepted_as(undone: Option<u64>, number: u64, values: RetValueList) -> BareVe
 }
 
 // The reply to a bundle of the session.
-#[tactic(auto, using(recalc::proofs::FilledLaws::laid_out_law))]
 fn reply_to<D: DocTables>(
     alloc: Global,
     doc: &Doc<D>,
+    known: &KnownContexts,
     session: &OpenSession,
     plan: &BundlePlan,
 ) -> Result<Line, AllocError>
+    requires known { AreKnown (D.document doc.now) known.now }
     requires whole { IsWhole (D.document doc.now) }
     requires few { count session.now.holder.log < 2 ^ 62 }
     ensures { IfOk result (λ l. l
@@ -344,10 +515,25 @@ fn reply_to<D: DocTables>(
         (map (told_of (view session.now.holder.user (D.document doc.now)))
         plan.now.created.items))) }
 {
-    let ctx = context_of(alloc, doc, session.user())?;
-    let values = all_told(alloc, &RuleReading { ctx: &ctx }, doc, &plan.created)?;
+    let found = known.found(alloc, doc, session.user())?;
+    let values = values_in(alloc, doc, found.context(), &plan.created)?;
     let number = session.bundles() + 1;
     reply_with(alloc, accepted_as(plan.undone, number, values))
+}
+
+// What is told of what was created, by what a context shows of the document.
+#[tactic(auto, using(recalc::proofs::FilledLaws::laid_out_law))]
+fn values_in<D: DocTables>(
+    alloc: Global,
+    doc: &Doc<D>,
+    ctx: &Ctx,
+    created: &[Created],
+) -> Result<RetValueList, AllocError>
+    requires { IsWhole (D.document doc.now) }
+    ensures { IfOk result
+        (λ l. l ≡ map (told_of (view_in ctx.now (D.document doc.now))) created.now) }
+{
+    all_told(alloc, &RuleReading { ctx }, doc, created)
 }
 
 // Makes ready each session's line, and room for the two that the session of the bundle is given
@@ -356,17 +542,19 @@ fn ready_all(
     alloc: Global,
     sessions: &mut Vec<OpenSession>,
     index: usize,
-    told: &[ToldChanges],
+    contexts: &[Ctx],
+    told: &[ViewActionList],
 ) -> Result<(), AllocError>
     requires within { index < length sessions.old.items }
     requires few { AllByRecursion (λ x. x.made < 2 ^ 63) sessions.old.items }
     ensures same { AreSame sessions.old.items sessions.new.items }
-    ensures ready { OnOk result (AllByRecursion (IsReady (told_by told.now)) sessions.new.items) }
+    ensures ready { OnOk result
+        (AllByRecursion (IsReady (told_by contexts.now told.now)) sessions.new.items) }
     ensures room { IfOk result (λ _. (d : SessionState)
         → HasBundleRoom (get_or sessions.new.items index d)) }
     ensures length { length sessions.new.items ≡ length sessions.old.items }
 {
-    prepare_vec(alloc, sessions, told)?;
+    prepare_vec(alloc, sessions, contexts, told)?;
     let session = &mut sessions[index];
     session.make_bundle_room()
 }
@@ -374,14 +562,16 @@ fn ready_all(
 fn prepare_vec(
     alloc: Global,
     sessions: &mut Vec<OpenSession>,
-    told: &[ToldChanges],
+    contexts: &[Ctx],
+    told: &[ViewActionList],
 ) -> Result<(), AllocError>
     requires { AllByRecursion (λ x. x.made < 2 ^ 63) sessions.old.items }
     ensures same { AreSame sessions.old.items sessions.new.items }
-    ensures ready { OnOk result (AllByRecursion (IsReady (told_by told.now)) sessions.new.items) }
+    ensures ready { OnOk result
+        (AllByRecursion (IsReady (told_by contexts.now told.now)) sessions.new.items) }
     ensures length { length sessions.new.items ≡ length sessions.old.items }
 {
-    prepare_all(alloc, sessions.as_mut_slice(), told)
+    prepare_all(alloc, sessions.as_mut_slice(), contexts, told)
 }
 
 // Gives the session its own lines and notes its bundle, and posts the others theirs.

@@ -24,12 +24,12 @@ ghost use Rattle.bundle_core.specs.Turns.{IsTurn};
 ghost use Rattle.rule_contexts.specs.Context.{view};
 
 use crate::bundle::{Acceptance, accept, put_back};
+use crate::ruled_document::RuledDocument;
 use crate::session::OpenSession;
 use crate::session_index::index_of;
 use crate::turns::{give, leave, line_alone, reply_alone, reply_with, stay};
-use crate::view_changes::{seen_by, table_seen};
 use action_limits::Tally;
-use bundle_judge::{BareVerdict, JudgedBundle, judge, judge_own_undo};
+use bundle_judge::{BareVerdict, JudgedBundle};
 use bundle_records::RecordLedger;
 use doc_keeper::Keeper;
 use doc_model::{
@@ -38,7 +38,6 @@ use doc_model::{
 };
 use grist_json::{Line, write_reply};
 use plain_view::changes;
-use recalc::Doc;
 use std::alloc::{AllocError, Global};
 
 /// The lines that are given at an entry, and whether the entry is kept.
@@ -112,7 +111,7 @@ fn quiet(lines: Result<Vec<Line>, AllocError>) -> Result<Turn, AllocError>
 pub(crate) fn answer<D: DocTables, K: Keeper>(
     alloc: Global,
     users: &[User],
-    doc: &mut Doc<D>,
+    doc: &mut RuledDocument<D>,
     tally: &mut Tally,
     sessions: &mut Vec<OpenSession>,
     records: &mut RecordLedger<K>,
@@ -146,7 +145,7 @@ pub(crate) fn answer<D: DocTables, K: Keeper>(
 fn answer_closed<D: DocTables>(
     alloc: Global,
     users: &[User],
-    doc: &Doc<D>,
+    doc: &RuledDocument<D>,
     sessions: &mut Vec<OpenSession>,
     index: usize,
     entry: &Entry,
@@ -170,7 +169,7 @@ fn answer_closed<D: DocTables>(
 fn open<D: DocTables>(
     alloc: Global,
     users: &[User],
-    doc: &Doc<D>,
+    doc: &RuledDocument<D>,
     sessions: &mut Vec<OpenSession>,
     index: usize,
     entry: &Entry,
@@ -193,7 +192,7 @@ fn open<D: DocTables>(
 fn open_for<D: DocTables>(
     alloc: Global,
     users: &[User],
-    doc: &Doc<D>,
+    doc: &RuledDocument<D>,
     sessions: &mut Vec<OpenSession>,
     index: usize,
     entry: &Entry,
@@ -219,13 +218,17 @@ fn open_for<D: DocTables>(
 }
 
 // The reply that shows a user all that the user sees of the document.
-fn show_all<D: DocTables>(alloc: Global, doc: &Doc<D>, user: &User) -> Result<Vec<Line>, AllocError>
+fn show_all<D: DocTables>(
+    alloc: Global,
+    doc: &RuledDocument<D>,
+    user: &User,
+) -> Result<Vec<Line>, AllocError>
     requires { IsWhole (D.document doc.now) }
     ensures { IfOk result (λ v. v.items
         ≡ reply_text (Verdict.Changes (changes [] (view user.now (D.document doc.now)))) ∷ []) }
 {
-    let seen = seen_by(alloc, doc, user)?;
-    line_alone(alloc, reply_showing(alloc, &seen.view)?)
+    let seen = doc.view_seen(alloc, user)?;
+    line_alone(alloc, reply_showing(alloc, &seen)?)
 }
 
 // The reply that shows these tables to one who saw nothing.
@@ -255,7 +258,7 @@ fn too_many() -> BareVerdict
 fn answer_open<D: DocTables, K: Keeper>(
     alloc: Global,
     users: &[User],
-    doc: &mut Doc<D>,
+    doc: &mut RuledDocument<D>,
     tally: &mut Tally,
     sessions: &mut Vec<OpenSession>,
     records: &mut RecordLedger<K>,
@@ -309,7 +312,7 @@ fn answer_open<D: DocTables, K: Keeper>(
 fn answer_fetch<D: DocTables>(
     alloc: Global,
     users: &[User],
-    doc: &Doc<D>,
+    doc: &RuledDocument<D>,
     sessions: &mut Vec<OpenSession>,
     index: usize,
     entry: &Entry,
@@ -331,7 +334,7 @@ fn answer_fetch<D: DocTables>(
 // The reply to a user who asks for a table.
 fn fetch_reply<D: DocTables>(
     alloc: Global,
-    doc: &Doc<D>,
+    doc: &RuledDocument<D>,
     user: &User,
     table: &str,
 ) -> Result<Line, AllocError>
@@ -340,7 +343,7 @@ fn fetch_reply<D: DocTables>(
         (shown_if_any (asked_table table.now (view user.now (D.document doc.now))))
         (view user.now (D.document doc.now)) ≡ l ∷ []) }
 {
-    let asked = table_seen(alloc, doc, user, table)?;
+    let asked = doc.table_seen(alloc, user, table)?;
     if asked.tables.is_empty() {
         return reply_with(alloc, refused(Refusal::NoSuchTable));
     }
@@ -352,7 +355,7 @@ fn fetch_reply<D: DocTables>(
 fn answer_bundle<D: DocTables, K: Keeper>(
     alloc: Global,
     users: &[User],
-    doc: &mut Doc<D>,
+    doc: &mut RuledDocument<D>,
     tally: &mut Tally,
     sessions: &mut Vec<OpenSession>,
     records: &mut RecordLedger<K>,
@@ -379,13 +382,7 @@ fn answer_bundle<D: DocTables, K: Keeper>(
     ensures err_told { OnErr result (records.new.told ≡ records.old.told) }
     ensures later { records.old.faults ≤ records.new.faults }
 {
-    let judged = judge(
-        alloc,
-        doc,
-        *tally,
-        sessions[index].user(),
-        actions.as_slice(),
-    )?;
+    let judged = doc.judge(alloc, *tally, sessions[index].user(), actions.as_slice())?;
     answer_judged(
         alloc, users, doc, tally, sessions, records, index, entry, judged,
     )
@@ -396,7 +393,7 @@ fn answer_bundle<D: DocTables, K: Keeper>(
 fn answer_undo<D: DocTables, K: Keeper>(
     alloc: Global,
     users: &[User],
-    doc: &mut Doc<D>,
+    doc: &mut RuledDocument<D>,
     tally: &mut Tally,
     sessions: &mut Vec<OpenSession>,
     records: &mut RecordLedger<K>,
@@ -423,7 +420,7 @@ fn answer_undo<D: DocTables, K: Keeper>(
     ensures later { records.old.faults ≤ records.new.faults }
 {
     let session = &sessions[index];
-    let judged = judge_own_undo(alloc, doc, *tally, session.user(), session.log(), number)?;
+    let judged = doc.judge_own_undo(alloc, *tally, session.user(), session.log(), number)?;
     answer_judged(
         alloc, users, doc, tally, sessions, records, index, entry, judged,
     )
@@ -433,7 +430,7 @@ fn answer_undo<D: DocTables, K: Keeper>(
 fn answer_judged<D: DocTables, K: Keeper>(
     alloc: Global,
     users: &[User],
-    doc: &mut Doc<D>,
+    doc: &mut RuledDocument<D>,
     tally: &mut Tally,
     sessions: &mut Vec<OpenSession>,
     records: &mut RecordLedger<K>,

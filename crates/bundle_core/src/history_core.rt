@@ -14,6 +14,7 @@ ghost use Rattle.bundle_core.specs.Steps.{IsAnswer};
 
 use crate::dispatch::{Turn, answer};
 use crate::loading::{Loaded, Opening, load};
+use crate::ruled_document::RuledDocument;
 use crate::session::OpenSession;
 use crate::session_index::index_of;
 use action_limits::Tally;
@@ -23,7 +24,6 @@ use doc_keeper::Keeper;
 use doc_model::{Entry, EntryList, Request, UserList};
 use doc_opening::StartCause;
 use grist_json::Line;
-use recalc::Doc;
 use row_tables::RowTables;
 use std::alloc::{AllocError, Global};
 use std::marker::Model;
@@ -68,7 +68,7 @@ pub struct Core<K: Keeper> {
     alloc: Global,
     users: UserList,
     opening: Opening,
-    doc: Doc<RowTables>,
+    doc: RuledDocument<RowTables>,
     tally: Tally,
     sessions: Vec<OpenSession>,
     entries: Vec<Entry>,

@@ -3,7 +3,7 @@
 //! Stands on `doc_model` (documents, changes, entries), `bundle_judge` (what bundles and undos come
 //! to), `row_tables` (the document in memory), `recalc` (its formula cells evaluated),
 //! `undo_bundles` (a session's bundles with their inverses), `rule_contexts`, `censored_view` and
-//! `action_censor` (what users see and are told), `grist_json` (the texts of lines), `doc_keeper`
+//! `context_changes` (what users see and are told), `grist_json` (the texts of lines), `doc_keeper`
 //! and `bundle_records` (the keeper of accepted bundles), `doc_opening` (the document that its
 //! records lead to) and `session_gate` (machines that threads step in turn). What an entry comes to
 //! is said in specs/State.antt, over plain lists, for every document; what a user sees is what the
@@ -27,8 +27,8 @@
 //! Costs: a bundle costs its judgement, its actions once more, and a line for each session; its
 //! inverse costs what its actions take away. What is told of a bundle of records costs the rows
 //! that it touched, for each user who has a session open; of one that changes the schema, or what
-//! is in force for users, the document. The rules are read for each of these users. A session's
-//! index is found by a walk.
+//! is in force for users, the document. What is in force for a user is read once, and again where
+//! a bundle may have changed it. A session's index is found by a walk.
 //! Read first: specs/State.antt, specs/Told.antt, specs/Core.antt, specs/KeptBundles.antt and
 //! specs/KeptCore.antt, then history_core.rt, loading.rt, dispatch.rt and bundle.rt.
 #![tactic(auto)]
@@ -40,10 +40,10 @@ mod history_core;
 mod laws;
 mod loading;
 mod machine;
+mod ruled_document;
 mod session;
 mod session_index;
 mod turns;
-mod view_changes;
 
 pub use history_core::{
     Answer, Core, Finished, LineList, MAX_ENTRIES, MAX_HISTORY_BYTES, StartFault,

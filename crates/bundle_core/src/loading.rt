@@ -9,6 +9,7 @@ ghost use Rattle.doc_opening.specs.declared.opening.StartCause.TheVariants.{BadS
 ghost use Rattle.bundle_core.specs.Core.{document_of};
 ghost use Rattle.bundle_core.specs.Loading.{IsLoaded, IsLoadedAs};
 
+use crate::ruled_document::RuledDocument;
 use action_limits::Tally;
 use doc_keeper::{KeepFault, Keeper};
 use doc_model::laws::new_document_law;
@@ -28,7 +29,7 @@ pub(crate) enum Opening {
 #[derive(Drop)]
 pub(crate) struct Loaded {
     pub opening: Opening,
-    pub doc: Doc<RowTables>,
+    pub doc: RuledDocument<RowTables>,
     pub tally: Tally,
     pub count: u32,
 }
@@ -70,7 +71,7 @@ fn evaluated(alloc: Global, tables: RowTables, count: u32) -> Result<Loaded, All
         // Never taken: no memory holds so much.
         return Err(AllocError);
     };
-    let doc = Doc::start(alloc, tables)?;
+    let doc = RuledDocument::new(alloc, Doc::start(alloc, tables)?)?;
     Ok(Loaded {
         opening,
         doc,

@@ -10,13 +10,14 @@
 
 ghost use Rattle.std.specs.Prelude.{◌≡◌, ◌<◌, ◌≤◌, ◌+◌, ◌^◌, [], ◌∷◌, ◌++◌, length, option_to_list, None, false, IfOk, OnOk};
 ghost use Rattle.bundle_core.specs.Mailbox.{is_full};
-ghost use Rattle.bundle_core.specs.ViewChanges.{told_by};
+ghost use Rattle.context_changes.specs.Known.{told_by};
 ghost use Rattle.bundle_core.specs.SessionState.{IsReady, IsPrepared, IsEmptied, MayPost, line_for, posted_state};
 ghost use Rattle.bundle_core.specs.Noting.{HasBundleRoom, MayBeUndone, log_after};
 ghost use Rattle.undo_bundles.specs.BundleLog.{count, empty_log};
 
-use crate::view_changes::{ToldChanges, told_to};
+use acl_rules::Ctx;
 use cell_types::Name;
+use context_changes::told_to;
 use doc_model::{StepList, User, ViewActionList};
 use grist_json::{Line, write_stream};
 use std::alloc::{AllocError, Global};
@@ -172,16 +173,21 @@ impl OpenSession {
         self.log.reserve()
     }
 
-    /// Makes ready the line that tells what its user is told, unless that is nothing or the session
-    /// lags. Nothing that can be seen changes, whatever the answer.
-    pub fn prepare(&mut self, alloc: Global, told: &[ToldChanges]) -> Result<(), AllocError>
+    /// Makes ready the line that tells what its user is told beside the user's context, unless that
+    /// is nothing or the session lags. Nothing that can be seen changes, whatever the answer.
+    pub fn prepare(
+        &mut self,
+        alloc: Global,
+        contexts: &[Ctx],
+        told: &[ViewActionList],
+    ) -> Result<(), AllocError>
         requires few { self.old.made < 2 ^ 63 }
         ensures prepared { IsPrepared self.old self.new }
-        ensures ok { OnOk result (IsReady (told_by told.now) self.new) }
+        ensures ok { OnOk result (IsReady (told_by contexts.now told.now) self.new) }
     {
         self.make_room(1)?;
         self.ready = None;
-        if let Some(actions) = told_to(told, &self.user) {
+        if let Some(actions) = told_to(contexts, told, &self.user) {
             self.ready = self.line_for(alloc, actions)?;
         }
         Ok(())

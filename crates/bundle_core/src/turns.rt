@@ -6,11 +6,12 @@ ghost use Rattle.std.specs.List.{AllByRecursion};
 ghost use Rattle.bundle_core.specs.Replies.{reply_of};
 ghost use Rattle.bundle_core.specs.Dispatch.{AreSame, Leaves, Stays};
 ghost use Rattle.bundle_core.specs.SessionState.{SessionState, IsReady, MayPost, posted_state};
-ghost use Rattle.bundle_core.specs.ViewChanges.{told_by};
+ghost use Rattle.context_changes.specs.Known.{told_by};
 
 use crate::session::OpenSession;
-use crate::view_changes::ToldChanges;
+use acl_rules::Ctx;
 use bundle_judge::BareVerdict;
+use doc_model::ViewActionList;
 use grist_json::{Line, write_reply};
 use std::alloc::{AllocError, Global};
 
@@ -114,14 +115,16 @@ pub(crate) fn stay_ready(
 pub(crate) fn prepare_all(
     alloc: Global,
     sessions: &mut [OpenSession],
-    told: &[ToldChanges],
+    contexts: &[Ctx],
+    told: &[ViewActionList],
 ) -> Result<(), AllocError>
     requires { AllByRecursion (λ x. x.made < 2 ^ 63) sessions.old }
     ensures same { AreSame sessions.old sessions.new }
-    ensures ready { OnOk result (AllByRecursion (IsReady (told_by told.now)) sessions.new) }
+    ensures ready { OnOk result
+        (AllByRecursion (IsReady (told_by contexts.now told.now)) sessions.new) }
 {
     for session in sessions.iter_mut() {
-        session.prepare(alloc, told)?;
+        session.prepare(alloc, contexts, told)?;
     }
     Ok(())
 }

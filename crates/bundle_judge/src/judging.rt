@@ -16,7 +16,7 @@ ghost use Rattle.bundle_judge.specs.Created.{created_of};
 ghost use Rattle.bundle_judge.specs.JudgedBundles.{IsJudgedBundle};
 ghost use Rattle.bundle_judge.specs.JudgedActions.{IsDoneAction, IsJudgedAction};
 ghost use Rattle.bundle_judge.specs.Rollback.{AllLeadBack, gone_back};
-ghost use Rattle.rule_contexts.specs.Context.{view_in};
+ghost use Rattle.rule_contexts.specs.Context.{context, view_in};
 
 use crate::bare_verdict::BareVerdict;
 use crate::checking::do_all_checked;
@@ -28,7 +28,7 @@ use acl_checks::laws::unchecked_law;
 use acl_reading::RuleReading;
 use acl_rules::Ctx;
 use action_limits::{Expansion, Tally, expand};
-use doc_model::{DocTables, LimitKind, MAX_ACTIONS, Refusal, StepList, User, UserAction};
+use doc_model::{DocTables, LimitKind, MAX_ACTIONS, Refusal, StepList, UserAction};
 use recalc::{Doc, Trace};
 use rule_contexts::{context_of, seen_law};
 use std::alloc::{AllocError, Global};
@@ -310,22 +310,24 @@ fn judge_checked<D: DocTables>(
     }))
 }
 
-// Judges one action after another under these rules; the traces lead back.
+// Judges one action after another under the rules in force; the traces lead back. Rules that may
+// deny something are read once more, since they are carried along.
 fn judge_in<D: DocTables>(
     alloc: Global,
     doc: &mut Doc<D>,
     tally: Tally,
-    ctx: &mut Ctx,
+    ctx: &Ctx,
     requested: &[UserAction],
     traces: &mut Vec<Trace<D>>,
 ) -> Result<JudgedBundle, AllocError>
+    requires in_force { ctx.now ≡ context ctx.now.user.user (D.document doc.old) }
     requires whole { IsWhole (D.document doc.old) }
     requires tally { IsTally (D.document doc.old) tally }
     requires well_formed { list_all is_well_formed requested.now ≡ true }
     requires few { length requested.now ≤ 2000 }
     requires first { traces.old.items ≡ [] }
     ensures judged { IfOk result (λ j. IsJudgedBundle
-        (judge_from ctx.old (D.document doc.old) 0 requested.now) None (D.document doc.old) j) }
+        (judge_from ctx.now (D.document doc.old) 0 requested.now) None (D.document doc.old) j) }
     ensures led { AllLeadBack D.fits D.undone traces.new.items (D.document doc.new) }
     ensures back { gone_back D.fits D.undone traces.new.items (D.document doc.new)
         ≡ D.document doc.old }
@@ -333,31 +335,32 @@ fn judge_in<D: DocTables>(
     if are_unchecked(ctx) {
         return judge_unchecked(alloc, doc, tally, ctx, requested, traces);
     }
-    judge_checked(alloc, doc, tally, ctx, requested, traces)
+    let mut own = context_of(alloc, doc, &ctx.user.user)?;
+    judge_checked(alloc, doc, tally, &mut own, requested, traces)
 }
 
-/// Judges a bundle of the user under the rules of the document now: it is done while it is judged,
-/// and gone back over without memory. The document is as before, whatever the answer.
+/// Judges a bundle of a user by what is in force for the user in the document now: it is done while
+/// it is judged, and gone back over without memory. The document is as before, whatever the answer.
 pub fn judge<D: DocTables>(
     alloc: Global,
     doc: &mut Doc<D>,
     tally: Tally,
-    user: &User,
+    ctx: &Ctx,
     requested: &[UserAction],
 ) -> Result<JudgedBundle, AllocError>
+    requires in_force { ctx.now ≡ context ctx.now.user.user (D.document doc.old) }
     requires whole { IsWhole (D.document doc.old) }
     requires tally { IsTally (D.document doc.old) tally }
     requires well_formed { list_all is_well_formed requested.now ≡ true }
     ensures judged { IfOk result (λ j. IsJudgedBundle
-        (judge user.now (D.document doc.old) requested.now) None (D.document doc.old) j) }
+        (judge ctx.now.user.user (D.document doc.old) requested.now) None (D.document doc.old) j) }
     ensures same { D.document doc.new ≡ D.document doc.old }
 {
     if requested.len() as u64 > MAX_ACTIONS {
         return Ok(JudgedBundle::Refused(limited(LimitKind::Actions, MAX_ACTIONS as u32)));
     }
-    let mut ctx = context_of(alloc, doc, user)?;
     let mut traces = Vec::new(alloc);
-    let judged = judge_in(alloc, doc, tally, &mut ctx, requested, &mut traces);
+    let judged = judge_in(alloc, doc, tally, ctx, requested, &mut traces);
     go_back_all(doc, traces);
     judged
 }

@@ -1,4 +1,5 @@
 mod BundleLemmas
+pub mod KnownLemmas
 mod ToldLemmas
 pub mod UserLemmas
 mod ZipLemmas

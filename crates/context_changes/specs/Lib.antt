@@ -2,3 +2,4 @@ pub mod Told
 pub mod ToldLaws
 pub mod Bundle
 pub mod Users
+pub mod Known

@@ -13,7 +13,10 @@ use doc_model::{DocReader, View, ViewActionList};
 use plain_view::changes;
 use std::alloc::{AllocError, Global};
 
-fn view_of<D: DocReader>(alloc: Global, tables: &D, ctx: &Ctx) -> Result<View, AllocError>
+/// What a context shows of the document.
+///
+/// Errors: out of memory. Cost: that of `whole_view`.
+pub fn view_of<D: DocReader>(alloc: Global, tables: &D, ctx: &Ctx) -> Result<View, AllocError>
     requires { IsLaidOut (D.document tables.now) }
     ensures value { IfOk result (λ v. v ≡ view_of (D.document tables.now) ctx.now) }
     ensures seen { IfOk result IsSeen }

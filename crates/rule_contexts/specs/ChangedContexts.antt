@@ -50,6 +50,13 @@ SameContextLaw =
     → may_change_contexts (attributes_of s) (steps_done s actions) ≡ false
     → (user : User) → context user (apply_all s actions) ≡ context user s
 
+-- and the attributes that the rules say
+abbrev pub SameAttributesLaw : Type 0
+SameAttributesLaw =
+    (s : Document) (actions : List DocAction) → IsWhole s → all_valid s actions ≡ true
+    → may_change_contexts (attributes_of s) (steps_done s actions) ≡ false
+    → attributes_of (apply_all s actions) ≡ attributes_of s
+
 -- so the changes of what a user sees are those that the bundle's steps tell of, in that context
 abbrev pub FollowedLaw : Type 0
 FollowedLaw =

@@ -1,24 +1,31 @@
 //! The rules of a document, with what they know of a user.
 
 ghost use Rattle.std.specs.Prelude.{◌≡◌, IfOk};
+ghost use Rattle.user_attrs.specs.Attributes.{attributes_of};
 ghost use Rattle.rule_contexts.specs.Context.{context};
 
 use acl_rules::{Ctx, load};
 use doc_model::{DocTables, User};
 use recalc::Doc;
 use std::alloc::{AllocError, Global};
-use user_attrs::{load_attributes, user_info};
+use user_attrs::{AttributeRule, load_attributes, user_info};
 
-/// The rules of a document, and what they know of a user by its evaluated cells.
+/// The rules of a document, and what they know of a user by its evaluated cells, where these are
+/// the attributes that they say.
 ///
 /// Errors: out of memory.
 /// Memory: the rules, the user and a row for each attribute. Cost: sorting the rules, reading their
 /// texts, and for each attribute a walk over the rows of its table.
-pub fn context_of<D: DocTables>(alloc: Global, doc: &Doc<D>, user: &User) -> Result<Ctx, AllocError>
+pub fn context_with<D: DocTables>(
+    alloc: Global,
+    doc: &Doc<D>,
+    attributes: &[AttributeRule],
+    user: &User,
+) -> Result<Ctx, AllocError>
+    requires { attributes.now ≡ attributes_of (D.document doc.now) }
     ensures ok { IfOk result (λ x. x ≡ context user.now (D.document doc.now)) }
 {
-    let attributes = load_attributes(alloc, doc.tables())?;
-    let user = user_info(alloc, attributes.as_slice(), user, doc)?;
+    let user = user_info(alloc, attributes, user, doc)?;
     match load(alloc, doc.tables()) {
         Ok(book) => Ok(Ctx { book, user }),
         Err(error) => {
@@ -26,4 +33,15 @@ pub fn context_of<D: DocTables>(alloc: Global, doc: &Doc<D>, user: &User) -> Res
             Err(error)
         }
     }
+}
+
+/// The rules of a document, and what they know of a user by its evaluated cells.
+///
+/// Errors: out of memory.
+/// Memory and cost: those of `context_with`, and of reading the attributes.
+pub fn context_of<D: DocTables>(alloc: Global, doc: &Doc<D>, user: &User) -> Result<Ctx, AllocError>
+    ensures ok { IfOk result (λ x. x ≡ context user.now (D.document doc.now)) }
+{
+    let attributes = load_attributes(alloc, doc.tables())?;
+    context_with(alloc, doc, attributes.as_slice(), user)
 }

@@ -1,6 +1,6 @@
 //! Laws over contexts, each proved as the contract of a function that does nothing.
 
-ghost use Rattle.rule_contexts.specs.ChangedContexts.{FollowedLaw, SameContextLaw};
+ghost use Rattle.rule_contexts.specs.ChangedContexts.{FollowedLaw, SameAttributesLaw, SameContextLaw};
 ghost use Rattle.rule_contexts.specs.SeenLaws.{AllowedLaw, HiddenSchemaLaw, ViewLaw};
 
 use acl_reading::reading_law;
@@ -31,6 +31,14 @@ pub fn seen_law()
 /// A bundle of records that is about no table that contexts read leaves the context of each user.
 pub fn same_context_law()
     ensures { SameContextLaw }
+{
+    laid_out_law();
+    trace_law();
+}
+
+/// Such a bundle leaves the attributes that the rules say, too.
+pub fn same_attributes_law()
+    ensures { SameAttributesLaw }
 {
     laid_out_law();
     trace_law();

@@ -9,8 +9,9 @@
 //! evaluated cells. `hidden_schema_law`, `seen_law`: what a context shows of a whole document is a
 //! view without the schema tables, and the document allows what nothing stands against there.
 //! `may_change_contexts` tells by a bundle's steps whether a context may change;
-//! `same_context_law`: any other bundle leaves the context of each user, so (`followed_law`) what
-//! `follow` of `action_censor` tells in that context are the changes of what the user sees.
+//! `same_context_law`: any other bundle leaves the context of each user, and
+//! (`same_attributes_law`) the attributes that the rules say; so (`followed_law`) what `follow` of
+//! `action_censor` tells in that context are the changes of what the user sees.
 //! Not promised: that a bundle which may change contexts does so.
 //! Read first: specs/Context.antt, then specs/ChangedContexts.antt.
 #![tactic(auto)]
@@ -20,5 +21,5 @@ mod contexts;
 mod laws;
 
 pub use changed_contexts::may_change_contexts;
-pub use contexts::context_of;
-pub use laws::{followed_law, hidden_schema_law, same_context_law, seen_law};
+pub use contexts::{context_of, context_with};
+pub use laws::{followed_law, hidden_schema_law, same_attributes_law, same_context_law, seen_law};

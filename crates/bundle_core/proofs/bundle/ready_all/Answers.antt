@@ -1,6 +1,6 @@
 use Rattle.std.proofs.Common.{◌<◌, length, arith, ◌∙◌}
 use Rattle.std.proofs.lemmas.Result.{on_ok_weaker}
-use Rattle.bundle_core.specs.ViewChanges.{told_by}
+use Rattle.context_changes.specs.Known.{told_by}
 use Rattle.bundle_core.proofs.Prepared.{ready_more, same_set}
 use Rattle.bundle_core.proofs.bundle.ready_all.Goals as goal
 
@@ -15,5 +15,5 @@ returns-clause-ready c =
     let xs = c.prepare_vec.new.sessions.items in
     let y = c.make_bundle_room.new.self in
     let within : c.args.index < length xs = omega (arith, c.requires.within, c.in_ok-prepare_vec.ensures.length) in
-    on_ok_weaker c.make_bundle_room.result (λ room. ready_more (told_by c.args.told.now) xs c.args.index c.index_mut-session.result.now y within c.index_mut-session.ensures.value
+    on_ok_weaker c.make_bundle_room.result (λ room. ready_more (told_by c.args.contexts.now c.args.told.now) xs c.args.index c.index_mut-session.result.now y within c.index_mut-session.ensures.value
     c.make_bundle_room.ensures.prepared c.make_bundle_room.ensures.ready (omega (arith, room.lines)) c.in_ok-prepare_vec.ensures.ready) c.make_bundle_room.ensures.room

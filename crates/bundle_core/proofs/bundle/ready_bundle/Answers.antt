@@ -5,14 +5,13 @@ use Rattle.undo_bundles.specs.BundleLog.{count}
 use Rattle.doc_model.specs.Document.{Document}
 use Rattle.doc_model.specs.DocumentLaws.{IsWhole}
 use Rattle.doc_model.proofs.InverseLaws.{IsWhole-apply_all}
-use Rattle.doc_model.specs.declared.user.User.{User}
-use Rattle.context_changes.specs.Users.{is_among}
+use Rattle.doc_model.specs.declared.view.ViewAction.{ViewAction}
+use Rattle.acl_rules.specs.declared.decision.Ctx.{Ctx}
+use Rattle.context_changes.specs.Known.{told_by}
 use Rattle.bundle_core.specs.Replies.{reply_of}
-use Rattle.bundle_core.specs.declared.view_changes.ToldChanges.{ToldChanges}
 use Rattle.bundle_judge.specs.Created.{told_of}
 use Rattle.bundle_judge.specs.JudgedBundles.{after_steps, told_changes}
 use Rattle.bundle_core.specs.SessionState.{SessionState, IsReady}
-use Rattle.bundle_core.specs.ViewChanges.{told_by}
 use Rattle.bundle_core.specs.State.{accepted_as}
 use Rattle.rule_contexts.specs.Context.{view}
 use Rattle.bundle_core.proofs.Readied.{ready_as, reply_is}
@@ -41,9 +40,9 @@ pub returns-clause-ready : goal.returns-clause-ready
 returns-clause-ready g c =
     let s = g.D.DocReader.document c.args.doc.now in
     let p = c.args.plan.now in
-    let Q : List SessionState → Type 0 = λ xs. AllByRecursion (λ x. is_among c.in_ok-users.users.items x.holder.user ≡ true) xs in
-    let T : List ToldChanges → Type 0 = λ l. AllByRecursion (IsReady (told_by l)) c.ready_all.new.sessions.items in
-    ready_as (told_by c.in_ok-done.done.told.items) (told_changes s (map action_of p.steps)) c.in_ok-users.users.items c.args.sessions.now.items c.ready_all.new.sessions.items
-    c.in_ok-ready_all.ensures.same (subst Q c.deref.ensures.value c.in_ok-users.ensures)
-    (λ user among. c.in_ok-done.ensures.told user (let R : List User → Type 0 = λ l. is_among l user ≡ true in subst R (sym c.deref-2.ensures.value) among))
-    (subst T c.deref-3.ensures.value c.in_ok-ready_all.ensures.ready)
+    let xs = c.args.known.now.contexts.items in
+    let X : List Ctx → Type 0 = λ l. AllByRecursion (IsReady (told_by l c.deref.result.now)) c.ready_all.new.sessions.items in
+    let T : List (List ViewAction) → Type 0 = λ l. AllByRecursion (IsReady (told_by xs l)) c.ready_all.new.sessions.items in
+    ready_as (told_by xs c.in_ok-done.done.told.items) (told_changes s (map action_of p.steps)) xs c.args.sessions.now.items c.ready_all.new.sessions.items
+    c.in_ok-ready_all.ensures.same c.requires.all c.in_ok-done.ensures.told
+    (subst T c.deref.ensures.value (subst X c.as_slice.ensures.value c.in_ok-ready_all.ensures.ready))

@@ -19,5 +19,5 @@ returns g c =
     subst P (c.accepted_as.ensures
     ∙ ap (λ n. accepted_as p.undone (n + 1) c.in_ok-values.values) c.bundles-number.ensures
     ∙ ap (λ vs. accepted_as p.undone (count h.log + 1) vs) (c.in_ok-values.ensures
-    ∙ ap (λ x. map (told_of (shown_by (rules_let x) (filled s))) c.deref.result.now) (c.in_ok-ctx.ensures.ok ∙ ap (λ u. context u s) c.user.ensures)
+    ∙ ap (λ x. map (told_of (shown_by (rules_let x) (filled s))) c.deref.result.now) (c.context.ensures ∙ c.in_ok-found.ensures ∙ ap (λ u. context u s) c.user.ensures)
     ∙ ap (λ ms. map (told_of (view h.user s)) ms) c.deref.ensures.value)) c.reply_with.ensures

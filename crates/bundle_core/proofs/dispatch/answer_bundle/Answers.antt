@@ -14,7 +14,7 @@ use Rattle.bundle_core.proofs.dispatch.answer_bundle.Goals as goal
 pub answer_judged-requires-clause-judged : goal.answer_judged-requires-clause-judged
 answer_judged-requires-clause-judged g c =
     λ d. let s = g.D.DocReader.document c.args.doc.now in
-    let t = g.D.DocReader.document c.judge.new.doc in
+    let t = g.D.DocReader.document c.judge.new.self in
     let b = c.in_ok-judged.judged in
     let P : List UserAction → Type 0 = λ l. IsJudgedBundle (judge c.user.result.now s l) None s b in
     let Q : User → Type 0 = λ u. IsJudgedBundle (judge u s c.args.actions.now) None s b in

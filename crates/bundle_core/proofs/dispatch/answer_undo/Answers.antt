@@ -13,7 +13,7 @@ use Rattle.bundle_core.proofs.dispatch.answer_undo.Goals as goal
 pub answer_judged-requires-clause-judged : goal.answer_judged-requires-clause-judged
 answer_judged-requires-clause-judged g c =
     λ d. let s = g.D.DocReader.document c.args.doc.now in
-    let t = g.D.DocReader.document c.judge_own_undo.new.doc in
+    let t = g.D.DocReader.document c.judge_own_undo.new.self in
     let b = c.in_ok-judged.judged in
     let n = c.args.number in
     let X : SessionState → Type 0 = λ x. IsJudgedBundle (judge_own_undo x.holder.user (undo_of x.holder.log n) s) (Some n) s b in

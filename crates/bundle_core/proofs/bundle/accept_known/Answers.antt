@@ -1,0 +1,60 @@
+use Rattle.std.proofs.Common.{ℕ, List, map, get_or, Option, Err, ap, sym, subst, ◌∙◌}
+use Rattle.user_actions.specs.StepLaws.{action_of}
+use Rattle.undo_bundles.specs.BundleLog.{Log}
+use Rattle.bundle_core.specs.declared.session.BundleNote.{BundleNote}
+use Rattle.bundle_core.specs.Dispatch.{Posts, Stays, bundle_reply}
+use Rattle.bundle_judge.specs.JudgedBundles.{after_steps, told_changes}
+use Rattle.bundle_core.specs.Noting.{MayBeUndone}
+use Rattle.bundle_core.proofs.Readied.{all_may_post, few_bundles, same_log}
+use Rattle.bundle_core.proofs.bundle.accept_known.Goals as goal
+
+pub post-requires-clause-may : goal.post-requires-clause-may
+post-requires-clause-may g c =
+    all_may_post (told_changes (g.D.DocReader.document c.args.doc.now) (map action_of c.args.plan.now.steps)) c.args.sessions.now.items c.ready_to_keep.new.sessions.items c.in-Ok.ensures.same c.requires.few c.in-Ok.ensures.ready
+
+pub post-requires-clause-few_bundles : goal.post-requires-clause-few_bundles
+post-requires-clause-few_bundles g c = few_bundles c.args.sessions.now.items c.ready_to_keep.new.sessions.items c.in-Ok.ensures.same c.requires.few_bundles
+
+pub post-requires-clause-own : goal.post-requires-clause-own
+post-requires-clause-own g c =
+    λ d. let r = c.in-Ok.ready.bundle in
+    let P : Log → Type 0 = λ log. MayBeUndone c.args.plan.now.undone log in
+    let Q : Option ℕ → Type 0 = λ u. MayBeUndone u (get_or c.ready_to_keep.new.sessions.items c.args.index d).holder.log in
+    subst Q (sym (ap (λ (n : BundleNote). n.undone) c.in-Ok.ensures.note))
+    (subst P (same_log c.args.sessions.now.items c.ready_to_keep.new.sessions.items c.args.index d c.in-Ok.ensures.same) (c.requires.own d))
+
+pub returns-in-Ok-keep-clause-ok : goal.returns-in-Ok-keep-clause-ok
+returns-in-Ok-keep-clause-ok g c =
+    let s = g.D.DocReader.document c.args.doc.now in
+    let old = c.ready_to_keep.new.sessions.items in
+    let new = c.post.new.sessions.items in
+    let r = c.in-Ok.ready.bundle in
+    let P : List ℕ → Type 0 = λ reply. Posts old new c.args.index r.note reply c.post.result.items in
+    let Q : BundleNote → Type 0 = λ note. Posts old new c.args.index note (bundle_reply c.args.sessions.now.items c.args.index c.args.plan.now.undone (after_steps s c.args.plan.now.steps) c.args.plan.now.created.items) c.post.result.items in
+    record {
+      document = c.in-Ok.ensures.document;
+      sessions = record {
+        prepared = c.ready_to_keep.new.sessions.items;
+        same = c.in-Ok.ensures.same;
+        ready = c.in-Ok.ensures.ready;
+        posts = subst Q c.in-Ok.ensures.note (subst P c.in-Ok.ensures.reply c.post.ensures);
+      };
+      line = c.in-Ok.ready.record;
+      next = c.in-Ok.ensures.record;
+      adds = c.in-Ok-keep.ensures.ok;
+    }
+
+pub returns-in-Err-Failed-clause-ok : goal.returns-in-Err-Failed-clause-ok
+returns-in-Err-Failed-clause-ok g c =
+    let prepared = c.ready_to_keep.new.sessions.items in
+    let P : List ℕ → Type 0 = λ reply. Stays prepared c.stay_ready.new.sessions.items c.args.index reply c.stay_ready.result.items in
+    record {
+      document = c.go_back_all-in-Err-Failed.ensures ∙ c.in-Ok.ensures.back;
+      sessions = record {
+        prepared = prepared;
+        same = c.in-Ok.ensures.same;
+        stays = subst P c.in-Ok.ensures.refusal c.stay_ready.ensures;
+      };
+      told = c.in-Err-Failed.ensures.err;
+      failed = c.in-Err-Failed.ensures.cause.failed (ap (λ k. Err k) c.in-Err-Failed.field-0-is);
+    }

@@ -1,6 +1,0 @@
-use Rattle.std.proofs.Common.{sym, ◌∙◌}
-use Rattle.censored_view.proofs.ViewLemmas.{all_pass}
-use Rattle.bundle_core.proofs.view_changes.AskedSelection.rows_taken.Goals as goal
-
-pub returns : goal.returns
-returns c = c.in_ok-all.ensures.items ∙ sym (all_pass c.args.rows.now)

@@ -1,0 +1,178 @@
+//! An evaluated document, with what is known of its rules.
+
+ghost use Rattle.std.specs.Prelude.{◌≡◌, None, Some, true, IfOk};
+ghost use Rattle.std.specs.List.{list_all};
+ghost use Rattle.doc_model.specs.Changes.{IsView};
+ghost use Rattle.doc_model.specs.DocumentLaws.{IsWhole};
+ghost use Rattle.doc_model.specs.WellFormed.{is_well_formed};
+ghost use Rattle.action_limits.specs.Tallies.{IsTally};
+ghost use Rattle.undo_bundles.specs.BundleLog.{undo_of};
+ghost use Rattle.bundle_judge.specs.JudgedBundles.{IsJudgedBundle};
+ghost use Rattle.bundle_judge.specs.Judgement.{judge};
+ghost use Rattle.bundle_judge.specs.Undo.{judge_own_undo};
+ghost use Rattle.rule_contexts.specs.Context.{view, view_in};
+ghost use Rattle.bundle_core.specs.Mailbox.{asked_table};
+
+use acl_reading::RuleReading;
+use acl_rules::Ctx;
+use action_limits::Tally;
+use bundle_judge::{JudgedBundle, judge, judge_own_undo};
+use cell_types::Name;
+use censored_view::{Selection, part, whole_view};
+use context_changes::KnownContexts;
+use doc_model::{DocTables, User, UserAction, View};
+use recalc::Doc;
+use std::alloc::{AllocError, Global};
+use std::marker::Model;
+use undo_bundles::BundleLog;
+
+/// An evaluated document, with what is in force for users in it, as far as it was asked for. It is
+/// seen as the document alone.
+#[derive(Drop)]
+pub(crate) struct RuledDocument<D: DocTables> {
+    pub doc: Doc<D>,
+    pub known: KnownContexts,
+}
+
+impl<D: DocTables> Model for RuledDocument<D> {
+    ghost use Rattle.context_changes.specs.Known.{AreKnown};
+
+    ghost Value = { D };
+
+    ghost view = { λ r. r.doc };
+
+    ghost invariant = { λ r. AreKnown (D.document r.doc) r.known };
+}
+
+// The table of that id, with all its rows.
+#[derive(Drop)]
+struct Asked<'a> {
+    table: &'a str,
+}
+
+impl Selection for Asked<'_> {
+    ghost use Rattle.std.specs.Prelude.{true};
+    ghost use Rattle.std.specs.Str.{bytes_eq};
+
+    ghost takes = { λ x table. bytes_eq table x.table.now };
+
+    ghost takes_row = { λ _ table row. true };
+
+    fn takes_table(&self, table: &Name) -> bool {
+        table.as_str() == self.table
+    }
+
+    fn rows_taken(
+        &self,
+        alloc: Global,
+        _table: &Name,
+        rows: &[u32],
+    ) -> Result<Vec<u32>, AllocError> {
+        let all = Vec::from_slice(alloc, rows)?;
+        Ok(all)
+    }
+}
+
+// What a context shows of the document.
+#[tactic(auto, using(recalc::proofs::FilledLaws::laid_out_law))]
+fn view_in<D: DocTables>(alloc: Global, doc: &Doc<D>, ctx: &Ctx) -> Result<View, AllocError>
+    requires { IsWhole (D.document doc.now) }
+    ensures seen { IfOk result (λ v. v.tables ≡ view_in ctx.now (D.document doc.now)) }
+    ensures is_view { IfOk result (λ v. IsView v.tables) }
+{
+    whole_view(alloc, &RuleReading { ctx }, doc)
+}
+
+// The table of that id as a context shows it, alone; nothing where it does not show it.
+#[tactic(auto, using(recalc::proofs::FilledLaws::laid_out_law))]
+fn table_in<D: DocTables>(
+    alloc: Global,
+    doc: &Doc<D>,
+    ctx: &Ctx,
+    table: &str,
+) -> Result<View, AllocError>
+    requires { IsWhole (D.document doc.now) }
+    ensures seen { IfOk result (λ v. v.tables
+        ≡ asked_table table.now (view_in ctx.now (D.document doc.now))) }
+    ensures is_view { IfOk result (λ v. IsView v.tables) }
+{
+    part(alloc, &RuleReading { ctx }, doc, &Asked { table })
+}
+
+impl<D: DocTables> RuledDocument<D> {
+    /// The document, where nothing was asked of it yet.
+    ///
+    /// Errors: out of memory.
+    pub fn new(alloc: Global, doc: Doc<D>) -> Result<Self, AllocError>
+        ensures { IfOk result (λ r. r ≡ doc) }
+    {
+        let known = KnownContexts::load(alloc, &doc)?;
+        Ok(RuledDocument { doc, known })
+    }
+
+    /// What the user sees now.
+    pub fn view_seen(&self, alloc: Global, user: &User) -> Result<View, AllocError>
+        requires { IsWhole (D.document self.now) }
+        ensures seen { IfOk result (λ v. v.tables ≡ view user.now (D.document self.now)) }
+        ensures is_view { IfOk result (λ v. IsView v.tables) }
+    {
+        let found = self.known.found(alloc, &self.doc, user)?;
+        view_in(alloc, &self.doc, found.context())
+    }
+
+    /// The table of that id as the user sees it now, alone; nothing where the user does not see it.
+    pub fn table_seen(&self, alloc: Global, user: &User, table: &str) -> Result<View, AllocError>
+        requires { IsWhole (D.document self.now) }
+        ensures seen { IfOk result (λ v. v.tables
+            ≡ asked_table table.now (view user.now (D.document self.now))) }
+        ensures is_view { IfOk result (λ v. IsView v.tables) }
+    {
+        let found = self.known.found(alloc, &self.doc, user)?;
+        table_in(alloc, &self.doc, found.context(), table)
+    }
+
+    /// Judges a bundle of the user by what is in force for the user now. The document is as before,
+    /// whatever the answer.
+    ///
+    /// Errors: out of memory.
+    pub fn judge(
+        &mut self,
+        alloc: Global,
+        tally: Tally,
+        user: &User,
+        requested: &[UserAction],
+    ) -> Result<JudgedBundle, AllocError>
+        requires whole { IsWhole (D.document self.old) }
+        requires tally { IsTally (D.document self.old) tally }
+        requires well_formed { list_all is_well_formed requested.now ≡ true }
+        ensures judged { IfOk result (λ j. IsJudgedBundle
+            (judge user.now (D.document self.old) requested.now) None (D.document self.old) j) }
+        ensures same { D.document self.new ≡ D.document self.old }
+    {
+        let place = self.known.place_for(alloc, &self.doc, user)?;
+        let ctx = &self.known.contexts[place];
+        judge(alloc, &mut self.doc, tally, ctx, requested)
+    }
+
+    /// Judges the undo of the bundle of that number in a user's log. The document is as before,
+    /// whatever the answer.
+    ///
+    /// Errors: out of memory.
+    pub fn judge_own_undo(
+        &mut self,
+        alloc: Global,
+        tally: Tally,
+        user: &User,
+        log: &BundleLog,
+        number: u64,
+    ) -> Result<JudgedBundle, AllocError>
+        requires whole { IsWhole (D.document self.old) }
+        requires tally { IsTally (D.document self.old) tally }
+        ensures judged { IfOk result (λ j. IsJudgedBundle
+            (judge_own_undo user.now (undo_of log.now.log number)
+            (D.document self.old)) (Some number) (D.document self.old) j) }
+        ensures same { D.document self.new ≡ D.document self.old }
+    {
+        judge_own_undo(alloc, &mut self.doc, tally, user, log, number)
+    }
+}

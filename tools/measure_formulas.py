@@ -13,13 +13,20 @@ It runs crates/grist_main/out/grist_main, which `rt run` in crates/grist_main ma
 The time of the formula's cells is that of the script with the column less that of the script without it; it
 has the reply and the stream line with all cells in it. Each script is run three times, and the least time
 counts. The memory is that of the peaks, in the same way. The last cell is compared with what it has to be.
+
+One evaluation of a chain is half of that, since a bundle is evaluated as it is judged and as it is done: at
+most, with half of the printing in it; at least, without the printing and the reading of as many numbers,
+which a data column with the same values tells. Where rustc is there, both are compared with what
+tools/boxed_chain.rs takes in the same run for the same additions over boxed values.
 """
 import json
+import os
+import shutil
 import subprocess
 import sys
 import tempfile
 
-from measure_adds import OPEN, PROGRAM, USER, least_time
+from measure_adds import HERE, OPEN, PROGRAM, USER, least_time
 
 FRAME = '{"line":{"actions":%s,"method":"applyUserActions"},"session":"s1"}\n'
 CHAIN = "Run.lookupOne(id=$id - 1).V + $A"
@@ -36,6 +43,11 @@ def frame(*actions):
 
 def table(id, **types):
     return frame(["AddTable", id, [{"id": column, "type": type} for column, type in types.items()]])
+
+
+def whole_rows(id, **columns):
+    """A line that adds all rows with these columns of values."""
+    return [frame(["BulkAddRecord", id, [None] * len(next(iter(columns.values()))), columns])]
 
 
 def rows(id, **columns):
@@ -92,6 +104,26 @@ def show(what, cells, seconds, memory):
     print(f"{what}: {seconds:.3f} s, {1e6 * seconds / cells:.2f} microseconds and {memory / cells:.0f} bytes of peak memory for each formula cell")
 
 
+def boxed(count):
+    """Seconds of the additions of such a chain over boxed values in Rust; none without rustc."""
+    if not shutil.which("rustc"):
+        return None
+    with tempfile.TemporaryDirectory() as folder:
+        program = os.path.join(folder, "boxed_chain")
+        subprocess.run(["rustc", "-O", os.path.join(HERE, "boxed_chain.rs"), "-o", program], check=True)
+        told = subprocess.run([program, str(count)], stdout=subprocess.PIPE, check=True)
+        return count * float(told.stdout) / 1e9
+
+
+def show_evaluation(count, seconds, values):
+    """What one evaluation takes, beside the boxed program."""
+    most, least = seconds / 2, (seconds - values) / 2
+    print(f"one evaluation of {count} rows: {1e6 * least / count:.2f} to {1e6 * most / count:.2f} microseconds a cell")
+    plain = boxed(count)
+    if plain:
+        print(f"boxed in Rust: {1e9 * plain / count:.1f} ns a cell; one evaluation {least / plain:.0f} to {most / plain:.0f} times as long")
+
+
 def chain(count):
     """Seconds of a chain of so many rows, where each cell is its row's number."""
     filled = frame(["BulkAddRecord", "Run", [None] * count, {"A": [1] * count}])
@@ -99,6 +131,8 @@ def chain(count):
     without, lines = [[frame(["AddTable", "Run", columns[:size]]), filled] for size in (1, 2)]
     seconds, memory = between(without, lines, "V", count)
     show(f"chain of {count} rows", count, seconds, memory)
+    numbers = [table("Run", A="Int", V="Int"), *whole_rows("Run", A=[1] * count, V=[*range(1, count + 1)])]
+    show_evaluation(count, seconds, between(without, numbers, "V", count)[0])
     return seconds
 
 

@@ -19,8 +19,9 @@ use Rattle.doc_model.specs.Rows.{has}
 use Rattle.doc_readers.specs.Parts.{grid_at}
 use Rattle.recalc.specs.declared.kept.KeptColumn.{KeptColumn}
 use Rattle.recalc.specs.declared.kept.KeptTable.{KeptTable}
-use Rattle.recalc.specs.Evaluated.{formula_at, formula_in}
-use Rattle.recalc.specs.Kept.{ColumnShape, TableShape, ColumnPart, TablePart, IsKeptOf, blank_column, blank_table, column_part, column_shape, held_at, held_column, held_in, held_table, kept_column_id, kept_table_id, table_part, table_shape, tree_at}
+use Rattle.recalc.specs.Evaluated.{formula_at, formula_in, sheet_of}
+use Rattle.cell_types.specs.declared.column_type.ColType.{ColType}
+use Rattle.recalc.specs.Kept.{column_at, ColumnShape, TableShape, ColumnPart, TablePart, IsKeptOf, blank_column, blank_table, column_part, column_shape, held_at, held_column, held_in, held_table, kept_column_id, kept_table_id, table_part, table_shape, tree_at}
 use Rattle.recalc.specs.Put.{IsPutInColumn, IsPutInTable, IsPutInTables}
 
 -- what is found among images of things
@@ -80,7 +81,7 @@ places_of rows d e same is =
 
 -- a value put keeps the shape
 column_put : (old new : KeptColumn) (p : ℕ) (v : CellValue) → IsPutInColumn old new p v → column_kept new ≡ column_kept old
-column_put old new p v h = λ i. record { id = h.named i; is_formula = h.kind i; tree = h.tree i; size = (ap length h.values ∙ length-set old.values.items p (Some v)) i }
+column_put old new p v h = λ i. record { id = h.named i; ty = h.ty i; is_formula = h.kind i; tree = h.tree i; size = (ap length h.values ∙ length-set old.values.items p (Some v)) i }
 
 table_put : (old new : KeptTable) (j p : ℕ) (v : CellValue) → IsPutInTable old new j p v → shape_kept new ≡ shape_kept old
 table_put old new j p v h = λ i. record { id = h.named i; columns = columns i }
@@ -173,3 +174,56 @@ module _ (s : Document) (ks : List KeptTable) (kept : IsKeptOf s ks) (c : CellId
 
   pub tree_kept : tree_at ks c ≡ formula_of f
   tree_kept = in_document (find_id table_id c.table s) refl formula
+
+-- the type that is kept is the column's
+module _ (s : Document) (ks : List KeptTable) (kept : IsKeptOf s ks) (t c : List ℕ) where
+  abbrev type_of : Option KeptColumn → Option ColType
+  type_of o = option_map (λ (e : KeptColumn). e.ty) o
+
+  in_columns_kind : (rows : List ℕ) (o : Option KeptColumn) (p : Option ColDef) → option_map column_kept o ≡ option_map (column_blank rows) p → type_of o ≡ option_map (λ (d : ColDef). d.info.ty) p
+  in_columns_kind rows None None h = refl
+  in_columns_kind rows None (Some d) h = absurd (cc)
+  in_columns_kind rows (Some e) None h = absurd (cc)
+  in_columns_kind rows (Some e) (Some d) h = ap (option_map (λ (x : ColumnShape). x.ty)) h
+
+  in_tables_kind : (o : Option KeptTable) (p : Option Table) → option_map shape_kept o ≡ option_map shape_blank p
+      → type_of (elim o as (λ _. Option KeptColumn) [ None ↦ None | Some k ↦ find_id kept_column_id c k.columns.items ])
+      ≡ option_map (λ (d : ColDef). d.info.ty) (elim p as (λ _. Option ColDef) [ None ↦ None | Some u ↦ find_id column_id c u.grid.columns ])
+  in_tables_kind None None h = refl
+  in_tables_kind None (Some u) h = absurd (cc)
+  in_tables_kind (Some k) None h = absurd (cc)
+  in_tables_kind (Some k) (Some u) h =
+      let same : shape_kept k ≡ shape_blank u = cc in
+      in_columns_kind u.grid.rows (find_id kept_column_id c k.columns.items) (find_id column_id c u.grid.columns) (find_column k u same c)
+
+  pub kind_kept : type_of (column_at ks t c) ≡ (sheet_of s).kind t c
+  kind_kept = in_tables_kind (find_id kept_table_id t ks) (find_id table_id t s) (find_table s ks kept t)
+
+-- the formula of a column that is found
+tree_by : (o : Option KeptTable) (c : List ℕ) (e : KeptColumn) → elim o as (λ _. Option KeptColumn) [ None ↦ None | Some k ↦ find_id kept_column_id c k.columns.items ] ≡ Some e
+    → elim o as (λ _. Option Tree) [ None ↦ None | Some k ↦ elim (find_id kept_column_id c k.columns.items) as (λ _. Option Tree) [ None ↦ None | Some e ↦ e.tree ] ] ≡ e.tree
+tree_by None c e h = absurd (cc)
+tree_by (Some k) c e h = ap (λ (o : Option KeptColumn). elim o as (λ _. Option Tree) [ None ↦ None | Some e ↦ e.tree ]) h
+
+pub tree_found : (ks : List KeptTable) (c : CellId) (e : KeptColumn) → column_at ks c.table c.column ≡ Some e → tree_at ks c ≡ e.tree
+tree_found ks c e h = tree_by (find_id kept_table_id c.table ks) c.column e h
+
+-- a column with a formula is kept
+module _ (s : Document) (ks : List KeptTable) (kept : IsKeptOf s ks) (c : CellId) (f : List ℕ) (formula : formula_at s c ≡ Some f) where
+  abbrev text_in : Grid ColDef → Option ColDef → Option (List ℕ)
+  text_in g o = elim o as (λ _. Option (List ℕ)) [ None ↦ None | Some d ↦ formula_in g c.row d ]
+
+  no_text : ◌≡◌ {A = Option (List ℕ)} None (Some f) → ⊥
+  no_text e = cc
+
+  none_typed : (g : Grid ColDef) (o : Option ColDef) → text_in g o ≡ Some f → option_map (λ (d : ColDef). d.info.ty) o ≡ None → ⊥
+  none_typed g None e h = no_text e
+  none_typed g (Some d) e h = absurd (cc)
+
+  none_found : (o : Option Table) → elim o as (λ _. Option (List ℕ)) [ None ↦ None | Some t ↦ text_in t.grid (find_id column_id c.column t.grid.columns) ] ≡ Some f
+      → option_map (λ (d : ColDef). d.info.ty) (elim o as (λ _. Option ColDef) [ None ↦ None | Some u ↦ find_id column_id c.column u.grid.columns ]) ≡ None → ⊥
+  none_found None e h = no_text e
+  none_found (Some t) e h = none_typed t.grid (find_id column_id c.column t.grid.columns) e h
+
+  pub column_there : None ≡ column_at ks c.table c.column → ⊥
+  column_there h = none_found (find_id table_id c.table s) formula (sym (kind_kept s ks kept c.table c.column) ∙ ap (option_map (λ (x : KeptColumn). x.ty)) (sym h))

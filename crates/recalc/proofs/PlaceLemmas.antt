@@ -20,6 +20,21 @@ use Rattle.recalc.specs.Cells.{same_cell}
 use Rattle.recalc.specs.Put.{IsPutInTables}
 use Rattle.std.proofs.lemmas.Option.{get_or_from_slice_get}
 
+-- ids whose lengths are compared first
+pub lengths_first : (a b : List ℕ) → (nat_eq (length a) (length b) && bytes_eq a b) ≡ bytes_eq a b
+lengths_first a b = by_test (bytes_eq a b) refl
+  where
+    by_test : (t : Bool) → bytes_eq a b ≡ t → (nat_eq (length a) (length b) && t) ≡ t
+    by_test true e = ap (λ u. u && true) (eq-eqb (length a) (length b) (ap length ((bytes_eq-Decides a b).0 e)))
+    by_test false e = elim (nat_eq (length a) (length b)) as (λ u. (u && false) ≡ false) [ true ↦ refl | false ↦ refl ]
+
+pub other_lengths : (a b : List ℕ) → (length a ≡ length b → ⊥) → bytes_eq a b ≡ false
+other_lengths a b other = by_test (bytes_eq a b) refl
+  where
+    by_test : (t : Bool) → bytes_eq a b ≡ t → t ≡ false
+    by_test true e = absurd (other (ap length ((bytes_eq-Decides a b).0 e)))
+    by_test false e = refl
+
 -- in one column
 pub held-set : (rows : List ℕ) (vs : List (Option CellValue)) (p r : ℕ) (v : CellValue) (q : ℕ) → IsAscending rows → slice_get rows p ≡ Some r → p < length vs
     → held_in rows (set vs p (Some v)) q ≡ cond (nat_eq r q) (Some v) (held_in rows vs q)

@@ -7,6 +7,7 @@ use Rattle.cell_types.specs.declared.value.CellValue.{CellValue}
 use Rattle.cell_types.specs.declared.value.CellValue.TheVariants.{Err}
 use Rattle.cell_types.specs.declared.value.ErrKind.TheVariants.{Circular}
 use Rattle.cell_types.specs.declared.column_type.ColType.{ColType}
+use Rattle.cell_types.specs.declared.value.RowRef.{RowRef}
 use Rattle.formula_eval.specs.declared.outcome.Attempt.{Attempt}
 use Rattle.formula_eval.specs.declared.outcome.Attempt.TheVariants.{Value as Given, Need as Lacks}
 use Rattle.formula_eval.specs.Attempted.{IsAttempt}
@@ -34,6 +35,9 @@ attempt_tells s sheet k sound c f ty e kind (Lacks d) h (Need b) g = subst (λ x
 pub of_tree : (s : Sheet) (k : Values) (c : CellId) (f : List ℕ) (a : Attempt) (o : Option Tree) → o ≡ formula_of f → IsAttempt a (evaluated_some (over s k) (row_of c) o) → IsAttempt a (run_of (over s k) c f)
 unfolding evaluated_text
 of_tree s k c f a o is h = subst (λ x. IsAttempt a (evaluated_some (over s k) (row_of c) x)) is h
+
+pub of_tree_at : (s : Sheet) (k : Values) (c : CellId) (f : List ℕ) (a : Attempt) (at : RowRef) (o : Option Tree) → at ≡ row_of c → o ≡ formula_of f → IsAttempt a (evaluated_some (over s k) at o) → IsAttempt a (run_of (over s k) c f)
+of_tree_at s k c f a at o here is h = of_tree s k c f a o is (subst (λ x. IsAttempt a (evaluated_some (over s k) x o)) here h)
 
 module _ (s : Sheet) (sheet : IsSheet s) (k : Values) (stack front : List CellId) (top : CellId) (is : stack ≡ front ++ top ∷ []) (w : IsWorking s k stack) where
   pub turn_open : IsOpen s k top
@@ -84,3 +88,11 @@ module _ (s : Sheet) (first : Values) (cell : CellId) where
 
   pub settling_stays : (j : Values) (stack : List CellId) → stack ≡ [] → IsSettling s first cell j stack → StaysKnown first j
   settling_stays j stack e w c h = fresh_none j c (subst (λ l. is_fresh j l c ≡ false) e (w.stays c (ap (λ b. not b && true) h)))
+
+-- a cell whose value is found in one attempt
+pub settled_at_once : (s : Sheet) → IsSheet s → (k : Values) (cell : CellId) → IsSound s k → IsOpen s k cell → (v : CellValue) (j : Values) → evaluated s cell ≡ v
+    → ((c : CellId) → j c ≡ cond (same_cell cell c) (Some v) (k c)) → IsSound s j × StaysKnown k j × (is_some (j cell) ≡ true)
+settled_at_once s sheet k cell sound opened v j e puts =
+    let begun = settling_start s k cell sheet sound opened (cell ∷ []) refl in
+    let done = settling_turn s k cell k j (cell ∷ []) [] begun (turn_value s sheet k (cell ∷ []) [] cell refl begun.working v j e puts) in
+    (done.working.sound, settling_stays s k cell j [] refl done, settling_done s k cell j [] refl done)

@@ -1,10 +1,11 @@
 -- Values of formula cells as they are kept: by table and column in the order of the document, and
--- of a formula column one for each row, where it is known, beside its formula. A data column keeps
--- neither.
+-- of a formula column one for each row, where it is known, beside its formula and its type. A data
+-- column keeps its type alone.
 use Rattle.std.specs.Prelude.{ℕ, Bool, true, cond, nat_eq, ◌≡◌, List, [], map, length, Option, Some, None}
 use Rattle.std.specs.List.{AllByRecursion}
 use Rattle.std.specs.Option.{is_some}
 use Rattle.cell_types.specs.declared.cell.CellId.{CellId}
+use Rattle.cell_types.specs.declared.column_type.ColType.{ColType}
 use Rattle.cell_types.specs.declared.value.CellValue.{CellValue}
 use Rattle.formula_parse.specs.FormulaOf.{formula_of}
 use Rattle.formula_parse.specs.Tree.{Tree}
@@ -43,6 +44,13 @@ abbrev pub held_at : Document → List KeptTable → CellId → Option CellValue
 held_at s ks c =
     held_table (grid_at s c.table).rows c.column c.row (find_id kept_table_id c.table ks)
 
+-- what is kept of a column
+abbrev pub column_at : List KeptTable → List ℕ → List ℕ → Option KeptColumn
+column_at ks t c = elim (find_id kept_table_id t ks) [
+  | None ↦ None
+  | Some k ↦ find_id kept_column_id c k.columns.items
+]
+
 -- the formula that is kept for a cell's column
 abbrev pub tree_at : List KeptTable → CellId → Option Tree
 tree_at ks c = elim (find_id kept_table_id c.table ks) [
@@ -54,6 +62,7 @@ tree_at ks c = elim (find_id kept_table_id c.table ks) [
 -- what a column keeps, as a plain list
 pub record ColumnPart : Type 0 where
   pub id : List ℕ
+  pub ty : ColType
   pub is_formula : Bool
   pub tree : Option Tree
   pub values : List (Option CellValue)
@@ -65,6 +74,7 @@ pub record TablePart : Type 0 where
 abbrev pub column_part : KeptColumn → ColumnPart
 column_part e = record {
   id = e.id;
+  ty = e.ty;
   is_formula = e.is_formula;
   tree = e.tree;
   values = e.values.items;
@@ -77,6 +87,7 @@ table_part k = record { id = k.id; columns = map column_part k.columns.items }
 abbrev pub blank_column : List ℕ → ColDef → ColumnPart
 blank_column rows d = record {
   id = d.id;
+  ty = d.info.ty;
   is_formula = d.info.is_formula;
   tree = cond d.info.is_formula (formula_of d.info.formula) None;
   values = cond d.info.is_formula (map (λ _. None) rows) [];
@@ -91,6 +102,7 @@ blank_table t = blank_of t.id t.grid.rows t.grid.columns
 -- the same without the values: how many there are
 pub record ColumnShape : Type 0 where
   pub id : List ℕ
+  pub ty : ColType
   pub is_formula : Bool
   pub tree : Option Tree
   pub size : ℕ
@@ -102,6 +114,7 @@ pub record TableShape : Type 0 where
 abbrev pub column_shape : ColumnPart → ColumnShape
 column_shape e = record {
   id = e.id;
+  ty = e.ty;
   is_formula = e.is_formula;
   tree = e.tree;
   size = length e.values;

@@ -7,6 +7,7 @@ use Rattle.recalc.specs.declared.kept.KeptTable.{KeptTable}
 -- the column after a value was put at the index p
 pub record IsPutInColumn (old new : KeptColumn) (p : ℕ) (v : CellValue) : Type 0 where
   pub named : new.id ≡ old.id
+  pub ty : new.ty ≡ old.ty
   pub kind : new.is_formula ≡ old.is_formula
   pub tree : new.tree ≡ old.tree
   pub values : new.values.items ≡ slice_set old.values.items p (Some v)

@@ -10,6 +10,7 @@ ghost use Rattle.formula_parse.specs.FormulaOf.{formula_of};
 ghost use Rattle.recalc.specs.Cells.{cell_of};
 ghost use Rattle.recalc.specs.Evaluated.{cells_of_column, cells_of_columns, formula_at, sheet_of};
 ghost use Rattle.recalc.specs.Indexes.{AreIndexes};
+ghost use Rattle.recalc.specs.Sheet.{row_of};
 ghost use Rattle.recalc.specs.Kept.{AreKnown, IsEvaluated, IsFurther, IsSettled};
 ghost use Rattle.recalc.specs.Kept.{blank_column, blank_of, blank_table, column_part, held_at, table_part};
 
@@ -17,8 +18,8 @@ use crate::cells::cell_id;
 use crate::indexes::ColumnIndex;
 use crate::kept::{KeptColumn, KeptTable};
 use crate::reading::cell_told;
-use crate::settling::settle;
-use cell_types::{CellText, CellValue, Name};
+use crate::settling::{row_of, settle};
+use cell_types::{CellId, CellText, CellValue, Name, RowRef};
 use doc_model::{ColDef, DocTables};
 use doc_readers::rows_in;
 use formula_eval::Reading;
@@ -55,6 +56,7 @@ fn formula_column(alloc: Global, rows: &[u32], column: &ColDef) -> Result<KeptCo
     let values = blank_values(alloc, rows)?;
     Ok(KeptColumn {
         id: column.id.clone()?,
+        ty: column.info.ty.clone()?,
         is_formula: true,
         tree,
         values,
@@ -69,6 +71,7 @@ fn blank_column(alloc: Global, rows: &[u32], column: &ColDef) -> Result<KeptColu
     }
     Ok(KeptColumn {
         id: column.id.clone()?,
+        ty: column.info.ty.clone()?,
         is_formula: false,
         tree: None,
         values: Vec::new(alloc),
@@ -145,27 +148,25 @@ fn make_known<D: DocTables>(
     tables: &D,
     kept: &mut Vec<KeptTable>,
     indexes: &mut Vec<ColumnIndex>,
-    table: &Name,
-    column: &Name,
-    row: u32,
+    cell: &CellId,
+    at: &RowRef,
 ) -> Result<(), AllocError>
+    requires here { at.now ≡ row_of cell.now }
     requires whole { IsWhole (D.document tables.now) }
     requires settled { IsSettled (D.document tables.now) kept.old.items }
     requires indexed { AreIndexes (sheet_of (D.document tables.now)) indexes.old.items }
-    requires there { is_some (formula_at (D.document tables.now)
-        (cell_of table.now column.now row)) ≡ true }
+    requires there { is_some (formula_at (D.document tables.now) cell.now) ≡ true }
     ensures further { OnOk result
         (IsFurther (D.document tables.now) kept.old.items kept.new.items) }
-    ensures known { OnOk result (is_some (held_at (D.document tables.now) kept.new.items
-        (cell_of table.now column.now row)) ≡ true) }
+    ensures known { OnOk result
+        (is_some (held_at (D.document tables.now) kept.new.items cell.now) ≡ true) }
     ensures indexed { OnOk result
         (AreIndexes (sheet_of (D.document tables.now)) indexes.new.items) }
 {
-    if is_known(tables, kept, table, column, row) {
+    if is_known(tables, kept, &cell.table, &cell.column, cell.row) {
         return Ok(());
     }
-    let cell = cell_id(table, column, row)?;
-    settle(alloc, tables, kept, indexes, cell)
+    settle(alloc, tables, kept, indexes, cell, at)
 }
 
 // Makes the values of a column known, where it is a formula column.
@@ -192,8 +193,13 @@ fn settle_column<D: DocTables>(
     if !column.info.is_formula {
         return Ok(());
     }
+    // The ids are copied once.
+    let mut cell = cell_id(table, &column.id, 0)?;
+    let mut at = row_of(&cell)?;
     for row in rows_in(tables, table) {
-        make_known(alloc, tables, kept, indexes, table, &column.id, *row)?;
+        cell.row = *row;
+        at.row = *row;
+        make_known(alloc, tables, kept, indexes, &cell, &at)?;
     }
     Ok(())
 }

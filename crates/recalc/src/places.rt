@@ -1,6 +1,6 @@
 //! Values found and put by place.
 
-ghost use Rattle.std.specs.Prelude.{◌≡◌, ◌<◌, false, None, Some, length, slice_get, cond, MatchOption};
+ghost use Rattle.std.specs.Prelude.{◌≡◌, ◌<◌, true, false, None, Some, length, slice_get, cond, MatchOption};
 ghost use Rattle.std.specs.List.{position};
 ghost use Rattle.std.specs.Option.{option_copied};
 ghost use Rattle.std.specs.Str.{bytes_eq};
@@ -9,7 +9,7 @@ ghost use Rattle.doc_model.specs.ByIds.{find_id};
 ghost use Rattle.doc_model.specs.DocumentLaws.{IsWhole};
 ghost use Rattle.doc_model.specs.Rows.{IsAscending, has};
 ghost use Rattle.recalc.specs.Evaluated.{sheet_of};
-ghost use Rattle.recalc.specs.Kept.{IsKeptOf, held_at, kept_column_id, kept_table_id};
+ghost use Rattle.recalc.specs.Kept.{IsKeptOf, column_at, held_at, kept_column_id, kept_table_id};
 ghost use Rattle.recalc.specs.Put.{HasPlace, HasSpot, IsPutInColumn, IsPutInTable, IsPutInTables};
 ghost use Rattle.recalc.specs.Cells.{same_cell};
 ghost use Rattle.recalc.specs.Seen.{joined};
@@ -20,12 +20,43 @@ use cell_types::{CellId, CellValue, Name};
 use doc_model::DocTables;
 use doc_readers::rows_in;
 
+/// Whether two ids are the same.
+#[tactic(auto, using(crate::proofs::PlaceLemmas::lengths_first, crate::proofs::PlaceLemmas::other_lengths))]
+pub(crate) fn is_same_id(left: &Name, right: &Name) -> bool
+    ensures { result ≡ bytes_eq left.now right.now }
+{
+    // Lengths first: they differ mostly, and cost least.
+    let (left, right) = (left.as_str(), right.as_str());
+    left.len() == right.len() && left == right
+}
+
+// Whether the row stands at the index.
+fn stands_at(rows: &[u32], index: usize, row: u32) -> bool
+    ensures { result ≡ true → slice_get rows.now index ≡ Some row }
+{
+    match rows.get(index) {
+        Some(found) => *found == row,
+        None => false,
+    }
+}
+
+// The index of a row among rows from 1 on without a gap.
+fn dense_index(row: u32) -> usize {
+    let row = row as usize;
+    if row == 0 { 0 } else { row - 1 }
+}
+
 /// The index of a row among rows that ascend.
 pub(crate) fn row_index(rows: &[u32], row: u32) -> Option<usize>
     requires { IsAscending rows.now }
     ensures { MatchOption result (has rows.now row ≡ false)
         (λ index. slice_get rows.now index ≡ Some row) }
 {
+    // Most tables have no gap.
+    let dense = dense_index(row);
+    if stands_at(rows, dense, row) {
+        return Some(dense);
+    }
     match rows.binary_search(&row) {
         Ok(index) => Some(index),
         Err(_) => None,
@@ -36,16 +67,25 @@ pub(crate) fn row_index(rows: &[u32], row: u32) -> Option<usize>
 pub(crate) fn find_table<'a>(tables: &'a [KeptTable], id: &Name) -> Option<&'a KeptTable>
     ensures { option_copied result ≡ find_id kept_table_id id.now tables.now }
 {
-    tables.iter().find(|table| table.id.as_str() == id.as_str())
+    tables.iter().find(|table| is_same_id(&table.id, id))
 }
 
 /// What is kept of the column of this id.
 pub(crate) fn find_column<'a>(columns: &'a [KeptColumn], id: &Name) -> Option<&'a KeptColumn>
     ensures { option_copied result ≡ find_id kept_column_id id.now columns.now }
 {
-    columns
-        .iter()
-        .find(|column| column.id.as_str() == id.as_str())
+    columns.iter().find(|column| is_same_id(&column.id, id))
+}
+
+/// What is kept of a column.
+pub(crate) fn column_at<'a>(
+    tables: &'a [KeptTable],
+    table: &Name,
+    column: &Name,
+) -> Option<&'a KeptColumn>
+    ensures { option_copied result ≡ column_at tables.now table.now column.now }
+{
+    find_column(&find_table(tables, table)?.columns, column)
 }
 
 /// The value at an index, where it is known.
@@ -61,17 +101,13 @@ pub(crate) fn value_at(values: &[Option<CellValue>], index: usize) -> Option<&Ce
 fn table_index(tables: &[KeptTable], id: &Name) -> Option<usize>
     ensures { result ≡ position (λ k. bytes_eq (kept_table_id k) id.now) tables.now }
 {
-    tables
-        .iter()
-        .position(|table| table.id.as_str() == id.as_str())
+    tables.iter().position(|table| is_same_id(&table.id, id))
 }
 
 fn column_index(columns: &[KeptColumn], id: &Name) -> Option<usize>
     ensures { result ≡ position (λ k. bytes_eq (kept_column_id k) id.now) columns.now }
 {
-    columns
-        .iter()
-        .position(|column| column.id.as_str() == id.as_str())
+    columns.iter().position(|column| is_same_id(&column.id, id))
 }
 
 fn put_in_column(column: &mut KeptColumn, row: usize, value: CellValue)

@@ -1,20 +1,20 @@
 //! What a document and the values known of it tell a formula.
 
 ghost use Rattle.std.specs.Prelude.{◌≡◌, true, Some};
-ghost use Rattle.std.specs.Option.{option_copied};
+ghost use Rattle.std.specs.Option.{option_copied, option_map};
 ghost use Rattle.doc_model.specs.DocumentLaws.{IsWhole};
 ghost use Rattle.doc_model.specs.Readers.{cell_at};
 ghost use Rattle.formula_eval.specs.Asked.{told_of};
 ghost use Rattle.recalc.specs.Cells.{cell_of};
 ghost use Rattle.recalc.specs.Evaluated.{sheet_of};
-ghost use Rattle.recalc.specs.Kept.{IsKeptOf, held_at};
+ghost use Rattle.recalc.specs.Kept.{IsKeptOf, column_at, held_at};
 ghost use Rattle.recalc.specs.Seen.{told_or_needed, told_or_no_row};
 ghost use Rattle.recalc.specs.Sheet.{over};
 
 use crate::candidates::candidates;
 use crate::indexes::ColumnIndex;
 use crate::kept::KeptTable;
-use crate::places::{find_column, find_table, row_index, value_at};
+use crate::places::{column_at, find_column, find_table, row_index, value_at};
 use cell_types::{CellValue, ColType, KeyList, Name};
 use doc_model::DocTables;
 use doc_readers::rows_in;
@@ -105,12 +105,12 @@ pub(crate) fn cell_told<'a, D: DocTables>(
     }
 }
 
-fn column_type<'a, D: DocTables>(tables: &'a D, table: &Name, column: &Name) -> Option<&'a ColType>
+// The type that is kept of a column.
+fn kept_type<'a>(kept: &'a [KeptTable], table: &Name, column: &Name) -> Option<&'a ColType>
     ensures { option_copied result
-        ≡ (sheet_of (D.document tables.now)).kind table.now column.now }
+        ≡ option_map (λ e. e.ty) (column_at kept.now table.now column.now) }
 {
-    let found = doc_readers::find_column(tables, table, column)?;
-    Some(&found.info.ty)
+    Some(&column_at(kept, table, column)?.ty)
 }
 
 impl<'a, D: DocTables> CellSource for KnownReader<'a, D> {
@@ -122,7 +122,7 @@ impl<'a, D: DocTables> CellSource for KnownReader<'a, D> {
         over (sheet_of (D.document r.tables)) (held_at (D.document r.tables) r.kept) };
 
     fn ty(&self, table: &Name, column: &Name) -> Option<&ColType> {
-        column_type(self.tables, table, column)
+        kept_type(self.kept, table, column)
     }
 
     fn rows(&self, table: &Name) -> Option<&[u32]> {

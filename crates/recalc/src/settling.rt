@@ -8,19 +8,19 @@ ghost use Rattle.formula_eval.specs.Attempted.{IsAttempt};
 ghost use Rattle.formula_eval.specs.Eval.{evaluated};
 ghost use Rattle.formula_eval.specs.OfText.{evaluated_some};
 ghost use Rattle.recalc.specs.Indexes.{AreIndexes};
-ghost use Rattle.recalc.specs.Kept.{IsFurther, IsKeptOf, IsSettled, held_at, tree_at};
+ghost use Rattle.recalc.specs.Kept.{IsFurther, IsKeptOf, IsSettled, held_at};
 ghost use Rattle.recalc.specs.Sheet.{row_of};
 ghost use Rattle.recalc.specs.Cells.{same_cell};
 ghost use Rattle.recalc.specs.Stack.{IsOpen, IsWorking, on};
 ghost use Rattle.recalc.specs.Turn.{Follows, IsFound, IsTurn};
 
+use crate::cells::cell_id;
 use crate::indexes::{ColumnIndex, index_lookups};
-use crate::kept::KeptTable;
-use crate::places::{self, find_table, put_value};
+use crate::kept::{KeptColumn, KeptTable};
+use crate::places::{column_at, put_value};
 use crate::reading::KnownReader;
 use cell_types::{CellId, CellValue, ColType, ErrKind, RowRef, convert};
 use doc_model::DocTables;
-use doc_readers::find_column;
 use formula_eval::{Attempt, CellReader, NoteList, Steps, attempt};
 use formula_parse::Formula;
 use std::alloc::{AllocError, Global};
@@ -64,13 +64,11 @@ fn next_of(alloc: Global, ty: &ColType, attempted: Attempt) -> Result<Next, Allo
     }
 }
 
-// The formula that is kept for a cell's column.
-fn tree_at<'a>(kept: &'a [KeptTable], cell: &CellId) -> Option<&'a Formula>
-    ensures { option_copied result ≡ tree_at kept.now cell.now }
+// The formula that is kept of a column.
+fn tree_in(column: &KeptColumn) -> Option<&Formula>
+    ensures { option_copied result ≡ column.now.tree }
 {
-    let found = find_table(kept, &cell.table)?;
-    let held = places::find_column(&found.columns, &cell.column)?;
-    held.tree.as_ref()
+    column.tree.as_ref()
 }
 
 // One attempt at a formula, in a count of its own.
@@ -110,23 +108,14 @@ fn attempt_tree<R: CellReader>(
     attempt_once::<R, Brand>(alloc, formula, at, reader, Blank::new(1))
 }
 
-// One attempt at the formula of a cell.
-fn attempt_cell<R: CellReader>(
-    alloc: Global,
-    tree: Option<&Formula>,
-    cell: &CellId,
-    reader: &R,
-) -> Result<Attempt, AllocError>
-    ensures { IfOk result
-        (λ a. IsAttempt a (evaluated_some (R.told reader.now) (row_of cell.now)
-        (option_copied tree.entry))) }
+/// The row in which a cell stands.
+pub(crate) fn row_of(cell: &CellId) -> Result<RowRef, AllocError>
+    ensures { IfOk result (λ at. at ≡ row_of cell.now) }
 {
-    let table = cell.table.clone()?;
-    let at = RowRef {
-        table,
+    Ok(RowRef {
+        table: cell.table.clone()?,
         row: cell.row,
-    };
-    attempt_tree(alloc, tree, &at, reader)
+    })
 }
 
 // Makes indexes for the lookups of an attempt, so that those of other cells need not scan.
@@ -151,7 +140,9 @@ fn try_cell<D: DocTables>(
     kept: &[KeptTable],
     indexes: &mut Vec<ColumnIndex>,
     cell: &CellId,
+    at: &RowRef,
 ) -> Result<Next, AllocError>
+    requires here { at.now ≡ row_of cell.now }
     requires whole { IsWhole (D.document tables.now) }
     requires settled { IsSettled (D.document tables.now) kept.now }
     requires indexed { AreIndexes (sheet_of (D.document tables.now)) indexes.old.items }
@@ -162,7 +153,7 @@ fn try_cell<D: DocTables>(
     ensures indexed { OnOk result
         (AreIndexes (sheet_of (D.document tables.now)) indexes.new.items) }
 {
-    let Some(column) = find_column(tables, &cell.table, &cell.column) else {
+    let Some(column) = column_at(kept, &cell.table, &cell.column) else {
         unreachable!();
     };
     let reader = KnownReader {
@@ -170,9 +161,9 @@ fn try_cell<D: DocTables>(
         kept,
         indexes: &*indexes,
     };
-    let attempted = attempt_cell(alloc, tree_at(kept, cell), cell, &reader)?;
+    let attempted = attempt_tree(alloc, tree_in(column), at, &reader)?;
     index_attempt(alloc, tables, indexes, &attempted)?;
-    Ok(next_of(alloc, &column.info.ty, attempted)?)
+    Ok(next_of(alloc, &column.ty, attempted)?)
 }
 
 fn turn<D: DocTables>(
@@ -198,7 +189,8 @@ fn turn<D: DocTables>(
     let Some(top) = stack.pop() else {
         unreachable!();
     };
-    match try_cell(alloc, tables, kept, indexes, &top)? {
+    let at = row_of(&top)?;
+    match try_cell(alloc, tables, kept, indexes, &top, &at)? {
         Next::Value(value) => put_value(tables, kept, &top, value),
         Next::Need(cell) => {
             if is_on(&*stack, &top, &cell) {
@@ -212,10 +204,8 @@ fn turn<D: DocTables>(
     Ok(())
 }
 
-/// Evaluates one cell whose value is not known.
-///
-/// Memory: a stack as deep as the chain of cells that it needs.
-pub(crate) fn settle<D: DocTables>(
+// Evaluates one cell whose value is not known, after those that it needs.
+fn settle_chain<D: DocTables>(
     alloc: Global,
     tables: &D,
     kept: &mut Vec<KeptTable>,
@@ -240,4 +230,40 @@ pub(crate) fn settle<D: DocTables>(
         turn(alloc, tables, kept, indexes, &mut stack)?;
     }
     Ok(())
+}
+
+/// Evaluates one cell whose value is not known.
+///
+/// Memory: a stack as deep as the chain of cells that it needs; none where it needs no other.
+pub(crate) fn settle<D: DocTables>(
+    alloc: Global,
+    tables: &D,
+    kept: &mut Vec<KeptTable>,
+    indexes: &mut Vec<ColumnIndex>,
+    cell: &CellId,
+    at: &RowRef,
+) -> Result<(), AllocError>
+    requires here { at.now ≡ row_of cell.now }
+    requires whole { IsWhole (D.document tables.now) }
+    requires indexed { AreIndexes (sheet_of (D.document tables.now)) indexes.old.items }
+    requires settled { IsSettled (D.document tables.now) kept.old.items }
+    requires opened { IsOpen (sheet_of (D.document tables.now))
+        (held_at (D.document tables.now) kept.old.items) cell.now }
+    ensures further { OnOk result
+        (IsFurther (D.document tables.now) kept.old.items kept.new.items) }
+    ensures known { OnOk result
+        (is_some (held_at (D.document tables.now) kept.new.items cell.now) ≡ true) }
+    ensures indexed { OnOk result
+        (AreIndexes (sheet_of (D.document tables.now)) indexes.new.items) }
+{
+    match try_cell(alloc, tables, kept, indexes, cell, at)? {
+        Next::Value(value) => {
+            put_value(tables, kept, cell, value);
+            Ok(())
+        }
+        Next::Need(_) => {
+            let cell = cell_id(&cell.table, &cell.column, cell.row)?;
+            settle_chain(alloc, tables, kept, indexes, cell)
+        }
+    }
 }

@@ -11,5 +11,8 @@ abbrev pub invariant-loop-row : goal.invariant-loop-row
 invariant-loop-row g l = record {
   further : IsFurther (g.D.DocReader.document l.tables) l.initial.kept.items l.kept.items;
   known : EachOf (λ r. is_some (held_at (g.D.DocReader.document l.tables) l.kept.items (cell_of l.table l.column.id r)) ≡ true) l.row-items l.row-index;
+  table : l.cell.table ≡ l.table;
+  column : l.cell.column ≡ l.column.id;
+  at : l.at.table ≡ l.table;
   indexed : AreIndexes (sheet_of (g.D.DocReader.document l.tables)) l.indexes.items;
 }

@@ -3,7 +3,7 @@ use Rattle.recalc.specs.Indexes.{AreIndexes}
 use Rattle.recalc.specs.Kept.{IsKeptOf, held_at}
 use Rattle.recalc.specs.Stack.{work}
 use Rattle.recalc.specs.Turn.{IsSettling}
-use Rattle.recalc.proofs.settling.settle.Given as goal
+use Rattle.recalc.proofs.settling.settle_chain.Given as goal
 
 abbrev pub invariant-settling : goal.invariant-settling
 invariant-settling g l = record {

@@ -6,3 +6,4 @@ pub mod Lines
 pub mod Laws
 pub mod Reading
 pub mod NextLine
+pub mod Ports

@@ -1,11 +1,14 @@
 -- What the sources and sinks in memory tell.
-use Rattle.std.specs.Prelude.{ℕ, ◌-◌, ◌<◌, ◌≡◌, List, drop, length, Contains, ◌⊎◌}
+use Rattle.std.specs.Prelude.{ℕ, ◌-◌, ◌<◌, ◌≡◌, Bool, List, Some, drop, length, Contains, ◌⊎◌}
 use Rattle.io_edges.specs.declared.listed_calls.ListedCalls.{ListedCalls}
 use Rattle.io_edges.specs.declared.memory_source.MemSource.{MemSource}
 use Rattle.io_edges.specs.declared.memory_source.SureSource.{SureSource}
 use Rattle.io_edges.specs.declared.memory_sink.MemSink.{MemSink}
 use Rattle.io_edges.specs.declared.memory_link.MemLink.{MemLink}
 use Rattle.io_edges.specs.declared.memory_link.SureLink.{SureLink}
+use Rattle.io_edges.specs.declared.memory_port.MemPort.{MemPort}
+use Rattle.io_edges.specs.declared.port.Returned.{Returned}
+use Rattle.io_edges.specs.Ports.{PortState}
 
 -- how many calls there were
 abbrev pub calls_of : ListedCalls → ℕ
@@ -74,3 +77,47 @@ sink_of l = l.sink
 -- what a link in memory that never fails reads from
 abbrev pub sure_source_of : SureLink → SureSource
 sure_source_of l = l.source
+
+module _ {L : Type 0} where
+  -- the connections that a port in memory has not handed out yet
+  abbrev pub waiting_of : MemPort L → List L
+  waiting_of p = p.waiting.items
+
+  -- the connections that came back to it
+  abbrev pub back_of : MemPort L → List (Returned L)
+  back_of p = p.back.items
+
+  -- how many connections it has handed out
+  abbrev pub handed_of : MemPort L → ℕ
+  handed_of p = p.handed
+
+  -- whether one of them is out
+  abbrev pub is_lent : MemPort L → Bool
+  is_lent p = p.lent
+
+  -- whether its last answer was that none will come
+  abbrev pub is_ended : MemPort L → Bool
+  is_ended p = p.ended
+
+  -- how often it has failed
+  abbrev pub next_faults : MemPort L → ℕ
+  next_faults p = p.faults
+
+  -- how often it was asked
+  abbrev pub next_calls : MemPort L → ℕ
+  next_calls p = calls_of p.calls
+
+  -- the calls that are to fail
+  abbrev pub failing_nexts : MemPort L → List ℕ
+  failing_nexts p = failing_of p.calls
+
+  -- all that is told of it
+  abbrev pub port_state : MemPort L → PortState L
+  port_state p = record {
+    handed = handed_of p;
+    lent = is_lent p;
+    ended = is_ended p;
+    faults = next_faults p;
+    left = Some (waiting_of p);
+    back = Some (back_of p);
+  }

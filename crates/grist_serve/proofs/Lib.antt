@@ -1,0 +1,10 @@
+mod States
+mod Coming
+mod Kept
+mod TurnLemmas
+mod CallLemmas
+mod LineLaws
+mod Sent
+mod OutLemmas
+mod Completeness
+mod SideLemmas

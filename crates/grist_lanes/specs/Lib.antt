@@ -1,0 +1,5 @@
+pub mod SessionNames
+pub mod Sessions
+pub mod Services
+pub mod InHistory
+pub mod Places

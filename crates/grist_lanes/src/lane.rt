@@ -1,0 +1,98 @@
+//! A lane: the connections of one port, served one after the other by one pass.
+ghost use Rattle.std.specs.Prelude.{◌≡◌, ◌≤◌, ◌<◌, false};
+ghost use Rattle.io_edges.specs.Ports.{PortState};
+ghost use Rattle.session_gate.specs.Gate.{IsPassOf};
+ghost use Rattle.grist_lanes.specs.SessionNames.{session_name};
+ghost use Rattle.grist_lanes.specs.Services.{IsServed, ServesLane, ServesNext, telling};
+
+use crate::session_names::session_name;
+use bundle_core::Core;
+use doc_keeper::Keeper;
+use grist_serve::serve_link;
+use io_edges::{Link, Port, SessionEnd, Sink, Source};
+use session_gate::{Gate, Pass};
+use std::alloc::Global;
+use std::sync::Wait;
+use std::thread::Threads;
+
+// Serves the connection of that number.
+fn serve_connection<R: Threads + Wait + Sync, K: Keeper, L: Link>(
+    rt: &R,
+    alloc: Global,
+    gate: &Gate<Core<K>>,
+    pass: &mut Pass<Core<K>>,
+    lane: u32,
+    number: u64,
+    conn: &mut L,
+) -> SessionEnd
+    requires { IsPassOf gate.now pass.old }
+    ensures own { IsPassOf gate.now pass.new }
+    ensures served { IsServed
+        (telling L.left L.written L.Source.faults L.Sink.faults)
+        (session_name lane number)
+        record {
+          before = conn.old;
+          after = conn.new;
+          end = result;
+          old = pass.old;
+          new = pass.new;
+        } }
+{
+    let Ok(name) = session_name(alloc, lane, number) else {
+        return SessionEnd::NoMemory;
+    };
+    serve_link(rt, alloc, gate, pass, &name, conn)
+}
+
+// Serves the next connection of a port, which has that number, and answers whether there was one.
+fn serve_next<R: Threads + Wait + Sync, K: Keeper, P: Port>(
+    rt: &R,
+    alloc: Global,
+    gate: &Gate<Core<K>>,
+    port: &mut P,
+    pass: &mut Pass<Core<K>>,
+    lane: u32,
+    number: u64,
+) -> bool
+    requires pass { IsPassOf gate.now pass.old }
+    requires home { (P.state port.old).lent ≡ false }
+    ensures own { IsPassOf gate.now pass.new }
+    ensures next { ServesNext
+        (telling P.Conn.left P.Conn.written P.Conn.Source.faults P.Conn.Sink.faults)
+        lane (P.state port.old) (P.state port.new) pass.old pass.new result number }
+{
+    let Ok(Some(mut conn)) = port.next() else {
+        return false;
+    };
+    let end = serve_connection(rt, alloc, gate, pass, lane, number, &mut conn);
+    port.done(conn, end);
+    true
+}
+
+/// Serves the connections of a port, one after the other, until none will come or the port fails.
+/// The session of the k-th one is `session_name lane k`.
+///
+/// It may wait, for connections and for turns. Cost: that of `serve_link` for each connection.
+pub(crate) fn serve_port<R: Threads + Wait + Sync, K: Keeper, P: Port>(
+    rt: &R,
+    alloc: Global,
+    gate: &Gate<Core<K>>,
+    port: &mut P,
+    pass: &mut Pass<Core<K>>,
+    lane: u32,
+)
+    requires pass { IsPassOf gate.now pass.old }
+    requires home { (P.state port.old).lent ≡ false }
+    ensures own { IsPassOf gate.now pass.new }
+    ensures serves { ServesLane
+        (telling P.Conn.left P.Conn.written P.Conn.Source.faults P.Conn.Sink.faults)
+        lane (P.state port.old) (P.state port.new) pass.old pass.new }
+{
+    let mut number = 1;
+    loop {
+        if !serve_next(rt, alloc, gate, port, pass, lane, number) {
+            return;
+        }
+        number += 1;
+    }
+}

@@ -1,0 +1,78 @@
+//! Lanes: a port and a pass each, put together and taken apart.
+ghost use Rattle.std.specs.Prelude.{◌≡◌, ◌≤◌, [], map, vec_capacity, vec_len};
+
+use bundle_core::Core;
+use doc_keeper::Keeper;
+use io_edges::Port;
+use session_gate::Pass;
+
+/// A port, and the pass by which its connections are served.
+pub(crate) struct Lane<P, K: Keeper> {
+    pub port: P,
+    pub pass: Pass<Core<K>>,
+}
+
+// By hand, since a derive would ask it of the pass.
+impl<P: Drop, K: Keeper> Drop for Lane<P, K> {
+    fn drop(self) {
+        let Lane { port: _, pass: _ } = self;
+    }
+}
+
+impl<P, K: Keeper> Lane<P, K> {
+    fn into_parts(self) -> (P, Pass<Core<K>>)
+        ensures { (result.0 ≡ self.port) × (result.1 ≡ self.pass) }
+    {
+        let Lane { port, pass } = self;
+        (port, pass)
+    }
+}
+
+/// Puts each port with the pass in its place into a lane. The vectors keep their room.
+///
+/// Memory: none.
+pub(crate) fn join_lanes<P: Port, K: Keeper>(
+    ports: &mut Vec<P>,
+    passes: &mut Vec<Pass<Core<K>>>,
+    lanes: &mut Vec<Lane<P, K>>,
+)
+    requires count { vec_len ports.old ≡ vec_len passes.old }
+    requires room { vec_len ports.old ≤ vec_capacity lanes.old }
+    requires empty { lanes.old.items ≡ [] }
+    ensures ports { map (λ l. l.port) lanes.new.items ≡ ports.old.items }
+    ensures passes { map (λ l. l.pass) lanes.new.items ≡ passes.old.items }
+    ensures empty { (ports.new.items ≡ []) × (passes.new.items ≡ []) }
+    ensures port_room { vec_capacity ports.new ≡ vec_capacity ports.old }
+    ensures pass_room { vec_capacity passes.new ≡ vec_capacity passes.old }
+{
+    while let Some(port) = ports.pop() {
+        let Some(pass) = passes.pop() else {
+            unreachable!()
+        };
+        lanes.push_reserved(Lane { port, pass });
+    }
+    lanes.reverse();
+}
+
+/// Takes the lanes apart into their ports and passes, in their order.
+///
+/// Memory: none.
+pub(crate) fn part_lanes<P: Port, K: Keeper>(
+    ports: &mut Vec<P>,
+    passes: &mut Vec<Pass<Core<K>>>,
+    lanes: &mut Vec<Lane<P, K>>,
+)
+    requires empty { (ports.old.items ≡ []) × (passes.old.items ≡ []) }
+    requires port_room { vec_len lanes.old ≤ vec_capacity ports.old }
+    requires pass_room { vec_len lanes.old ≤ vec_capacity passes.old }
+    ensures ports { ports.new.items ≡ map (λ l. l.port) lanes.old.items }
+    ensures passes { passes.new.items ≡ map (λ l. l.pass) lanes.old.items }
+    ensures empty { lanes.new.items ≡ [] }
+{
+    lanes.reverse();
+    while let Some(lane) = lanes.pop() {
+        let (port, pass) = lane.into_parts();
+        ports.push_reserved(port);
+        passes.push_reserved(pass);
+    }
+}

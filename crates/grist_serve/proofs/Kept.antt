@@ -1,0 +1,44 @@
+-- A line as far as it is kept asks for what the line does.
+use Rattle.std.proofs.Common.{◌≡◌, ℕ, ◌<◌, ◌≤◌, List, length, nat_lt, Bool, true, false, refl, ap, arith}
+use Rattle.io_edges.specs.Lines.{kept_of}
+use Rattle.io_edges.proofs.LineLemmas.{kept_of-whole, length-kept_of}
+use Rattle.doc_model.specs.declared.request.Request.{Request}
+use Rattle.doc_model.specs.declared.request.Request.TheVariants.{Bad, TooLong, Open, Apply, Undo, Sync, Fetch, Close, Gone}
+use Rattle.grist_json.specs.Requests.{Spells}
+use Rattle.bundle_core.specs.Core.{is_gone}
+use Rattle.grist_serve.specs.Requests.{is_long, line_entries}
+
+test_true : (m n : ℕ) → m < n → nat_lt m n ≡ true
+test_true m n h = grind arith
+
+test_lt : (m n : ℕ) → nat_lt m n ≡ true → m < n
+test_lt m n e = grind arith
+
+test_le : (m n : ℕ) → nat_lt m n ≡ false → n ≤ m
+test_le m n e = grind arith
+
+kept_long : (text : List ℕ) → is_long text ≡ true → is_long (kept_of text) ≡ true
+kept_long text e = test_true 1048576 (length (kept_of text)) (omega (arith, length-kept_of text, test_lt 1048576 (length text) e))
+
+kept_short : (text : List ℕ) → is_long text ≡ false → kept_of text ≡ text
+kept_short text e = kept_of-whole text (omega (arith, test_le 1048576 (length text) e))
+
+module _ (name text : List ℕ) where
+  entries_by : (b : Bool) → is_long text ≡ b → line_entries name (kept_of text) ≡ line_entries name text
+  entries_by true e = rw (kept_long text e, e) refl
+  entries_by false e = ap (line_entries name) (kept_short text e)
+
+  pub kept_entries : line_entries name (kept_of text) ≡ line_entries name text
+  kept_entries = entries_by (is_long text) refl
+
+-- no line spells the end of a connection
+pub stays_open : (r : Request) (text : List ℕ) → Spells r text → is_gone r ≡ false
+stays_open Bad text s = refl
+stays_open TooLong text s = refl
+stays_open (Open token) text s = refl
+stays_open (Apply actions) text s = refl
+stays_open (Undo bundle) text s = refl
+stays_open Sync text s = refl
+stays_open (Fetch table) text s = refl
+stays_open Close text s = refl
+stays_open Gone text s = absurd s.2

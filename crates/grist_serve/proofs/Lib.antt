@@ -1,0 +1,10 @@
+pub mod States
+mod Coming
+mod Kept
+pub mod TurnLemmas
+mod CallLemmas
+mod LineLaws
+mod Sent
+pub mod OutLemmas
+mod Completeness
+mod SideLemmas

@@ -1,0 +1,52 @@
+//! A core with one user, and a gate round it.
+
+ghost use Rattle.std.specs.Prelude.{◌≡◌, ◌<◌, ◌≤◌, All, IfOk, length};
+ghost use Rattle.session_gate.specs.Gate.{IsPassOf};
+
+use bundle_core::Core;
+use cell_types::{CellText, Name};
+use doc_keeper::SureKeeper;
+use doc_model::UserList;
+use grist_json::{UserLine, read_user};
+use session_gate::{Gate, NoGate, PassList};
+use std::alloc::{AllocError, Global};
+
+const USER: &str = r#"{"user":{"access":"editors","email":"e","id":2,"name":"Ed","token":"te"}}"#;
+
+/// A session's name.
+pub(crate) fn name_of(alloc: Global, text: &str) -> Result<Name, AllocError> {
+    Name::try_new(CellText::copy_of(alloc, text)?).ok_or(AllocError)
+}
+
+fn users(alloc: Global) -> Result<UserList, AllocError> {
+    let mut users = UserList::new(alloc);
+    let UserLine::User(user) = read_user(alloc, USER.as_bytes())? else {
+        return Err(AllocError);
+    };
+    match users.push(user) {
+        Ok(()) => Ok(users),
+        Err(_) => Err(AllocError),
+    }
+}
+
+/// A core over the new document.
+pub(crate) fn new_core(alloc: Global) -> Result<Core<SureKeeper>, AllocError> {
+    match Core::start(alloc, users(alloc)?, SureKeeper::new(alloc)) {
+        Ok(core) => Ok(core),
+        Err(_) => Err(AllocError),
+    }
+}
+
+/// A gate round such a core.
+pub(crate) fn new_gate(
+    alloc: Global,
+    passes: u32,
+) -> Result<(Gate<Core<SureKeeper>>, PassList<Core<SureKeeper>>), AllocError>
+    requires { (0 < passes) × (passes ≤ 64) }
+    ensures own { IfOk result (λ r. All (IsPassOf r.0) r.1) }
+{
+    match Gate::new(alloc, new_core(alloc)?, passes) {
+        Ok(made) => Ok(made),
+        Err(NoGate { machine: _ }) => Err(AllocError),
+    }
+}

@@ -11,7 +11,7 @@ ghost use Rattle.io_edges.specs.Memory.{write_faults};
 use crate::cores::{name_of, new_gate};
 use doc_model::EntryList;
 use grist_serve::serve_link;
-use io_edges::{Failed, Link, MemLink, MemSink, MemSource, Sink, Source};
+use io_edges::{Failed, Link, MemLink, MemSink, MemSource, SessionEnd, Sink, Source};
 use session_gate::PassList;
 use std::alloc::{AllocError, Global};
 use std::sync::Wait;

@@ -5,10 +5,12 @@
 //!
 //! Promises: nothing. What is tested is what no clause says: that the definition of a run means
 //! what the protocol says, and that calls succeed where there is memory.
-//! Read first: runs.rt, then kept.rt.
+//! Read first: runs.rt, then kept.rt and strangers.rt.
 #![tactic(auto)]
 
 #[cfg(test)]
 mod kept;
 #[cfg(test)]
 mod runs;
+#[cfg(test)]
+mod strangers;

@@ -1,12 +1,12 @@
 -- What is replied to who asks for a table.
-use Rattle.std.proofs.Common.{◌≡◌, ℕ, Bool, true, false, List, [], ◌∷◌, refl, sym, ap, ◌∙◌}
+use Rattle.std.proofs.Common.{◌≡◌, ℕ, List, [], ◌∷◌, refl, sym, ap, ◌∙◌}
 use Rattle.doc_model.specs.declared.refusal.Refusal.TheVariants.{NoSuchTable}
 use Rattle.doc_model.specs.declared.request.Request.TheVariants.{Fetch}
 use Rattle.doc_model.specs.declared.verdict.Verdict.TheVariants.{Changes}
 use Rattle.doc_model.specs.declared.view.ViewTable.{ViewTable}
 use Rattle.doc_model.specs.Changes.{changes}
 use Rattle.grist_json.specs.Lines.{reply_text}
-use Rattle.bundle_core.specs.Mailbox.{Outcome, asked_table, replies, says, shows_view}
+use Rattle.bundle_core.specs.Mailbox.{asked_table, replies}
 use Rattle.bundle_core.specs.Replies.{reply_of}
 use Rattle.bundle_core.specs.State.{refusal, shown_if_any}
 

@@ -1,4 +1,4 @@
-use Rattle.std.proofs.Common.{◌≡◌, false, true, get_or, sym, ap, ◌∙◌}
+use Rattle.std.proofs.Common.{true, get_or, sym, ap, ◌∙◌}
 use Rattle.std.proofs.lemmas.Result.{IfOk-weaker}
 use Rattle.doc_model.specs.declared.request.Request.TheVariants.{Fetch}
 use Rattle.doc_model.specs.declared.user.User.{User}

@@ -1,11 +1,10 @@
 -- What the traces of a bundle of records tell of it.
-use Rattle.std.proofs.Common.{◌≡◌, ℕ, suc, zero, ◌+◌, ◌<◌, Bool, true, false, ◌&&◌, ◌||◌, List, [], ◌∷◌, ◌++◌, map, take, length, get_or, refl, sym, ap, subst, ◌∙◌, arith, add-one}
+use Rattle.std.proofs.Common.{◌≡◌, ℕ, suc, zero, ◌+◌, ◌<◌, ◌&&◌, List, [], ◌∷◌, ◌++◌, take, length, get_or, refl, ap, ◌∙◌, arith, add-one}
 use Rattle.std.specs.List.{list_all}
 use Rattle.cell_types.specs.declared.cell.CellOld.{CellOld}
 use Rattle.doc_model.specs.declared.action.DocAction.{DocAction}
-use Rattle.doc_model.specs.Apply.{all_valid, apply, apply_all}
+use Rattle.doc_model.specs.Apply.{apply}
 use Rattle.doc_model.specs.Document.{Document}
-use Rattle.doc_model.specs.DocumentLaws.{IsWhole}
 use Rattle.doc_model.proofs.Choices.{length_map}
 use Rattle.recalc.specs.Lost.{lost}
 use Rattle.recalc.specs.WayBack.{Changed}

@@ -1,16 +1,12 @@
-use Rattle.std.proofs.Common.{◌≡◌, true, false, List, ◌++◌, map, length, ap, subst, sym, ◌∙◌}
+use Rattle.std.proofs.Common.{◌≡◌, false, ◌++◌, map, length, ap, subst, sym, ◌∙◌}
 use Rattle.std.specs.List.{list_all}
-use Rattle.cell_types.specs.declared.cell.CellOld.{CellOld}
-use Rattle.doc_model.specs.declared.action.DocAction.{DocAction}
-use Rattle.doc_model.specs.declared.view.ViewAction.{ViewAction}
 use Rattle.doc_model.specs.Apply.{apply_all}
 use Rattle.doc_model.specs.Document.{Document}
 use Rattle.doc_model.specs.DocumentLaws.{IsWhole}
 use Rattle.doc_model.proofs.InverseLaws.{IsWhole-apply_all}
 use Rattle.user_actions.specs.StepLaws.{action_of}
 use Rattle.user_attrs.specs.Attributes.{attributes_of}
-use Rattle.acl_rules.specs.declared.decision.Ctx.{Ctx}
-use Rattle.action_censor.specs.Step.{Step, are_records, is_of_records, step_of}
+use Rattle.action_censor.specs.Step.{are_records, is_of_records, step_of}
 use Rattle.bundle_traces.specs.TraceLaws.{steps_done}
 use Rattle.recalc.specs.Evaluated.{filled}
 use Rattle.rule_contexts.specs.ChangedContexts.{may_change_contexts}

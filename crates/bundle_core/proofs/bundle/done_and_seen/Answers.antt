@@ -6,10 +6,8 @@ use Rattle.doc_model.specs.Document.{Document}
 use Rattle.doc_model.specs.DocumentLaws.{IsWhole}
 use Rattle.doc_model.proofs.InverseLaws.{IsWhole-apply_all}
 use Rattle.user_actions.specs.StepLaws.{action_of}
-use Rattle.acl_rules.specs.declared.decision.Ctx.{Ctx}
 use Rattle.recalc.specs.Evaluated.{filled}
-use Rattle.rule_contexts.specs.Context.{context, view}
-use Rattle.context_changes.specs.Known.{AreInForce, is_known, user_in}
+use Rattle.rule_contexts.specs.Context.{view}
 use Rattle.context_changes.specs.Told.{IsSeen, told_since, view_of}
 use Rattle.context_changes.proofs.KnownLemmas.{told_wholly}
 use Rattle.bundle_core.proofs.bundle.done_and_seen.Goals as goal

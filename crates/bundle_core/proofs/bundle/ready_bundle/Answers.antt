@@ -1,4 +1,4 @@
-use Rattle.std.proofs.Common.{◌≡◌, true, List, ◌+◌, map, get_or, sym, ap, subst, ◌∙◌}
+use Rattle.std.proofs.Common.{List, ◌+◌, map, get_or, sym, ap, subst, ◌∙◌}
 use Rattle.std.specs.List.{AllByRecursion}
 use Rattle.user_actions.specs.StepLaws.{action_of}
 use Rattle.undo_bundles.specs.BundleLog.{count}

@@ -1,29 +1,21 @@
 -- The connections of one lane in the whole history.
-use Rattle.std.proofs.Common.{◌≡◌, ◌≢◌, ℕ, suc, ◌+◌, ◌^◌, ◌<◌, ◌≤◌, Bool, true, false, List, [], ◌∷◌, ◌++◌, length, map, Option, Some, None, refl, sym, ap, ◌∙◌, subst, arith, append_assoc, append-nil}
+use Rattle.std.proofs.Common.{◌≡◌, ◌≢◌, ℕ, suc, ◌+◌, ◌^◌, ◌<◌, ◌≤◌, false, List, [], ◌∷◌, ◌++◌, length, map, Some, refl, sym, ap, ◌∙◌, subst, arith, append_assoc, append-nil}
 use mathlib.Core.List.{IsPrefix}
 use Rattle.std.specs.List.{AllByRecursion}
 use Rattle.std.specs.Str.{bytes_eq}
 use Rattle.std.proofs.lemmas.Bool.{false_from_ne_true}
-use Rattle.std.proofs.lemmas.List.{append_cancel_left, map-append}
 use Rattle.std.proofs.lemmas.Slice.Eq.{bytes_eq-Decides}
 use Rattle.doc_model.specs.declared.entry.Entry.{Entry}
 use Rattle.session_gate.specs.declared.known.Made.{Made}
 use Rattle.session_gate.specs.Call.{IsSamePass, own_calls}
-use Rattle.session_gate.specs.History.{calls_by, entries_of, entry_of}
-use Rattle.session_gate.proofs.HistoryLemmas.{calls-append}
-use Rattle.bundle_core.specs.State.{opening}
-use Rattle.bundle_core.specs.Told.{out}
+use Rattle.session_gate.specs.History.{calls_by}
 use Rattle.bundle_core.specs.declared.machine.CoreOpening.{CoreOpening}
-use Rattle.grist_serve.specs.Out.{IsPartOf}
-use Rattle.grist_serve.specs.Turns.{Adds, CorePass, OwnTurn, bytes_of, entry_in}
-use Rattle.grist_serve.proofs.OutLemmas.{given-law}
-use Rattle.grist_lanes.specs.InHistory.{AreInHistory, IsInHistory, Writes}
+use Rattle.grist_serve.specs.Turns.{CorePass, OwnTurn, entry_in}
 use Rattle.grist_lanes.specs.Services.{AreServed, IsServed, Service, Telling}
 use Rattle.grist_lanes.specs.SessionNames.{session_name}
-use Rattle.grist_lanes.specs.Sessions.{of_session}
 use Rattle.grist_lanes.proofs.NameLemmas.{names_apart}
-use Rattle.grist_lanes.proofs.SessionLemmas.{EachBy, IsPlacedIn, are_others, are_own, each_by, session-append, session_none, session_own}
-use Rattle.grist_lanes.proofs.TakenLemmas.{AreTurnsOf, Took, all_append, taken}
+use Rattle.grist_lanes.proofs.SessionLemmas.{IsPlacedIn}
+use Rattle.grist_lanes.proofs.TakenLemmas.{AreTurnsOf, all_append, taken}
 
 -- the entry is of a connection of that lane, from the first number on and below the second
 pub record IsWithin (lane low high : ℕ) (e : Entry) : Type 0 where
@@ -93,12 +85,13 @@ module _ {Conn : Type 0} (t : Telling Conn) (lane : ℕ) where
 pub others_apart : (lane k low high : ℕ) (es : List Entry) → lane < 2 ^ 64 → k < 2 ^ 64 → high ≤ 2 ^ 64 → ((j : ℕ) → low ≤ j → j < high → j ≢ k) → AllByRecursion (IsWithin lane low high) es → AllByRecursion (λ e. bytes_eq e.session (session_name lane k) ≡ false) es
 others_apart lane k low high [] small few wide apart all = tt
 others_apart lane k low high (e ∷ es) small few wide apart all = (
-    false_from_ne_true _ (λ same.
-        let is : e.session ≡ session_name lane k = (bytes_eq-Decides e.session (session_name lane k)).0 same in
-        let j = all.0.connection in
-        let equal = (names_apart lane j lane k small (omega (arith, all.0.below, wide)) small few (sym all.0.session ∙ is)).1 in
-        apart j all.0.from all.0.below equal),
-    others_apart lane k low high es small few wide apart all.1)
+  false_from_ne_true _ (λ same.
+      let is : e.session ≡ session_name lane k = (bytes_eq-Decides e.session (session_name lane k)).0 same in
+      let j = all.0.connection in
+      let equal = (names_apart lane j lane k small (omega (arith, all.0.below, wide)) small few (sym all.0.session ∙ is)).1 in
+      apart j all.0.from all.0.below equal),
+  others_apart lane k low high es small few wide apart all.1,
+)
 
 pub sessions_are : (name : List ℕ) (turns : List OwnTurn) → AreTurnsOf name turns → AllByRecursion (λ e. e.session ≡ name) (map entry_in turns)
 sessions_are name [] all = tt

@@ -1,5 +1,5 @@
 -- Each connection of a lane is in the whole history as it was served.
-use Rattle.std.proofs.Common.{◌≡◌, ◌≢◌, ℕ, suc, ◌+◌, ◌^◌, ◌<◌, ◌≤◌, false, List, [], ◌∷◌, ◌++◌, length, map, Option, Some, refl, sym, ap, ◌∙◌, subst, arith, append_assoc, append-nil}
+use Rattle.std.proofs.Common.{◌≡◌, ℕ, suc, ◌+◌, ◌^◌, ◌<◌, ◌≤◌, false, List, [], ◌∷◌, ◌++◌, length, map, sym, ap, ◌∙◌, subst, arith, append_assoc, append-nil}
 use Rattle.std.specs.List.{AllByRecursion}
 use Rattle.std.specs.Str.{bytes_eq}
 use Rattle.std.proofs.lemmas.List.{append_cancel_left, map-append}
@@ -8,19 +8,17 @@ use Rattle.session_gate.specs.declared.known.Made.{Made}
 use Rattle.session_gate.specs.Call.{own_calls}
 use Rattle.session_gate.specs.History.{calls_by, entries_of, entry_of}
 use Rattle.session_gate.proofs.HistoryLemmas.{calls-append}
-use Rattle.bundle_core.specs.State.{opening}
-use Rattle.bundle_core.specs.Told.{out}
 use Rattle.bundle_core.specs.declared.machine.CoreOpening.{CoreOpening}
 use Rattle.grist_serve.specs.Out.{AreOthers, AreOwn, IsPartOf}
-use Rattle.grist_serve.specs.Turns.{CorePass, bytes_of, entry_in}
+use Rattle.grist_serve.specs.Turns.{CorePass, entry_in}
 use Rattle.grist_serve.proofs.OutLemmas.{given-law}
 use Rattle.grist_lanes.specs.InHistory.{AreInHistory, IsInHistory, Writes}
 use Rattle.grist_lanes.specs.Services.{AreServed, IsServed, Service, Telling}
 use Rattle.grist_lanes.specs.SessionNames.{session_name}
 use Rattle.grist_lanes.specs.Sessions.{of_session}
-use Rattle.grist_lanes.proofs.SessionLemmas.{EachBy, IsPlacedIn, are_others, are_own, each_by, session-append, session_none, session_own}
+use Rattle.grist_lanes.proofs.SessionLemmas.{IsPlacedIn, are_others, are_own, each_by, session-append, session_none, session_own}
 use Rattle.grist_lanes.proofs.TakenLemmas.{taken}
-use Rattle.grist_lanes.proofs.ChainLemmas.{Goes, IsWithin, Whole, all_back, all_front, calls_of, goes_all, goes_nowhere, goes_on, goes_one, others_apart, sessions_are}
+use Rattle.grist_lanes.proofs.ChainLemmas.{Goes, Whole, all_back, all_front, calls_of, goes_all, goes_nowhere, goes_on, goes_one, others_apart, sessions_are}
 
 module _ {Conn : Type 0} (t : Telling Conn) (n : ℕ) (o : CoreOpening) (first last : CorePass) (log : List (Made Entry)) (whole : Whole n o first last log) (high : ℕ) (wide : high ≤ 2 ^ 64) where
   -- one connection, with what the pass did before it and after it
@@ -35,10 +33,10 @@ module _ {Conn : Type 0} (t : Telling Conn) (n : ℕ) (o : CoreOpening) (first l
       let entries : List Entry = map entry_in took.turns in
       let seen : s.old.seen ++ more ≡ s.new.seen = took.adds.seen.1 in
       let parts : log ≡ (s.old.seen ++ more) ++ rest =
-          sym whole.seen.1
-          ∙ ap (λ z. z ++ whole.seen.0) (sym after.seen.1)
-          ∙ append_assoc s.new.seen after.seen.0 whole.seen.0
-          ∙ ap (λ z. z ++ rest) (sym seen) in
+      sym whole.seen.1
+      ∙ ap (λ z. z ++ whole.seen.0) (sym after.seen.1)
+      ∙ append_assoc s.new.seen after.seen.0 whole.seen.0
+      ∙ ap (λ z. z ++ rest) (sym seen) in
       let number : s.old.number ≡ n = before.same.number ∙ whole.number in
       let number' : s.new.number ≡ n = took.adds.same.number ∙ number in
       let placed = subst (AllByRecursion IsPlacedIn) parts whole.placed in
@@ -46,17 +44,17 @@ module _ {Conn : Type 0} (t : Telling Conn) (n : ℕ) (o : CoreOpening) (first l
       let calls_before : calls_by n s.old.seen ≡ before.own = calls_of s.old n number ∙ before.calls ∙ ap (λ z. z ++ before.own) whole.fresh in
       let calls_seen : calls_by n (s.old.seen ++ more) ≡ own_calls s.new = ap (calls_by n) seen ∙ calls_of s.new n number' in
       let calls_more : calls_by n more ≡ entries = append_cancel_left (calls_by n s.old.seen) (calls_by n more) entries
-          (sym (calls-append n s.old.seen more) ∙ calls_seen ∙ took.adds.calls ∙ ap (λ z. z ++ entries) (sym (calls_of s.old n number))) in
+      (sym (calls-append n s.old.seen more) ∙ calls_seen ∙ took.adds.calls ∙ ap (λ z. z ++ entries) (sym (calls_of s.old n number))) in
       let calls_rest : calls_by n rest ≡ after.own = append_cancel_left (calls_by n (s.old.seen ++ more)) (calls_by n rest) after.own
-          (sym (calls-append n (s.old.seen ++ more) rest) ∙ ap (calls_by n) (sym parts) ∙ whole.own ∙ after.calls ∙ ap (λ z. z ++ after.own) (sym calls_seen)) in
+      (sym (calls-append n (s.old.seen ++ more) rest) ∙ ap (calls_by n) (sym parts) ∙ whole.own ∙ after.calls ∙ ap (λ z. z ++ after.own) (sym calls_seen)) in
       let none_before : AreOthers name s.old.seen = are_others n k whole.low few s.old.seen (all_front IsPlacedIn s.old.seen more front)
-          (each_by n (λ e. bytes_eq e.session name ≡ false) s.old.seen (subst (AllByRecursion (λ e. bytes_eq e.session name ≡ false)) (sym calls_before)
-          (others_apart (suc n) k 1 k before.own small few (omega (arith, few)) (λ j from lower same. omega arith) before.within))) in
+      (each_by n (λ e. bytes_eq e.session name ≡ false) s.old.seen (subst (AllByRecursion (λ e. bytes_eq e.session name ≡ false)) (sym calls_before)
+      (others_apart (suc n) k 1 k before.own small few (omega (arith, few)) (λ j from lower same. omega arith) before.within))) in
       let own : AreOwn n name more = are_own n k whole.low few more (all_back IsPlacedIn s.old.seen more front)
-          (each_by n (λ e. e.session ≡ name) more (subst (AllByRecursion (λ e. e.session ≡ name)) (sym calls_more) (sessions_are name took.turns took.sessions))) in
+      (each_by n (λ e. e.session ≡ name) more (subst (AllByRecursion (λ e. e.session ≡ name)) (sym calls_more) (sessions_are name took.turns took.sessions))) in
       let none_after : AreOthers name rest = are_others n k whole.low few rest (all_back IsPlacedIn (s.old.seen ++ more) rest placed)
-          (each_by n (λ e. bytes_eq e.session name ≡ false) rest (subst (AllByRecursion (λ e. bytes_eq e.session name ≡ false)) (sym calls_rest)
-          (others_apart (suc n) k (suc k) high after.own small few wide (λ j from lower same. omega arith) after.within))) in
+      (each_by n (λ e. bytes_eq e.session name ≡ false) rest (subst (AllByRecursion (λ e. bytes_eq e.session name ≡ false)) (sym calls_rest)
+      (others_apart (suc n) k (suc k) high after.own small few wide (λ j from lower same. omega arith) after.within))) in
       let part : IsPartOf name s.old.number s.old.seen more log = record {
         after = rest;
         whole = parts;
@@ -66,14 +64,14 @@ module _ {Conn : Type 0} (t : Telling Conn) (n : ℕ) (o : CoreOpening) (first l
       } in
       let bytes = given-law name o s.old s.new took.turns more log took.adds (before.same.opening ∙ whole.opening_is) (sym seen) part in
       let of : of_session name (entries_of log) ≡ entries =
-          ap (λ z. of_session name (entries_of z)) parts
-          ∙ ap (of_session name) (map-append entry_of (s.old.seen ++ more) rest ∙ ap (λ z. z ++ entries_of rest) (map-append entry_of s.old.seen more))
-          ∙ session-append name (entries_of s.old.seen ++ entries_of more) (entries_of rest)
-          ∙ ap (λ z. z ++ of_session name (entries_of rest)) (session-append name (entries_of s.old.seen) (entries_of more) ∙ ap (λ z. z ++ of_session name (entries_of more)) (session_none name s.old.seen none_before))
-          ∙ ap (λ z. of_session name (entries_of more) ++ z) (session_none name rest none_after)
-          ∙ append-nil (of_session name (entries_of more))
-          ∙ session_own name n more own
-          ∙ calls_more in
+      ap (λ z. of_session name (entries_of z)) parts
+      ∙ ap (of_session name) (map-append entry_of (s.old.seen ++ more) rest ∙ ap (λ z. z ++ entries_of rest) (map-append entry_of s.old.seen more))
+      ∙ session-append name (entries_of s.old.seen ++ entries_of more) (entries_of rest)
+      ∙ ap (λ z. z ++ of_session name (entries_of rest)) (session-append name (entries_of s.old.seen) (entries_of more) ∙ ap (λ z. z ++ of_session name (entries_of more)) (session_none name s.old.seen none_before))
+      ∙ ap (λ z. of_session name (entries_of more) ++ z) (session_none name rest none_after)
+      ∙ append-nil (of_session name (entries_of more))
+      ∙ session_own name n more own
+      ∙ calls_more in
       record {
         entries = took.adds.calls ∙ ap (λ z. own_calls s.old ++ z) (sym of);
         written = subst (λ z. Writes s.end z (t.written s.before) (t.written s.after)) bytes took.written;

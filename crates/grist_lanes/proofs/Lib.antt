@@ -6,3 +6,5 @@ mod ChainLemmas
 mod HistoryLemmas
 mod ReversedLemmas
 mod WholeLemmas
+mod ServedLemmas
+mod GateLemmas

@@ -1,5 +1,5 @@
 -- Names of sessions: how long they are, and that they tell their lanes and connections.
-use Rattle.std.proofs.Common.{◌≡◌, ℕ, ◌+◌, ◌^◌, ◌<◌, ◌≤◌, List, [], ◌∷◌, ◌++◌, length, refl, sym, ap, ◌∙◌, subst, arith, rules}
+use Rattle.std.proofs.Common.{◌≡◌, ℕ, ◌+◌, ◌^◌, ◌<◌, ◌≤◌, List, [], ◌∷◌, ◌++◌, length, refl, sym, ap, subst, arith, rules}
 use Rattle.std.specs.Fmt.{decimal}
 use Rattle.std.specs.Str.{chars}
 use Rattle.std.specs.Str.Parse.{AllDigits}
@@ -38,9 +38,10 @@ pub names_apart : (lane connection lane' connection' : ℕ) → lane < 2 ^ 64 �
     → session_name lane connection ≡ session_name lane' connection' → (lane ≡ lane') × (connection ≡ connection')
 names_apart lane connection lane' connection' small few small' few' e =
     let behind : decimal lane ++ 99 ∷ decimal connection ≡ decimal lane' ++ 99 ∷ decimal connection' = cc in
-    let parts = parted (decimal lane) (decimal lane') (decimal connection) (decimal connection') (digits lane small) (digits lane' small') behind in
-    (decimal_injective lane lane' small small' parts.front,
-     decimal_injective connection connection' few few' parts.back)
+    let parts = parted (decimal lane) (decimal lane') (decimal connection) (decimal connection') (digits lane small) (digits lane' small') behind in (
+      decimal_injective lane lane' small small' parts.front,
+      decimal_injective connection connection' few few' parts.back,
+    )
 
 -- ---- how long they are
 

@@ -1,5 +1,5 @@
 -- Connections that a lane serves, one more at a time.
-use Rattle.std.proofs.Common.{◌≡◌, ℕ, suc, ◌+◌, ◌≤◌, true, false, List, [], ◌∷◌, ◌++◌, length, map, Option, Some, None, option_map, refl, sym, ap, ◌∙◌, ◌⊎◌, inl, inr, subst, arith, append_assoc, append-nil, length-append}
+use Rattle.std.proofs.Common.{◌≡◌, ℕ, suc, ◌+◌, ◌≤◌, false, List, [], ◌∷◌, ◌++◌, length, map, Option, Some, None, option_map, refl, sym, ap, ◌∙◌, inl, inr, subst, arith, append_assoc, append-nil, length-append}
 use Rattle.std.proofs.lemmas.List.{map-append}
 use Rattle.io_edges.specs.Ports.{HandsOut, PortState, TakesBack, handed_bound}
 use Rattle.io_edges.specs.declared.port.Returned.{Returned}
@@ -54,6 +54,7 @@ module _ {Conn : Type 0} where
     same : (left : Option (List Conn)) → left ≡ option_map (λ conns. map before_of [] ++ conns) left
     same None = refl
     same (Some conns) = refl
+
     kept : (back : Option (List (Returned Conn))) → back ≡ option_map (λ them. them ++ map returned_of []) back
     kept None = refl
     kept (Some them) = ap Some (sym (append-nil them))
@@ -70,6 +71,7 @@ module _ {Conn : Type 0} where
     same : (left : Option (List Conn)) → option_map (λ conns. map before_of [] ++ conns) left ≡ left
     same None = refl
     same (Some conns) = refl
+
     kept : (back : Option (List (Returned Conn))) → option_map (λ them. them ++ map returned_of []) back ≡ back
     kept None = refl
     kept (Some them) = ap Some (append-nil them)

@@ -1,5 +1,5 @@
 -- What the pass of a connection asked for and was given, whatever its end.
-use Rattle.std.proofs.Common.{◌≡◌, ℕ, Bool, true, false, List, [], ◌∷◌, ◌++◌, length, map, Option, Some, None, refl, sym, ap, ◌∙◌, subst, append-nil, inl, inr, ⊎_elim, cond}
+use Rattle.std.proofs.Common.{◌≡◌, ℕ, Bool, true, false, List, [], ◌∷◌, ◌++◌, length, map, Option, refl, sym, ap, ◌∙◌, subst, append-nil, inl, inr, ⊎_elim, cond}
 use Rattle.std.specs.Io.KnownBytes.{Appends}
 use Rattle.std.specs.List.{AllByRecursion}
 use Rattle.doc_model.specs.declared.entry.Entry.{Entry}
@@ -97,7 +97,7 @@ pub taken : {Conn : Type 0} (t : Telling Conn) (name : List ℕ) (s : Service Co
 taken t name s served = ⊎_elim
     (λ (link : ServesLink s.end name (t.left s.before) (t.left s.after) s.old s.new (t.written s.before) (t.written s.after)).
     then_gone s.end name s.old link.before_end s.new (t.written s.before) (t.written s.after)
-        (lines_taken name s.old link.before_end (t.written s.before) (t.written s.after) s.end (t.left s.before) (t.left s.after) link.lines) link.gone)
+    (lines_taken name s.old link.before_end (t.written s.before) (t.written s.after) s.end (t.left s.before) (t.left s.after) link.lines) link.gone)
     (λ (none : DoesNothing s.end (t.left s.before) (t.left s.after) s.old s.new (t.written s.before) (t.written s.after)).
     nothing_taken name s.end (t.left s.before) (t.left s.after) s.old s.new (t.written s.before) (t.written s.after) none)
     served.serves

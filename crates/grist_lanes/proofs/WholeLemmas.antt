@@ -1,11 +1,10 @@
 -- All lanes in the history that the gate gave back.
-use Rattle.std.proofs.Common.{◌≡◌, ◌≢◌, ℕ, suc, ◌+◌, ◌^◌, ◌<◌, ◌≤◌, eqb, Bool, true, false, List, [], ◌∷◌, ◌++◌, length, map, Option, Some, None, slice_get, refl, sym, ap, ◌∙◌, subst, arith, length-append, append-nil, ◌⊎◌, inl, inr, ⊎_elim}
-use mathlib.Core.List.{IsPrefix}
+use Rattle.std.proofs.Common.{◌≡◌, ℕ, suc, ◌+◌, ◌^◌, ◌<◌, ◌≤◌, true, List, [], ◌∷◌, ◌++◌, length, map, Option, Some, None, slice_get, refl, sym, ap, ◌∙◌, subst, arith, ⊎_elim}
 use Rattle.std.specs.List.{AllByRecursion}
 use Rattle.std.proofs.lemmas.Bool.{cases_lt, eq-eqb, eqb-true}
 use Rattle.std.proofs.lemmas.List.{length-map, map-append}
 use Rattle.doc_model.specs.declared.entry.Entry.{Entry}
-use Rattle.io_edges.specs.Ports.{PortState, handed_bound}
+use Rattle.io_edges.specs.Ports.{PortState}
 use Rattle.session_gate.specs.declared.known.Made.{Made}
 use Rattle.session_gate.specs.Call.{own_calls}
 use Rattle.session_gate.specs.History.{brought, calls_by, entries_of, entry_of, is_by}
@@ -86,7 +85,7 @@ by_number : (made m : ℕ) (by : Option ℕ) → IsBelow made by → is_by m by 
 by_number made m None below e = absurd below
 by_number made m (Some k) below e = let same = eqb-true m k e in omega (arith, below, same)
 
-below_all : (made : ℕ) (begun : List Entry) (rest log : List (Made Entry)) → map brought begun ++ rest ≡ log → ((i : ℕ) (x : Made Entry) → slice_get log i ≡ Some x → length begun ≤ i → IsBelow made x.by) → AllByRecursion (λ x. IsBelow made x.by) rest
+pub below_all : (made : ℕ) (begun : List Entry) (rest log : List (Made Entry)) → map brought begun ++ rest ≡ log → ((i : ℕ) (x : Made Entry) → slice_get log i ≡ Some x → length begun ≤ i → IsBelow made x.by) → AllByRecursion (λ x. IsBelow made x.by) rest
 below_all made begun rest log is numbered = behind (λ x. IsBelow made x.by) (map brought begun) rest
     (λ i x e le. numbered i x (ap (λ z. slice_get z i) (sym is) ∙ e) (omega (arith, le, length-map begun brought)))
 
@@ -125,6 +124,7 @@ module _ (made : ℕ) (begun : List Entry) (rest log : List (Made Entry)) (is : 
     one : (made : ℕ) (by : Option ℕ) (e : Entry) → IsBelow made by → ((m : ℕ) → is_by m by ≡ true → IsOfLane (suc m) e) → IsOfOneOf made e
     one made None e low each = absurd low
     one made (Some k) e low each = record { lane = k; some = omega (arith, low); of = each k (eq-eqb k k refl) }
+
     of_one : (made : ℕ) (xs : List (Made Entry)) → AllByRecursion (λ x. IsBelow made x.by) xs → ((m : ℕ) → EachBy m (IsOfLane (suc m)) xs) → AllByRecursion (IsOfOneOf made) (entries_of xs)
     of_one made [] low each = tt
     of_one made (x ∷ xs) low each = (one made x.by x.entry low.0 (λ m e. (each m).0 e), of_one made xs low.1 (λ m. (each m).1))

@@ -1,5 +1,5 @@
 -- What the whole history has of each connection of a lane.
-use Rattle.std.specs.Prelude.{ℕ, suc, ◌≡◌, ◌≤◌, ◌++◌, List, [], ◌∷◌, Option}
+use Rattle.std.specs.Prelude.{ℕ, suc, ◌≡◌, ◌≤◌, ◌++◌, List, [], ◌∷◌, length, Option}
 use Rattle.std.specs.Io.KnownBytes.{Appends}
 use Rattle.std.specs.List.{AllByRecursion}
 use Rattle.doc_model.specs.declared.entry.Entry.{Entry}
@@ -11,6 +11,7 @@ use Rattle.session_gate.specs.Call.{own_calls}
 use Rattle.bundle_core.specs.State.{opening}
 use Rattle.bundle_core.specs.Told.{out}
 use Rattle.bundle_core.specs.declared.machine.CoreOpening.{CoreOpening}
+use Rattle.grist_lanes.specs.Places.{AtEach}
 use Rattle.grist_lanes.specs.SessionNames.{session_name}
 use Rattle.grist_lanes.specs.Services.{HasServed, HasStopped, IsServed, Service, Telling}
 use Rattle.grist_lanes.specs.Sessions.{IsOfLane, of_session}
@@ -53,3 +54,13 @@ pub record AddsOfLanes (lanes : ℕ) (before after : List Entry) : Type 0 where
   pub more : List Entry
   pub whole : after ≡ before ++ more
   pub each : AllByRecursion (IsOfOneOf lanes) more
+
+-- All ports were served over this history: behind what there was it has entries of sessions of the
+-- lanes alone, and each port's connections as they were served
+module _ {Conn : Type 0} (t : Telling Conn) (o : CoreOpening) where
+  pub record ServesLanes (before after : List Entry) (ports_old ports_new : List (PortState Conn))
+      : Type 0 where
+    pub adds : AddsOfLanes (length ports_old) before after
+    pub count : length ports_new ≡ length ports_old
+    pub each : AtEach (λ place old new. ServesPort t o after (suc place) old new)
+        ports_old ports_new

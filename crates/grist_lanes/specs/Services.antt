@@ -17,8 +17,8 @@ pub record Telling (Conn : Type 0) : Type 0 where
   pub read_faults : Conn → ℕ
   pub write_faults : Conn → ℕ
 
-abbrev pub telling : {Conn : Type 0} → (Conn → Option (List ℕ)) → (Conn → Option (List ℕ)) → (Conn → ℕ)
-    → (Conn → ℕ) → Telling Conn
+abbrev pub telling : {Conn : Type 0} → (Conn → Option (List ℕ)) → (Conn → Option (List ℕ))
+    → (Conn → ℕ) → (Conn → ℕ) → Telling Conn
 telling left written read_faults write_faults = record {
   left = left;
   written = written;

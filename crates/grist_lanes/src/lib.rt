@@ -1,11 +1,27 @@
-//! Lanes: one port and one pass each, whose connections are served one after the other.
+//! Lanes: the connections of many ports, served at the same time at one core.
+//!
+//! Stands on `grist_serve` (one connection served), `session_gate` (turns at one machine),
+//! `bundle_core` (the core, which is the machine) and `io_edges` (ports and links). Nothing stands
+//! on it yet: the program has no command for it.
+//!
+//! Promises: `serve_lanes` gives each port a lane, which serves its connections one after the
+//! other until none will come or the port fails, and hands each back with its end. The core comes
+//! back with what it began from; behind the history that it had there are entries of sessions of
+//! these lanes alone. The entries of the session of each connection are those that `serve_link`
+//! tells of it, and what was written to it is what that history gives its session: all of it, or a
+//! front where writing failed (specs/InHistory.antt). `lane_names_law`: no two connections have
+//! one session. Where there is no memory for lanes, no port was asked.
+//! Not promised: that lanes run at the same time, that a turn or a connection comes, that memory
+//! is there; the ports that fail say so by their counts.
+//! Read first: specs/Services.antt, specs/InHistory.antt, then serving.rt, lane.rt and lanes.rt.
 #![tactic(auto)]
 
 mod lane;
 mod lanes;
-mod serving;
 mod laws;
+mod serving;
 mod session_names;
 
 pub use laws::lane_names_law;
+pub use serving::{NoServe, Served, serve_lanes};
 pub use session_names::session_name;

@@ -1,16 +1,19 @@
 //! All lanes of a core, served at the same time.
-ghost use Rattle.std.specs.Prelude.{◌≡◌, ◌≤◌, ◌<◌, ℕ, suc, All, IfErr, IfOk, Some, false, length, slice_get, vec_len};
+ghost use Rattle.std.specs.Prelude.{◌≡◌, ◌≤◌, ◌<◌, suc, All, IfErr, IfOk, false, length, map, vec_len};
 ghost use Rattle.std.specs.Thread.{IsSend, IsSync};
 ghost use Rattle.session_gate.specs.Gate.{IsPassOf};
+ghost use Rattle.bundle_core.specs.Machine.{opening_of};
+ghost use Rattle.grist_lanes.specs.InHistory.{ServesLanes};
 ghost use Rattle.grist_lanes.specs.Places.{AtEach};
 ghost use Rattle.grist_lanes.specs.Services.{ServesLane, telling};
+ghost use Rattle.grist_lanes.specs.Sessions.{AreOfNoLane};
 
 use crate::lane::serve_port;
-use crate::lanes::Lane;
+use crate::lanes::{Lane, join_lanes, part_lanes};
 use bundle_core::Core;
 use doc_keeper::Keeper;
 use io_edges::{Link, Port, Sink, Source};
-use session_gate::Gate;
+use session_gate::{Gate, NoGate, PassList};
 use std::alloc::Global;
 use std::marker::Send;
 use std::sync::Wait;
@@ -18,33 +21,98 @@ use std::thread;
 use std::thread::Threads;
 
 // Serves the ports of all lanes, each in a thread of its own where one can be made.
-pub(crate) fn serve_ports<R: Threads + Wait + Sync, K: Keeper + Send, P: Port + Send>(
+fn serve_ports<R: Threads + Wait + Sync, K: Keeper + Send, P: Port + Send>(
     rt: &R,
     alloc: Global,
     gate: &Gate<Core<K>>,
-    lanes: &mut [Lane<P, K>],
+    lanes: &mut Vec<Lane<P, K>>,
 )
-    requires few { length lanes.old ≤ 64 }
-    requires all { All (λ l. IsPassOf gate.now l.pass × ((P.state l.port).lent ≡ false)) lanes.old }
-    ensures own { All (λ l. IsPassOf gate.now l.pass) lanes.new }
-    ensures count { length lanes.new ≡ length lanes.old }
+    requires few { length lanes.old.items ≤ 64 }
+    requires all { All (λ l. IsPassOf gate.now l.pass × ((P.state l.port).lent ≡ false))
+        lanes.old.items }
+    ensures own { All (λ l. IsPassOf gate.now l.pass) lanes.new.items }
+    ensures count { length lanes.new.items ≡ length lanes.old.items }
     ensures serves { AtEach (λ place old new.
         ServesLane (telling P.Conn.left P.Conn.written P.Conn.Source.faults P.Conn.Sink.faults)
-        (suc place) (P.state old.port) (P.state new.port) old.pass new.pass) lanes.old lanes.new }
+        (suc place) (P.state old.port) (P.state new.port) old.pass new.pass)
+        lanes.old.items lanes.new.items }
 {
     let many = lanes.len().max(1);
     thread::for_each_mut(
         rt,
-        lanes,
+        lanes.as_mut_slice(),
         many,
         &|place: usize, lane: &mut Lane<P, K>|
             requires { IsSync R.row × IsSend P.row × (place < 64) × IsPassOf gate.now lane.old.pass
                 × ((P.state lane.old.port).lent ≡ false) }
             ensures { IsPassOf gate.entry.now lane.new.pass
-                × ServesLane (telling P.Conn.left P.Conn.written P.Conn.Source.faults P.Conn.Sink.faults)
-                (suc place) (P.state lane.old.port) (P.state lane.new.port) lane.old.pass lane.new.pass }
+                × ServesLane
+                (telling P.Conn.left P.Conn.written P.Conn.Source.faults P.Conn.Sink.faults)
+                (suc place) (P.state lane.old.port) (P.state lane.new.port) lane.old.pass
+                lane.new.pass }
         {
-            serve_port(rt, alloc, gate, &mut lane.port, &mut lane.pass, place as u32 + 1)
+            serve_port(
+                rt,
+                alloc,
+                gate,
+                &mut lane.port,
+                &mut lane.pass,
+                place as u32 + 1,
+            )
         },
     );
+}
+
+/// The ports were served, and the core comes back.
+#[derive(Drop)]
+pub struct Served<K: Keeper> {
+    pub core: Core<K>,
+}
+
+/// There was no memory for lanes. The core comes back as it was, and no port was asked.
+#[derive(Drop)]
+pub struct NoServe<K: Keeper> {
+    pub core: Core<K>,
+}
+
+/// Serves the connections of all ports, a lane each, until none will come to a port or it fails.
+/// The session of the k-th connection of the i-th port is `session_name i k`.
+///
+/// It may wait, for connections and for turns.
+/// Errors: `NoServe`, which is out of memory.
+pub fn serve_lanes<R: Threads + Wait + Sync, K: Keeper + Send, P: Port + Send>(
+    rt: &R,
+    alloc: Global,
+    core: Core<K>,
+    ports: &mut Vec<P>,
+) -> Result<Served<K>, NoServe<K>>
+    requires count { (0 < vec_len ports.old) × (vec_len ports.old ≤ 64) }
+    requires home { All (λ p. (P.state p).lent ≡ false) ports.old.items }
+    requires none { AreOfNoLane core.state.history }
+    ensures opening { IfOk result (λ s. opening_of s.core ≡ opening_of core) }
+    ensures serves { IfOk result (λ s. ServesLanes
+        (telling P.Conn.left P.Conn.written P.Conn.Source.faults P.Conn.Sink.faults)
+        (opening_of core) core.state.history s.core.state.history
+        (map P.state ports.old.items) (map P.state ports.new.items)) }
+    ensures err { IfErr result (λ n. (n.core ≡ core) × (ports.new.items ≡ ports.old.items)) }
+{
+    let Ok(mut lanes) = Vec::with_capacity(alloc, ports.len()) else {
+        return Err(NoServe { core });
+    };
+    let (gate, passes) = match Gate::new(alloc, core, ports.len() as u32) {
+        Ok(made) => made,
+        Err(NoGate { machine }) => {
+            lanes.destroy_empty();
+            return Err(NoServe { core: machine });
+        }
+    };
+    let mut passes = passes.into_vec();
+    join_lanes(ports, &mut passes, &mut lanes);
+    serve_ports(rt, alloc, &gate, &mut lanes);
+    part_lanes(ports, &mut passes, &mut lanes);
+    lanes.destroy_empty();
+    let Ok(core) = gate.close(PassList::from(passes)) else {
+        unreachable!()
+    };
+    Ok(Served { core })
 }

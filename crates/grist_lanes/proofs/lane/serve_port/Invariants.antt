@@ -1,4 +1,4 @@
-use Rattle.std.proofs.Common.{◌≡◌, ℕ, ◌-◌}
+use Rattle.std.proofs.Common.{◌-◌}
 use Rattle.session_gate.specs.Gate.{IsPassOf}
 use Rattle.grist_lanes.specs.Services.{ServesSome, telling}
 use Rattle.grist_lanes.proofs.lane.serve_port.Given as goal

@@ -1,5 +1,4 @@
 use Rattle.std.proofs.Common.{◌≡◌, ◌≤◌, ◌+◌, ◌++◌, map, reverse, vec_len, vec_capacity}
-
 use Rattle.grist_lanes.proofs.lanes.part_lanes.Given as goal
 
 -- the ports and passes so far, and then those of the lanes that are left

@@ -1,4 +1,4 @@
-use Rattle.std.proofs.Common.{sym, subst, ◌∙◌, rules, arith, ◌≡◌}
+use Rattle.std.proofs.Common.{sym, subst, rules, arith, ◌≡◌}
 use Rattle.cell_types.specs.NameLength.{HasNameLength}
 use Rattle.grist_lanes.specs.SessionNames.{session_name}
 use Rattle.grist_lanes.proofs.NameLemmas.{name_length}

@@ -1,6 +1,6 @@
 //! A core with one user, and a gate round it.
 
-ghost use Rattle.std.specs.Prelude.{◌≡◌, ◌<◌, ◌≤◌, All, IfOk, length};
+ghost use Rattle.std.specs.Prelude.{◌≡◌, ◌<◌, ◌≤◌, All, IfOk, [], length};
 ghost use Rattle.session_gate.specs.Gate.{IsPassOf};
 
 use bundle_core::Core;
@@ -30,14 +30,31 @@ fn users(alloc: Global) -> Result<UserList, AllocError> {
 }
 
 /// A core over the new document.
-pub(crate) fn new_core(alloc: Global) -> Result<Core<SureKeeper>, AllocError> {
+pub(crate) fn new_core(alloc: Global) -> Result<Core<SureKeeper>, AllocError>
+    ensures { IfOk result (λ c. c.state.history ≡ []) }
+{
     match Core::start(alloc, users(alloc)?, SureKeeper::new(alloc)) {
         Ok(core) => Ok(core),
         Err(_) => Err(AllocError),
     }
 }
 
-/// A gate round such a core.
+/// A gate round a core.
+pub(crate) fn gate_round(
+    alloc: Global,
+    core: Core<SureKeeper>,
+    passes: u32,
+) -> Result<(Gate<Core<SureKeeper>>, PassList<Core<SureKeeper>>), AllocError>
+    requires { (0 < passes) × (passes ≤ 64) }
+    ensures own { IfOk result (λ r. All (IsPassOf r.0) r.1) }
+{
+    match Gate::new(alloc, core, passes) {
+        Ok(made) => Ok(made),
+        Err(NoGate { machine: _ }) => Err(AllocError),
+    }
+}
+
+/// A gate round a new core.
 pub(crate) fn new_gate(
     alloc: Global,
     passes: u32,
@@ -45,8 +62,5 @@ pub(crate) fn new_gate(
     requires { (0 < passes) × (passes ≤ 64) }
     ensures own { IfOk result (λ r. All (IsPassOf r.0) r.1) }
 {
-    match Gate::new(alloc, new_core(alloc)?, passes) {
-        Ok(made) => Ok(made),
-        Err(NoGate { machine: _ }) => Err(AllocError),
-    }
+    gate_round(alloc, new_core(alloc)?, passes)
 }

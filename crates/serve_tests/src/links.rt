@@ -1,8 +1,8 @@
 //! Plan: one link over a gate of one pass. Of a script, a line behind `> ` comes and one behind
 //! `< ` is written; the last line comes without a newline. What a link is written
 //! (`answers_each_line`): a line of white space is passed over, the last line is a line, and what
-//! stands behind a closing is not answered; pieces of one byte give the same. Reads and writes that
-//! fail, one by one, end it with that fault, and its session is gone (`faults_end_a_link`). The
+//! stands behind a closing is not answered; pieces of one byte give the same. Each read and each
+//! write that fails ends it with that fault, and its session is gone (`faults_end_a_link`). The
 //! lines are worked out by hand.
 
 ghost use Rattle.std.specs.Prelude.{None, refl};
@@ -65,14 +65,14 @@ impl Link for Drip {
     ghost comes_in = { λ _. refl };
 }
 
-// A script, and how many entries it makes, that of the end among them.
+/// A script, and how many entries it makes, that of the end among them.
 #[derive(Clone, Copy)]
-struct Case {
-    script: &'static str,
-    entries: usize,
+pub(crate) struct Case {
+    pub script: &'static str,
+    pub entries: usize,
 }
 
-static CASES: [Case; 3] = [
+pub(crate) static CASES: [Case; 3] = [
     Case {
         script: r#"> {"method":"sync"}
 < {"error":{"code":3,"name":"NotOpen"}}
@@ -102,8 +102,8 @@ static CASES: [Case; 3] = [
     },
 ];
 
-// The lines of a script behind this mark.
-fn lines_behind(alloc: Global, mark: &str, script: &str) -> Result<Vec<u8>, AllocError> {
+/// The lines of a script behind this mark.
+pub(crate) fn lines_behind(alloc: Global, mark: &str, script: &str) -> Result<Vec<u8>, AllocError> {
     let mut text = String::new(alloc);
     for line in script.lines() {
         if let Some(rest) = line.strip_prefix(mark) {
@@ -114,8 +114,8 @@ fn lines_behind(alloc: Global, mark: &str, script: &str) -> Result<Vec<u8>, Allo
     Ok(text.into_bytes())
 }
 
-// What comes of a script, the last line without its newline.
-fn coming(alloc: Global, script: &str) -> Result<Vec<u8>, AllocError> {
+/// What comes of a script, the last line without its newline.
+pub(crate) fn coming(alloc: Global, script: &str) -> Result<Vec<u8>, AllocError> {
     let mut bytes = lines_behind(alloc, "> ", script)?;
     let _newline = bytes.pop();
     Ok(bytes)
@@ -129,7 +129,7 @@ struct Served {
 }
 
 // Serves one link over a new core.
-fn served<R: Threads + Wait + Sync, L: Link>(
+fn serve_alone<R: Threads + Wait + Sync, L: Link>(
     rt: &R,
     alloc: Global,
     link: &mut L,
@@ -170,7 +170,7 @@ fn answers_whole<R: Threads + Wait + Sync>(
 ) -> Result<bool, AllocError> {
     let want = lines_behind(alloc, "< ", case.script)?;
     let mut link = link_over(alloc, coming(alloc, case.script)?, 99, 99)?;
-    let served = served(rt, alloc, &mut link)?;
+    let served = serve_alone(rt, alloc, &mut link)?;
     let is_given = link.bytes() == want.as_slice();
     Ok(is_given && served.end == SessionEnd::Closed && served.history.len() == case.entries)
 }
@@ -186,7 +186,7 @@ fn answers_pieces<R: Threads + Wait + Sync>(
         at: 0,
         sink: MemSink::new(alloc, 65_536, Vec::new(alloc))?,
     };
-    let served = served(rt, alloc, &mut link)?;
+    let served = serve_alone(rt, alloc, &mut link)?;
     Ok(served.end == SessionEnd::Closed && link.sink.bytes() == want.as_slice())
 }
 
@@ -211,10 +211,22 @@ fn ends_as<R: Threads + Wait + Sync>(
     let script = CASES[0].script;
     let want = lines_behind(alloc, "< ", script)?;
     let mut link = link_over(alloc, coming(alloc, script)?, fails.0, fails.1)?;
-    let served = served(rt, alloc, &mut link)?;
+    let served = serve_alone(rt, alloc, &mut link)?;
     let is_front = want.as_slice().starts_with(link.bytes());
     Ok(is_front && served.end == end && served.history.len() == entries)
 }
+
+// Each write and flush of the four answers, and how many entries there are where it fails.
+static WRITES: [(u64, usize); 8] = [
+    (0, 1),
+    (1, 1),
+    (2, 3),
+    (3, 3),
+    (4, 4),
+    (5, 4),
+    (6, 5),
+    (7, 5),
+];
 
 #[test]
 fn faults_end_a_link(rt: HostRuntime) -> Result<(), Fail> {
@@ -222,7 +234,8 @@ fn faults_end_a_link(rt: HostRuntime) -> Result<(), Fail> {
     // The first read brings all lines, the second one their end; an answer is a write and a flush.
     assert!(rt; ends_as(&rt, alloc, (0, 99), SessionEnd::ReadFault, 0)?);
     assert!(rt; ends_as(&rt, alloc, (1, 99), SessionEnd::ReadFault, 4)?);
-    assert!(rt; ends_as(&rt, alloc, (99, 0), SessionEnd::WriteFault, 1)?);
-    assert!(rt; ends_as(&rt, alloc, (99, 3), SessionEnd::WriteFault, 3)?);
+    for &(write, entries) in &WRITES {
+        assert!(rt; ends_as(&rt, alloc, (99, write), SessionEnd::WriteFault, entries)?);
+    }
     Ok(())
 }

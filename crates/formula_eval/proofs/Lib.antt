@@ -12,6 +12,7 @@ mod Scans
 mod Items
 mod Lookups
 mod LookupEnds
+mod Halts
 mod SumLemmas
 mod BestLemmas
 mod Traps

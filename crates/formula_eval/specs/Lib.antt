@@ -16,3 +16,4 @@ pub mod Scanned
 pub mod Halted
 pub mod Attempted
 pub mod Laws
+pub mod Unkept

@@ -4,12 +4,12 @@ ghost use Rattle.std.specs.Prelude.{◌≡◌, ◌+◌, IfOk};
 ghost use Rattle.formula_eval.specs.Names.{IsNeeded};
 ghost use Rattle.formula_eval.specs.Run.{reads_of};
 ghost use Rattle.formula_eval.specs.Eval.{as_result, evaluated, is_too_long};
-ghost use Rattle.formula_eval.specs.Attempted.{IsAttempt, IfNeed};
+ghost use Rattle.formula_eval.specs.Attempted.{HasNoted, IsAttempt, IfNeed, IsTried};
 ghost use Rattle.formula_eval.specs.Halted.{Comes, IsOut};
 
 use crate::evaluate::value_of;
 use crate::halt::Halt;
-use crate::{Attempt, CellReader, NoteList, Steps};
+use crate::{Attempt, CellReader, NoteKeeper, NoteList, Steps, Tried};
 use cell_types::{CellValue, ErrKind, RowRef};
 use formula_parse::Formula;
 use std::alloc::{AllocError, Global};
@@ -39,37 +39,55 @@ pub fn attempt<R: CellReader, L: Ledger>(
     ensures need { IfOk result (λ a. IfNeed a (IsNeeded (R.told reader.now)
         (reads_of (evaluated (R.told reader.now) at.now formula.now).notes))) }
 {
-    steps.tick();
     let mut notes = NoteList::new(alloc);
-    match result_of(alloc, reader, at, formula, &mut notes) {
-        Ok(value) => Ok(Attempt::Value { value, notes }),
-        Err(Halt::Raised(kind)) => Ok(Attempt::Value {
-            value: CellValue::Err(kind),
-            notes,
-        }),
-        Err(Halt::Circular) => Ok(Attempt::Value {
-            value: CellValue::Err(ErrKind::Circular),
-            notes,
-        }),
-        Err(Halt::Need(cell)) => {
+    match attempt_noting(alloc, formula, at, reader, &mut notes, steps)? {
+        Tried::Value(value) => Ok(Attempt::Value { value, notes }),
+        Tried::Need(cell) => {
             drop(notes);
             Ok(Attempt::Need(cell))
-        }
-        Err(Halt::NoMemory) => {
-            drop(notes);
-            Err(AllocError)
         }
     }
 }
 
-fn result_of<R: CellReader>(
+/// One attempt at a formula, noted by a keeper of the caller's.
+///
+/// Errors: want of memory. What a formula raises is its value, an error.
+/// Memory: the value, what the keeper takes, and what is made on the way.
+/// Cost: as to `attempt`, beside the keeper's calls.
+pub fn attempt_noting<R: CellReader, N: NoteKeeper, L: Ledger>(
+    alloc: Global,
+    formula: &Formula,
+    at: &RowRef,
+    reader: &R,
+    notes: &mut N,
+    steps: &mut Steps<L>,
+) -> Result<Tried, AllocError>
+    // One step, whatever comes of it.
+    ensures steps { steps.new ≡ steps.old + 1 }
+    ensures tried { IfOk result
+        (λ t. IsTried t (evaluated (R.told reader.now) at.now formula.now)) }
+    ensures noted { IfOk result (λ t. HasNoted t (N.noted notes.old) (N.noted notes.new)
+        (evaluated (R.told reader.now) at.now formula.now)) }
+{
+    steps.tick();
+    match result_of(alloc, reader, at, formula, notes) {
+        Ok(value) => Ok(Tried::Value(value)),
+        Err(Halt::Raised(kind)) => Ok(Tried::Value(CellValue::Err(kind))),
+        Err(Halt::Circular) => Ok(Tried::Value(CellValue::Err(ErrKind::Circular))),
+        Err(Halt::Need(cell)) => Ok(Tried::Need(cell)),
+        Err(Halt::NoMemory) => Err(AllocError),
+    }
+}
+
+fn result_of<R: CellReader, N: NoteKeeper>(
     alloc: Global,
     reader: &R,
     at: &RowRef,
     formula: &Formula,
-    notes: &mut NoteList,
+    notes: &mut N,
 ) -> Result<CellValue, Halt>
-    ensures { Comes result notes.old notes.new (evaluated (R.told reader.now) at.now formula.now) }
+    ensures { Comes result (N.noted notes.old) (N.noted notes.new)
+        (evaluated (R.told reader.now) at.now formula.now) }
 {
     as_result(value_of(alloc, reader, at, formula, notes)?)
 }

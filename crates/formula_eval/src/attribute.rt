@@ -12,7 +12,7 @@ ghost use Rattle.formula_eval.specs.Halted.{Comes, ComesAs, IsOut, IsOutAs};
 
 use crate::halt::Halt;
 use crate::reading::read_cell;
-use crate::{CellReader, NoteList};
+use crate::{CellReader, NoteKeeper};
 use cell_types::{CellItem, CellList, CellValue, ErrKind, Name, RowRef, RowSet};
 use std::alloc::{AllocError, Global};
 use value_ops::MAX_JOINED_ITEMS;
@@ -55,14 +55,14 @@ pub(crate) fn list_value(items: Vec<CellItem>) -> Result<CellValue, Halt>
 }
 
 /// An attribute of a value.
-pub(crate) fn attribute<R: CellReader>(
+pub(crate) fn attribute<R: CellReader, N: NoteKeeper>(
     alloc: Global,
     reader: &R,
     name: &Name,
     value: &CellValue,
-    notes: &mut NoteList,
+    notes: &mut N,
 ) -> Result<CellValue, Halt>
-    ensures { Comes result notes.old notes.new
+    ensures { Comes result (N.noted notes.old) (N.noted notes.new)
         (attribute_of (R.told reader.now) name.now value.now) }
 {
     match value {
@@ -73,14 +73,14 @@ pub(crate) fn attribute<R: CellReader>(
 }
 
 /// An attribute of a record.
-pub(crate) fn record_attribute<R: CellReader>(
+pub(crate) fn record_attribute<R: CellReader, N: NoteKeeper>(
     alloc: Global,
     reader: &R,
     name: &Name,
     row: &RowRef,
-    notes: &mut NoteList,
+    notes: &mut N,
 ) -> Result<CellValue, Halt>
-    ensures { Comes result notes.old notes.new
+    ensures { Comes result (N.noted notes.old) (N.noted notes.new)
         (attribute_of (R.told reader.now) name.now (CellValue.Rec row.now)) }
 {
     if is_id(name) {
@@ -89,14 +89,14 @@ pub(crate) fn record_attribute<R: CellReader>(
     read_cell(alloc, reader, &row.table, name, row.row, notes)
 }
 
-fn set_attribute<R: CellReader>(
+fn set_attribute<R: CellReader, N: NoteKeeper>(
     alloc: Global,
     reader: &R,
     name: &Name,
     set: &RowSet,
-    notes: &mut NoteList,
+    notes: &mut N,
 ) -> Result<CellValue, Halt>
-    ensures { Comes result notes.old notes.new
+    ensures { Comes result (N.noted notes.old) (N.noted notes.new)
         (attribute_of (R.told reader.now) name.now (CellValue.RecSet set.now)) }
 {
     if is_id(name) {
@@ -114,15 +114,15 @@ fn row_items(alloc: Global, rows: &[u32]) -> Result<Vec<CellItem>, AllocError>
 }
 
 // The items of a column in these rows.
-fn column_items<R: CellReader>(
+fn column_items<R: CellReader, N: NoteKeeper>(
     alloc: Global,
     reader: &R,
     table: &Name,
     column: &Name,
     rows: &[u32],
-    notes: &mut NoteList,
+    notes: &mut N,
 ) -> Result<Vec<CellItem>, Halt>
-    ensures { ComesAs (λ v. v.items) result notes.old notes.new
+    ensures { ComesAs (λ v. v.items) result (N.noted notes.old) (N.noted notes.new)
         (collect (map as_item (column_runs (R.told reader.now) table.now column.now rows.now))) }
 {
     let mut items = Vec::new(alloc);
@@ -133,15 +133,15 @@ fn column_items<R: CellReader>(
     Ok(items)
 }
 
-fn read_item<R: CellReader>(
+fn read_item<R: CellReader, N: NoteKeeper>(
     alloc: Global,
     reader: &R,
     table: &Name,
     column: &Name,
     row: u32,
-    notes: &mut NoteList,
+    notes: &mut N,
 ) -> Result<CellItem, Halt>
-    ensures { ComesAs (λ i. i) result notes.old notes.new
+    ensures { ComesAs (λ i. i) result (N.noted notes.old) (N.noted notes.new)
         (as_item (read_cell (R.told reader.now) (cell_at table.now column.now row))) }
 {
     item_of(read_cell(alloc, reader, table, column, row, notes)?)

@@ -19,7 +19,7 @@ use crate::function::{Function, function_of};
 use crate::halt::Halt;
 use crate::lookup::{all_rows, found, open};
 use crate::operator::{constant_value, is_decided, operated, prefixed};
-use crate::{CellReader, NoteList};
+use crate::{CellReader, NoteKeeper};
 use cell_types::{CellItem, CellText, CellValue, ErrKind, KeyItem, KeyList, Name, RowRef};
 use formula_parse::{
     ArgumentList, BinaryOp, Formula, LookupKey, LookupKeyList, LookupKind, Node, PrefixOp,
@@ -38,14 +38,15 @@ fn number_value(number: u64) -> Result<CellValue, Halt>
 
 /// The value of a formula in a row.
 #[cycle(evaluate)]
-pub(crate) fn value_of<R: CellReader>(
+pub(crate) fn value_of<R: CellReader, N: NoteKeeper>(
     alloc: Global,
     reader: &R,
     at: &RowRef,
     formula: &Formula,
-    notes: &mut NoteList,
+    notes: &mut N,
 ) -> Result<CellValue, Halt>
-    ensures { Comes result notes.old notes.new (ev (R.told reader.now) at.now formula.now) }
+    ensures { Comes result (N.noted notes.old) (N.noted notes.new)
+        (ev (R.told reader.now) at.now formula.now) }
 {
     match formula.node() {
         Node::Number(number) => number_value(*number),
@@ -69,16 +70,16 @@ pub(crate) fn value_of<R: CellReader>(
 
 // An operator between two operands.
 #[cycle(evaluate)]
-fn binary<R: CellReader>(
+fn binary<R: CellReader, N: NoteKeeper>(
     alloc: Global,
     reader: &R,
     at: &RowRef,
     op: BinaryOp,
     left: &Formula,
     right: &Formula,
-    notes: &mut NoteList,
+    notes: &mut N,
 ) -> Result<CellValue, Halt>
-    ensures { Comes result notes.old notes.new
+    ensures { Comes result (N.noted notes.old) (N.noted notes.new)
         (combined op (ev (R.told reader.now) at.now left.now)
         (ev (R.told reader.now) at.now right.now)) }
 {
@@ -107,15 +108,15 @@ fn with_right(
 
 // An operator in front of its operand.
 #[cycle(evaluate)]
-fn prefix<R: CellReader>(
+fn prefix<R: CellReader, N: NoteKeeper>(
     alloc: Global,
     reader: &R,
     at: &RowRef,
     op: PrefixOp,
     inner: &Formula,
-    notes: &mut NoteList,
+    notes: &mut N,
 ) -> Result<CellValue, Halt>
-    ensures { Comes result notes.old notes.new
+    ensures { Comes result (N.noted notes.old) (N.noted notes.new)
         (turned op (ev (R.told reader.now) at.now inner.now)) }
 {
     let value = value_of(alloc, reader, at, inner, notes)?;
@@ -124,16 +125,16 @@ fn prefix<R: CellReader>(
 
 // One of two values, by the truth of a third.
 #[cycle(evaluate)]
-fn conditional<R: CellReader>(
+fn conditional<R: CellReader, N: NoteKeeper>(
     alloc: Global,
     reader: &R,
     at: &RowRef,
     value: &Formula,
     test: &Formula,
     other: &Formula,
-    notes: &mut NoteList,
+    notes: &mut N,
 ) -> Result<CellValue, Halt>
-    ensures { Comes result notes.old notes.new
+    ensures { Comes result (N.noted notes.old) (N.noted notes.new)
         (chosen (ev (R.told reader.now) at.now test.now)
         (ev (R.told reader.now) at.now value.now) (ev (R.told reader.now) at.now other.now)) }
 {
@@ -153,15 +154,15 @@ fn is_true(value: CellValue) -> bool
 
 // An attribute of a value.
 #[cycle(evaluate)]
-fn field<R: CellReader>(
+fn field<R: CellReader, N: NoteKeeper>(
     alloc: Global,
     reader: &R,
     at: &RowRef,
     inner: &Formula,
     name: &Name,
-    notes: &mut NoteList,
+    notes: &mut N,
 ) -> Result<CellValue, Halt>
-    ensures { Comes result notes.old notes.new
+    ensures { Comes result (N.noted notes.old) (N.noted notes.new)
         (field_of (R.told reader.now) name.now (ev (R.told reader.now) at.now inner.now)) }
 {
     let value = value_of(alloc, reader, at, inner, notes)?;
@@ -170,14 +171,14 @@ fn field<R: CellReader>(
 
 // The items of a list.
 #[cycle(evaluate)]
-fn items_of<R: CellReader>(
+fn items_of<R: CellReader, N: NoteKeeper>(
     alloc: Global,
     reader: &R,
     at: &RowRef,
     arguments: &ArgumentList,
-    notes: &mut NoteList,
+    notes: &mut N,
 ) -> Result<Vec<CellItem>, Halt>
-    ensures { ComesAs (λ v. v.items) result notes.old notes.new
+    ensures { ComesAs (λ v. v.items) result (N.noted notes.old) (N.noted notes.new)
         (collect (map as_item (ev_each (R.told reader.now) at.now (from_list arguments.now)))) }
 {
     let mut items = Vec::new(alloc);
@@ -190,14 +191,14 @@ fn items_of<R: CellReader>(
 
 // A formula's value as an item of a list.
 #[cycle(evaluate)]
-fn item<R: CellReader>(
+fn item<R: CellReader, N: NoteKeeper>(
     alloc: Global,
     reader: &R,
     at: &RowRef,
     formula: &Formula,
-    notes: &mut NoteList,
+    notes: &mut N,
 ) -> Result<CellItem, Halt>
-    ensures { ComesAs (λ i. i) result notes.old notes.new
+    ensures { ComesAs (λ i. i) result (N.noted notes.old) (N.noted notes.new)
         (as_item (ev (R.told reader.now) at.now formula.now)) }
 {
     item_of(value_of(alloc, reader, at, formula, notes)?)
@@ -205,14 +206,14 @@ fn item<R: CellReader>(
 
 // The values of arguments.
 #[cycle(evaluate)]
-fn values_of<R: CellReader>(
+fn values_of<R: CellReader, N: NoteKeeper>(
     alloc: Global,
     reader: &R,
     at: &RowRef,
     arguments: &ArgumentList,
-    notes: &mut NoteList,
+    notes: &mut N,
 ) -> Result<Vec<CellValue>, Halt>
-    ensures { ComesAs (λ v. v.items) result notes.old notes.new
+    ensures { ComesAs (λ v. v.items) result (N.noted notes.old) (N.noted notes.new)
         (collect (ev_each (R.told reader.now) at.now (from_list arguments.now))) }
 {
     let mut values = Vec::new(alloc);
@@ -225,15 +226,15 @@ fn values_of<R: CellReader>(
 
 // The value of the argument at a place, or else the empty text.
 #[cycle(evaluate)]
-fn argument_at<R: CellReader>(
+fn argument_at<R: CellReader, N: NoteKeeper>(
     alloc: Global,
     reader: &R,
     at: &RowRef,
     arguments: &ArgumentList,
     place: usize,
-    notes: &mut NoteList,
+    notes: &mut N,
 ) -> Result<CellValue, Halt>
-    ensures { Comes result notes.old notes.new
+    ensures { Comes result (N.noted notes.old) (N.noted notes.new)
         (argument (ev_each (R.told reader.now) at.now (from_list arguments.now)) place) }
 {
     match formula_at(arguments, place) {
@@ -252,15 +253,15 @@ fn formula_at(arguments: &ArgumentList, place: usize) -> Option<&Formula>
 
 // A call of a function.
 #[cycle(evaluate)]
-fn call<R: CellReader>(
+fn call<R: CellReader, N: NoteKeeper>(
     alloc: Global,
     reader: &R,
     at: &RowRef,
     name: &Name,
     arguments: &ArgumentList,
-    notes: &mut NoteList,
+    notes: &mut N,
 ) -> Result<CellValue, Halt>
-    ensures { Comes result notes.old notes.new
+    ensures { Comes result (N.noted notes.old) (N.noted notes.new)
         (called (function_of name.now) (count_of (from_list arguments.now))
         (ev_each (R.told reader.now) at.now (from_list arguments.now))) }
 {
@@ -275,15 +276,15 @@ fn call<R: CellReader>(
 
 // A call with the right count of arguments.
 #[cycle(evaluate)]
-fn run<R: CellReader>(
+fn run<R: CellReader, N: NoteKeeper>(
     alloc: Global,
     reader: &R,
     at: &RowRef,
     function: Function,
     arguments: &ArgumentList,
-    notes: &mut NoteList,
+    notes: &mut N,
 ) -> Result<CellValue, Halt>
-    ensures { Comes result notes.old notes.new
+    ensures { Comes result (N.noted notes.old) (N.noted notes.new)
         (run_function function (ev_each (R.told reader.now) at.now (from_list arguments.now))) }
 {
     match function {
@@ -298,14 +299,14 @@ fn run<R: CellReader>(
 
 // IF.
 #[cycle(evaluate)]
-fn choice<R: CellReader>(
+fn choice<R: CellReader, N: NoteKeeper>(
     alloc: Global,
     reader: &R,
     at: &RowRef,
     arguments: &ArgumentList,
-    notes: &mut NoteList,
+    notes: &mut N,
 ) -> Result<CellValue, Halt>
-    ensures { Comes result notes.old notes.new
+    ensures { Comes result (N.noted notes.old) (N.noted notes.new)
         (chosen (argument (ev_each (R.told reader.now) at.now (from_list arguments.now)) 0)
         (argument (ev_each (R.told reader.now) at.now (from_list arguments.now)) 1)
         (argument (ev_each (R.told reader.now) at.now (from_list arguments.now)) 2)) }
@@ -320,14 +321,14 @@ fn choice<R: CellReader>(
 
 // IFERROR.
 #[cycle(evaluate)]
-fn caught<R: CellReader>(
+fn caught<R: CellReader, N: NoteKeeper>(
     alloc: Global,
     reader: &R,
     at: &RowRef,
     arguments: &ArgumentList,
-    notes: &mut NoteList,
+    notes: &mut N,
 ) -> Result<CellValue, Halt>
-    ensures { Comes result notes.old notes.new
+    ensures { Comes result (N.noted notes.old) (N.noted notes.new)
         (or_else (argument (ev_each (R.told reader.now) at.now (from_list arguments.now)) 0)
         (argument (ev_each (R.told reader.now) at.now (from_list arguments.now)) 1)) }
 {
@@ -339,16 +340,16 @@ fn caught<R: CellReader>(
 
 // A lookup.
 #[cycle(evaluate)]
-fn lookup<R: CellReader>(
+fn lookup<R: CellReader, N: NoteKeeper>(
     alloc: Global,
     reader: &R,
     at: &RowRef,
     kind: LookupKind,
     table: &Name,
     keys: &LookupKeyList,
-    notes: &mut NoteList,
+    notes: &mut N,
 ) -> Result<CellValue, Halt>
-    ensures { Comes result notes.old notes.new
+    ensures { Comes result (N.noted notes.old) (N.noted notes.new)
         (given kind table.now
         (looked_up (R.told reader.now) table.now (forms_of (keys_from keys.now))
         (ev_keys (R.told reader.now) at.now (keys_from keys.now)))) }
@@ -362,14 +363,14 @@ fn lookup<R: CellReader>(
 
 // The keys with their values.
 #[cycle(evaluate)]
-fn key_items<R: CellReader>(
+fn key_items<R: CellReader, N: NoteKeeper>(
     alloc: Global,
     reader: &R,
     at: &RowRef,
     keys: &LookupKeyList,
-    notes: &mut NoteList,
+    notes: &mut N,
 ) -> Result<KeyList, Halt>
-    ensures { ComesAs (λ l. l) result notes.old notes.new
+    ensures { ComesAs (λ l. l) result (N.noted notes.old) (N.noted notes.new)
         (collect (item_runs (forms_of (keys_from keys.now))
         (ev_keys (R.told reader.now) at.now (keys_from keys.now)))) }
 {
@@ -383,14 +384,14 @@ fn key_items<R: CellReader>(
 
 // A key with its value.
 #[cycle(evaluate)]
-fn key_item<R: CellReader>(
+fn key_item<R: CellReader, N: NoteKeeper>(
     alloc: Global,
     reader: &R,
     at: &RowRef,
     key: &LookupKey,
-    notes: &mut NoteList,
+    notes: &mut N,
 ) -> Result<KeyItem, Halt>
-    ensures { ComesAs (λ k. k) result notes.old notes.new
+    ensures { ComesAs (λ k. k) result (N.noted notes.old) (N.noted notes.new)
         (item_run (form_of key.now.name key.now.value)
         (ev_key (R.told reader.now) at.now key.now.value)) }
 {
@@ -411,14 +412,15 @@ fn key_item<R: CellReader>(
 
 // The value of a key.
 #[cycle(evaluate)]
-fn key_value<R: CellReader>(
+fn key_value<R: CellReader, N: NoteKeeper>(
     alloc: Global,
     reader: &R,
     at: &RowRef,
     formula: &Formula,
-    notes: &mut NoteList,
+    notes: &mut N,
 ) -> Result<CellValue, Halt>
-    ensures { Comes result notes.old notes.new (ev_key (R.told reader.now) at.now formula.now) }
+    ensures { Comes result (N.noted notes.old) (N.noted notes.new)
+        (ev_key (R.told reader.now) at.now formula.now) }
 {
     if is_containing(formula) {
         contained(alloc, reader, at, formula, notes)
@@ -429,14 +431,14 @@ fn key_value<R: CellReader>(
 
 // The value of the first argument of a call.
 #[cycle(evaluate)]
-fn contained<R: CellReader>(
+fn contained<R: CellReader, N: NoteKeeper>(
     alloc: Global,
     reader: &R,
     at: &RowRef,
     formula: &Formula,
-    notes: &mut NoteList,
+    notes: &mut N,
 ) -> Result<CellValue, Halt>
-    ensures { Comes result notes.old notes.new
+    ensures { Comes result (N.noted notes.old) (N.noted notes.new)
         (argument (ev_arguments (R.told reader.now) at.now formula.now) 0) }
 {
     match formula.node() {

@@ -4,8 +4,9 @@
 //! (trees) and `value_ops` (operators). Used by `recalc`, which keeps evaluated cells.
 //!
 //! Promises: `attempt` gives the value that specs/Eval.antt says for a formula in a row, with all
-//! that was read on the way, or a cell that is needed first, in one counted step. Beside the reads
-//! a run notes the keys of each lookup with their values. `scan` answers the lookups of every
+//! that was read on the way, or a cell that is needed first, in one counted step; `attempt_noting`
+//! the same, where a keeper of the caller's takes what is noted. Beside the reads a run notes the
+//! keys of each lookup with their values. `scan` answers the lookups of every
 //! source of cells, `scan_among` looks at given rows alone. Five laws hold by a formula's text:
 //! readers that tell the same at what a run notes make the same run; those that tell the same at
 //! what it reads do so at all that it notes; cells that are needed are named by a read; no error is
@@ -23,6 +24,7 @@ mod evaluate;
 mod extremes;
 mod function;
 mod halt;
+mod keeper;
 mod laws;
 mod lookup;
 mod note;
@@ -33,11 +35,13 @@ mod reading;
 mod scanning;
 mod steps;
 mod sums;
+mod unkept;
 
-pub use attempting::{MAX_RESULT_ITEMS, attempt};
+pub use attempting::{MAX_RESULT_ITEMS, attempt, attempt_noting};
+pub use keeper::{LookupNotes, NoteKeeper};
 pub use laws::{alike_law, named_law, obeys_law, reads_law, text_law};
 pub use note::{Note, NoteList};
-pub use outcome::Attempt;
+pub use outcome::{Attempt, Tried};
 pub use reader::{CellReader, CellSource, Matching, Reading};
 pub use reading::as_read;
 pub use scanning::{scan, scan_among};

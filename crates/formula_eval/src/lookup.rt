@@ -11,27 +11,22 @@ ghost use Rattle.formula_eval.specs.Halted.{Comes, ComesAs, IsOut};
 
 use crate::attribute::is_id;
 use crate::halt::Halt;
-use crate::reading::note;
-use crate::{CellReader, CellSource, Matching, Note, NoteList};
-use cell_types::{CellValue, ErrKind, KeyList, Name, Read, RowList, RowRef, RowSet};
+use crate::{CellReader, CellSource, Matching, NoteKeeper};
+use cell_types::{CellValue, ErrKind, KeyList, Name, RowList, RowRef, RowSet};
 use formula_parse::{LookupKey, LookupKeyList, LookupKind};
 use std::alloc::{AllocError, Global};
 
 /// All rows of a table.
-pub(crate) fn all_rows<R: CellReader>(
+pub(crate) fn all_rows<R: CellReader, N: NoteKeeper>(
     alloc: Global,
     reader: &R,
     table: &Name,
-    notes: &mut NoteList,
+    notes: &mut N,
 ) -> Result<CellValue, Halt>
-    ensures { Comes result notes.old notes.new (all_rows (R.told reader.now) table.now) }
+    ensures { Comes result (N.noted notes.old) (N.noted notes.new)
+        (all_rows (R.told reader.now) table.now) }
 {
-    note(
-        notes,
-        Note::Read(Read::Rows {
-            table: table.clone()?,
-        }),
-    )?;
+    notes.rows(table)?;
     match reader.rows(table) {
         Some(rows) => Ok(all_of(alloc, table, rows)?),
         None => Err(Halt::Raised(ErrKind::Name)),
@@ -48,35 +43,22 @@ fn all_of(alloc: Global, table: &Name, rows: &[u32]) -> Result<CellValue, AllocE
 }
 
 /// What a lookup gives of the rows that meet its keys, which are noted.
-pub(crate) fn found<R: CellReader>(
+pub(crate) fn found<R: CellReader, N: NoteKeeper>(
     alloc: Global,
     reader: &R,
     kind: LookupKind,
     table: &Name,
     keys: KeyList,
-    notes: &mut NoteList,
+    notes: &mut N,
 ) -> Result<CellValue, Halt>
-    ensures { Comes result notes.old notes.new
+    ensures { Comes result (N.noted notes.old) (N.noted notes.new)
         (given kind table.now (met (R.told reader.now) table.now keys)) }
 {
     let matching = reader.matching(alloc, table, &keys);
-    match note_keys_met(table, keys, notes) {
+    match notes.met(table, keys) {
         Ok(()) => of_matching(kind, table, matching?),
-        Err(halt) => {
-            drop(matching);
-            Err(halt)
-        }
-    }
-}
-
-fn note_keys_met(table: &Name, keys: KeyList, notes: &mut NoteList) -> Result<(), Halt>
-    ensures ok { OnOk result (notes.new ≡ notes.old ++ Note.Met table.now keys ∷ []) }
-    ensures err { OnErr result (result ≡ Err Halt.NoMemory) }
-{
-    match table.clone() {
-        Ok(table) => note(notes, Note::Met { table, keys }),
         Err(_) => {
-            drop(keys);
+            drop(matching);
             Err(Halt::NoMemory)
         }
     }
@@ -119,33 +101,28 @@ pub(crate) fn is_key_column<S: CellSource>(reader: &S, table: &Name, column: &Na
 }
 
 /// The reads and tests of a lookup before its keys' values.
-pub(crate) fn open<R: CellReader>(
+pub(crate) fn open<R: CellReader, N: NoteKeeper>(
     reader: &R,
     table: &Name,
     keys: &LookupKeyList,
-    notes: &mut NoteList,
+    notes: &mut N,
 ) -> Result<(), Halt>
-    ensures { ComesAs (λ u. true) result notes.old notes.new
+    ensures { ComesAs (λ u. true) result (N.noted notes.old) (N.noted notes.new)
         (opened (R.told reader.now) table.now (columns_of (forms_of (keys_from keys.now)))) }
 {
     open_keys(reader, table, keys.as_slice(), notes)
 }
 
-fn open_keys<R: CellReader>(
+fn open_keys<R: CellReader, N: NoteKeeper>(
     reader: &R,
     table: &Name,
     keys: &[LookupKey],
-    notes: &mut NoteList,
+    notes: &mut N,
 ) -> Result<(), Halt>
-    ensures { ComesAs (λ u. true) result notes.old notes.new
+    ensures { ComesAs (λ u. true) result (N.noted notes.old) (N.noted notes.new)
         (opened (R.told reader.now) table.now (map (λ k. k.name) keys.now)) }
 {
-    note(
-        notes,
-        Note::Read(Read::Rows {
-            table: table.clone()?,
-        }),
-    )?;
+    notes.rows(table)?;
     if reader.rows(table).is_none() {
         return Err(Halt::Raised(ErrKind::Name));
     }
@@ -157,25 +134,18 @@ fn open_keys<R: CellReader>(
     }
 }
 
-fn note_keys(table: &Name, keys: &[LookupKey], notes: &mut NoteList) -> Result<(), Halt>
-    ensures ok { OnOk result
-        (notes.new ≡ notes.old ++ key_notes table.now (map (λ k. k.name) keys.now)) }
-    ensures err { OnErr result (result ≡ Err Halt.NoMemory) }
+fn note_keys<N: NoteKeeper>(
+    table: &Name,
+    keys: &[LookupKey],
+    notes: &mut N,
+) -> Result<(), AllocError>
+    ensures { OnOk result (N.noted notes.new
+        ≡ N.noted notes.old ++ key_notes table.now (map (λ k. k.name) keys.now)) }
 {
     for key in keys {
-        note_key(table, &key.name, notes)?;
+        notes.key(table, &key.name)?;
     }
     Ok(())
-}
-
-fn note_key(table: &Name, column: &Name, notes: &mut NoteList) -> Result<(), Halt>
-    ensures ok { OnOk result
-        (notes.new ≡ notes.old ++ Note.Read (Read.Key table.now column.now) ∷ []) }
-    ensures err { OnErr result (result ≡ Err Halt.NoMemory) }
-{
-    let table = table.clone()?;
-    let column = column.clone()?;
-    note(notes, Note::Read(Read::Key { table, column }))
 }
 
 fn has_columns<R: CellReader>(reader: &R, table: &Name, keys: &[LookupKey]) -> bool

@@ -11,3 +11,12 @@ pub enum Attempt {
     /// A cell whose value is needed first.
     Need(CellId),
 }
+
+/// What an attempt comes to whose notes a keeper took.
+#[derive(Drop)]
+pub enum Tried {
+    /// The value, not yet fitted to its column.
+    Value(CellValue),
+    /// A cell whose value is needed first.
+    Need(CellId),
+}

@@ -9,20 +9,11 @@ ghost use Rattle.formula_eval.specs.Reading.{as_read, as_record, as_records, rea
 ghost use Rattle.formula_eval.specs.Halted.{Comes, IsOut};
 
 use crate::halt::Halt;
-use crate::{CellReader, Note, NoteList, Reading};
+use crate::{CellReader, NoteKeeper, Reading};
 use cell_types::{
-    CellId, CellItem, CellValue, ColType, ErrKind, Name, Read, RowList, RowRef, RowSet, default_of,
+    CellId, CellItem, CellValue, ColType, ErrKind, Name, RowList, RowRef, RowSet, default_of,
 };
 use std::alloc::{AllocError, Global};
-
-/// Adds a note.
-pub(crate) fn note(notes: &mut NoteList, note: Note) -> Result<(), Halt>
-    ensures ok { OnOk result (notes.new ≡ notes.old ++ note ∷ []) }
-    ensures err { OnErr result (result ≡ Err Halt.NoMemory) }
-{
-    notes.push(note)?;
-    Ok(())
-}
 
 pub(crate) fn cell_id(table: &Name, column: &Name, row: u32) -> Result<CellId, AllocError>
     ensures { IfOk result (λ c. c ≡ cell_at table.now column.now row) }
@@ -33,18 +24,18 @@ pub(crate) fn cell_id(table: &Name, column: &Name, row: u32) -> Result<CellId, A
 }
 
 /// The value of a cell, as a formula reads it.
-pub(crate) fn read_cell<R: CellReader>(
+pub(crate) fn read_cell<R: CellReader, N: NoteKeeper>(
     alloc: Global,
     reader: &R,
     table: &Name,
     column: &Name,
     row: u32,
-    notes: &mut NoteList,
+    notes: &mut N,
 ) -> Result<CellValue, Halt>
-    ensures { Comes result notes.old notes.new
+    ensures { Comes result (N.noted notes.old) (N.noted notes.new)
         (read_cell (R.told reader.now) (cell_at table.now column.now row)) }
 {
-    note(notes, Note::Read(Read::Cell(cell_id(table, column, row)?)))?;
+    notes.cell(table, column, row)?;
     match reader.cell(table, column, row) {
         Reading::Need => Err(Halt::Need(cell_id(table, column, row)?)),
         Reading::Known(CellValue::Err(ErrKind::Circular)) => Err(Halt::Circular),

@@ -8,9 +8,9 @@ use Rattle.cell_types.specs.declared.value.CellValue.TheVariants.{Err}
 use Rattle.cell_types.specs.declared.value.ErrKind.TheVariants.{Circular}
 use Rattle.cell_types.specs.declared.column_type.ColType.{ColType}
 use Rattle.cell_types.specs.declared.value.RowRef.{RowRef}
-use Rattle.formula_eval.specs.declared.outcome.Attempt.{Attempt}
-use Rattle.formula_eval.specs.declared.outcome.Attempt.TheVariants.{Value as Given, Need as Lacks}
-use Rattle.formula_eval.specs.Attempted.{IsAttempt}
+use Rattle.formula_eval.specs.declared.outcome.Tried.{Tried}
+use Rattle.formula_eval.specs.declared.outcome.Tried.TheVariants.{Value as Given, Need as Lacks}
+use Rattle.formula_eval.specs.Attempted.{IsTried}
 use Rattle.recalc.specs.declared.settling.Next.{Next}
 use Rattle.recalc.specs.declared.settling.Next.TheVariants.{Value, Need}
 use Rattle.formula_parse.specs.FormulaOf.{formula_of}
@@ -25,19 +25,19 @@ use Rattle.recalc.proofs.Moves.{top_open, put_working, put_handled, put_work, pu
 
 -- an attempt over what is known tells of the cell
 pub attempt_tells : (s : Sheet) (sheet : IsSheet s) (k : Values) → IsSound s k → (c : CellId) (f : List ℕ) (ty : ColType) → s.formula c ≡ Some f → s.kind c.table c.column ≡ Some ty
-    → (a : Attempt) → IsAttempt a (run_of (over s k) c f) → (n : Next) → Follows n ty a → IsFound s k c n
-attempt_tells s sheet k sound c f ty e kind (Given v notes) h (Value w) g = attempt_value s sheet k sound c f v e h.0 ∙ ap (λ o. fit_in o v) kind ∙ sym g
-attempt_tells s sheet k sound c f ty e kind (Given v notes) h (Need d) g = absurd g
+    → (a : Tried) → IsTried a (run_of (over s k) c f) → (n : Next) → Follows n ty a → IsFound s k c n
+attempt_tells s sheet k sound c f ty e kind (Given v) h (Value w) g = attempt_value s sheet k sound c f v e h ∙ ap (λ o. fit_in o v) kind ∙ sym g
+attempt_tells s sheet k sound c f ty e kind (Given v) h (Need d) g = absurd g
 attempt_tells s sheet k sound c f ty e kind (Lacks d) h (Value w) g = absurd g
 attempt_tells s sheet k sound c f ty e kind (Lacks d) h (Need b) g = subst (λ x. Waits s c x × IsOpen s k x) (sym g) (attempt_waits s sheet k sound c f d e h, attempt_open s sheet k sound c f d h)
 
 -- an attempt at the tree of a text is one at the text
-pub of_tree : (s : Sheet) (k : Values) (c : CellId) (f : List ℕ) (a : Attempt) (o : Option Tree) → o ≡ formula_of f → IsAttempt a (evaluated_some (over s k) (row_of c) o) → IsAttempt a (run_of (over s k) c f)
+pub of_tree : (s : Sheet) (k : Values) (c : CellId) (f : List ℕ) (a : Tried) (o : Option Tree) → o ≡ formula_of f → IsTried a (evaluated_some (over s k) (row_of c) o) → IsTried a (run_of (over s k) c f)
 unfolding evaluated_text
-of_tree s k c f a o is h = subst (λ x. IsAttempt a (evaluated_some (over s k) (row_of c) x)) is h
+of_tree s k c f a o is h = subst (λ x. IsTried a (evaluated_some (over s k) (row_of c) x)) is h
 
-pub of_tree_at : (s : Sheet) (k : Values) (c : CellId) (f : List ℕ) (a : Attempt) (at : RowRef) (o : Option Tree) → at ≡ row_of c → o ≡ formula_of f → IsAttempt a (evaluated_some (over s k) at o) → IsAttempt a (run_of (over s k) c f)
-of_tree_at s k c f a at o here is h = of_tree s k c f a o is (subst (λ x. IsAttempt a (evaluated_some (over s k) x o)) here h)
+pub of_tree_at : (s : Sheet) (k : Values) (c : CellId) (f : List ℕ) (a : Tried) (at : RowRef) (o : Option Tree) → at ≡ row_of c → o ≡ formula_of f → IsTried a (evaluated_some (over s k) at o) → IsTried a (run_of (over s k) c f)
+of_tree_at s k c f a at o here is h = of_tree s k c f a o is (subst (λ x. IsTried a (evaluated_some (over s k) x o)) here h)
 
 module _ (s : Sheet) (sheet : IsSheet s) (k : Values) (stack front : List CellId) (top : CellId) (is : stack ≡ front ++ top ∷ []) (w : IsWorking s k stack) where
   pub turn_open : IsOpen s k top

@@ -11,7 +11,7 @@ ghost use Rattle.recalc.specs.Indexes.{AreIndexes, IsInBucket, IsIndex, index_at
 use cell_types::{CellValue, KeyList, Name};
 use doc_model::{ColDef, DocTables};
 use doc_readers::{find_column, rows_in};
-use formula_eval::{Note, NoteList, as_read};
+use formula_eval::{Note, as_read};
 use lookup_index::{LookupIndex, bucket_of};
 use std::alloc::{AllocError, Global};
 
@@ -163,12 +163,12 @@ pub(crate) fn index_lookups<D: DocTables>(
     alloc: Global,
     tables: &D,
     indexes: &mut Vec<ColumnIndex>,
-    notes: &NoteList,
+    notes: &[Note],
 ) -> Result<(), AllocError>
     requires { AreIndexes (sheet_of (D.document tables.now)) indexes.old.items }
     ensures { OnOk result (AreIndexes (sheet_of (D.document tables.now)) indexes.new.items) }
 {
-    for note in notes.as_slice() {
+    for note in notes {
         index_lookup(alloc, tables, indexes, note)?;
     }
     Ok(())

@@ -4,7 +4,7 @@ ghost use Rattle.std.specs.Prelude.{◌≡◌, ◌<◌, ◌++◌, ◌∷◌, [],
 ghost use Rattle.std.specs.Option.{is_some, option_copied};
 ghost use Rattle.doc_model.specs.DocumentLaws.{IsWhole};
 ghost use Rattle.recalc.specs.Evaluated.{sheet_of};
-ghost use Rattle.formula_eval.specs.Attempted.{IsAttempt};
+ghost use Rattle.formula_eval.specs.Attempted.{IsTried};
 ghost use Rattle.formula_eval.specs.Eval.{evaluated};
 ghost use Rattle.formula_eval.specs.OfText.{evaluated_some};
 ghost use Rattle.recalc.specs.Indexes.{AreIndexes};
@@ -21,7 +21,7 @@ use crate::places::{column_at, put_value};
 use crate::reading::KnownReader;
 use cell_types::{CellId, CellValue, ColType, ErrKind, RowRef, convert};
 use doc_model::DocTables;
-use formula_eval::{Attempt, CellReader, NoteList, Steps, attempt};
+use formula_eval::{CellReader, LookupNotes, Steps, Tried, attempt_noting};
 use formula_parse::Formula;
 use std::alloc::{AllocError, Global};
 use std::marker::Brand;
@@ -55,12 +55,12 @@ fn is_on(stack: &[CellId], top: &CellId, cell: &CellId) -> bool
     holds(stack, cell) || is_same(top, cell)
 }
 
-fn next_of(alloc: Global, ty: &ColType, attempted: Attempt) -> Result<Next, AllocError>
-    ensures { IfOk result (λ n. Follows n ty.now attempted) }
+fn next_of(alloc: Global, ty: &ColType, tried: Tried) -> Result<Next, AllocError>
+    ensures { IfOk result (λ n. Follows n ty.now tried) }
 {
-    match attempted {
-        Attempt::Value { value, .. } => Ok(Next::Value(convert(alloc, ty, &value)?)),
-        Attempt::Need(cell) => Ok(Next::Need(cell)),
+    match tried {
+        Tried::Value(value) => Ok(Next::Value(convert(alloc, ty, &value)?)),
+        Tried::Need(cell) => Ok(Next::Need(cell)),
     }
 }
 
@@ -77,16 +77,16 @@ fn attempt_once<R: CellReader, L: Ledger>(
     formula: &Formula,
     at: &RowRef,
     reader: &R,
+    notes: &mut LookupNotes,
     blank: Blank,
-) -> Result<Attempt, AllocError>
+) -> Result<Tried, AllocError>
     requires name { blank.name ≡ L.name }
     requires parts { blank.parts ≡ L.parts }
     requires some { 0 < L.parts }
-    ensures { IfOk result
-        (λ a. IsAttempt a (evaluated (R.told reader.now) at.now formula.now)) }
+    ensures { IfOk result (λ t. IsTried t (evaluated (R.told reader.now) at.now formula.now)) }
 {
     let mut steps = Steps::<L>::new(blank);
-    attempt(alloc, formula, at, reader, &mut steps)
+    attempt_noting(alloc, formula, at, reader, notes, &mut steps)
 }
 
 // One attempt at a formula; without one the value is a syntax error.
@@ -95,17 +95,15 @@ fn attempt_tree<R: CellReader>(
     tree: Option<&Formula>,
     at: &RowRef,
     reader: &R,
-) -> Result<Attempt, AllocError>
+    notes: &mut LookupNotes,
+) -> Result<Tried, AllocError>
     ensures { IfOk result
-        (λ a. IsAttempt a (evaluated_some (R.told reader.now) at.now (option_copied tree.entry))) }
+        (λ t. IsTried t (evaluated_some (R.told reader.now) at.now (option_copied tree.entry))) }
 {
     let Some(formula) = tree else {
-        return Ok(Attempt::Value {
-            value: CellValue::Err(ErrKind::Syntax),
-            notes: NoteList::new(alloc),
-        });
+        return Ok(Tried::Value(CellValue::Err(ErrKind::Syntax)));
     };
-    attempt_once::<R, Brand>(alloc, formula, at, reader, Blank::new(1))
+    attempt_once::<R, Brand>(alloc, formula, at, reader, notes, Blank::new(1))
 }
 
 /// The row in which a cell stands.
@@ -116,22 +114,6 @@ pub(crate) fn row_of(cell: &CellId) -> Result<RowRef, AllocError>
         table: cell.table.clone()?,
         row: cell.row,
     })
-}
-
-// Makes indexes for the lookups of an attempt, so that those of other cells need not scan.
-fn index_attempt<D: DocTables>(
-    alloc: Global,
-    tables: &D,
-    indexes: &mut Vec<ColumnIndex>,
-    attempted: &Attempt,
-) -> Result<(), AllocError>
-    requires { AreIndexes (sheet_of (D.document tables.now)) indexes.old.items }
-    ensures { OnOk result (AreIndexes (sheet_of (D.document tables.now)) indexes.new.items) }
-{
-    match attempted {
-        Attempt::Value { notes, .. } => index_lookups(alloc, tables, indexes, notes),
-        Attempt::Need(_) => Ok(()),
-    }
 }
 
 fn try_cell<D: DocTables>(
@@ -161,9 +143,11 @@ fn try_cell<D: DocTables>(
         kept,
         indexes: &*indexes,
     };
-    let attempted = attempt_tree(alloc, tree_in(column), at, &reader)?;
-    index_attempt(alloc, tables, indexes, &attempted)?;
-    Ok(next_of(alloc, &column.ty, attempted)?)
+    let mut notes = LookupNotes::new(alloc);
+    let tried = attempt_tree(alloc, tree_in(column), at, &reader, &mut notes)?;
+    // So that the lookups of other cells need not scan.
+    index_lookups(alloc, tables, indexes, notes.lookups())?;
+    Ok(next_of(alloc, &column.ty, tried)?)
 }
 
 fn turn<D: DocTables>(

@@ -65,15 +65,15 @@ decreases-contained g l = 5 * tree_size l.formula.now + 1
 
 abbrev pub invariant-items_of-loop-formula : goal.invariant-items_of-loop-formula
 invariant-items_of-loop-formula g l =
-    fronted l.items.items (after l.notes (collect (map as_item (ev_each (g.R.CellSource.told l.reader) l.at (from_list (drop l.formula-index l.formula-items))))))
-    ≡ after l.fn.notes (collect (map as_item (ev_each (g.R.CellSource.told l.reader) l.at (from_list l.arguments))))
+    fronted l.items.items (after (g.N.NoteKeeper.noted l.notes) (collect (map as_item (ev_each (g.R.CellSource.told l.reader) l.at (from_list (drop l.formula-index l.formula-items))))))
+    ≡ after (g.N.NoteKeeper.noted l.fn.notes) (collect (map as_item (ev_each (g.R.CellSource.told l.reader) l.at (from_list l.arguments))))
 
 abbrev pub invariant-values_of-loop-formula : goal.invariant-values_of-loop-formula
 invariant-values_of-loop-formula g l =
-    fronted l.values.items (after l.notes (collect (ev_each (g.R.CellSource.told l.reader) l.at (from_list (drop l.formula-index l.formula-items)))))
-    ≡ after l.fn.notes (collect (ev_each (g.R.CellSource.told l.reader) l.at (from_list l.arguments)))
+    fronted l.values.items (after (g.N.NoteKeeper.noted l.notes) (collect (ev_each (g.R.CellSource.told l.reader) l.at (from_list (drop l.formula-index l.formula-items)))))
+    ≡ after (g.N.NoteKeeper.noted l.fn.notes) (collect (ev_each (g.R.CellSource.told l.reader) l.at (from_list l.arguments)))
 
 abbrev pub invariant-key_items-loop-key : goal.invariant-key_items-loop-key
 invariant-key_items-loop-key g l =
-    fronted l.items.items (after l.notes (collect (item_runs (forms_of (keys_from (keys_of (drop l.key-index l.key-items)))) (ev_keys (g.R.CellSource.told l.reader) l.at (keys_from (keys_of (drop l.key-index l.key-items)))))))
-    ≡ after l.fn.notes (collect (item_runs (forms_of (keys_from l.keys)) (ev_keys (g.R.CellSource.told l.reader) l.at (keys_from l.keys))))
+    fronted l.items.items (after (g.N.NoteKeeper.noted l.notes) (collect (item_runs (forms_of (keys_from (keys_of (drop l.key-index l.key-items)))) (ev_keys (g.R.CellSource.told l.reader) l.at (keys_from (keys_of (drop l.key-index l.key-items)))))))
+    ≡ after (g.N.NoteKeeper.noted l.fn.notes) (collect (item_runs (forms_of (keys_from l.keys)) (ev_keys (g.R.CellSource.told l.reader) l.at (keys_from l.keys))))

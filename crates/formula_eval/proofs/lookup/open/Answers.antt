@@ -14,4 +14,4 @@ returns g c =
     let ks : List LookupKey = c.as_slice.result.now in
     let same : map (λ (k : LookupKey). k.name) ks ≡ columns_of (forms_of (keys_from c.args.keys.now)) =
     subst (λ (l : List (List ℕ × Tree)). map (λ (k : LookupKey). k.name) ks ≡ columns_of (forms_of (keys_from l))) c.as_slice.ensures (sym (columns-keys ks)) in
-    subst (λ (cs : List (List ℕ)). ComesAs {A = Bool} (λ u. true) c.open_keys.result c.args.notes.now c.open_keys.new.notes (opened rd c.args.table.now cs)) same c.open_keys.ensures
+    subst (λ (cs : List (List ℕ)). ComesAs {A = Bool} (λ u. true) c.open_keys.result (g.N.NoteKeeper.noted c.args.notes.now) (g.N.NoteKeeper.noted c.open_keys.new.notes) (opened rd c.args.table.now cs)) same c.open_keys.ensures

@@ -21,7 +21,7 @@ returns-clause-found g c =
     let e = c.in-Some.column.now in
     let f = c.requires.opened.0.0 in
     let kind = sym (kind_kept s ks kept cell.table cell.column) ∙ ap (option_map (λ (x : KeptColumn). x.ty)) (sym c.in-Some.ensures) in
-    attempt_tells (sheet_of s) (is_sheet s) (held_at s ks) c.requires.settled.sound cell f e.ty c.requires.opened.0.1 kind c.in_ok-attempted.attempted
-    (of_tree_at (sheet_of s) (held_at s ks) cell f c.in_ok-attempted.attempted c.args.at.now _ c.requires.here
-    (c.tree_in.ensures ∙ sym (tree_found ks cell e (sym c.in-Some.ensures)) ∙ tree_kept s ks kept cell f c.requires.opened.0.1) c.in_ok-attempted.ensures)
+    attempt_tells (sheet_of s) (is_sheet s) (held_at s ks) c.requires.settled.sound cell f e.ty c.requires.opened.0.1 kind c.in_ok-tried.tried
+    (of_tree_at (sheet_of s) (held_at s ks) cell f c.in_ok-tried.tried c.args.at.now _ c.requires.here
+    (c.tree_in.ensures ∙ sym (tree_found ks cell e (sym c.in-Some.ensures)) ∙ tree_kept s ks kept cell f c.requires.opened.0.1) c.in_ok-tried.ensures)
     c.in_ok-next_of.field-0 c.in_ok-next_of.ensures

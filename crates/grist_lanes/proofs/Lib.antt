@@ -8,3 +8,4 @@ mod ReversedLemmas
 mod WholeLemmas
 mod ServedLemmas
 mod GateLemmas
+mod CoreCrossing

@@ -1,0 +1,112 @@
+-- That a core may go to another thread, and that the gate of one may be lent to several.
+-- A type with formulas in it has no such fact of its own, so the parts are put together here.
+use Rattle.acl_formula.proofs.mention.Mention.TheSendSync.{the_send as mention-send}
+use Rattle.acl_formula.proofs.permissions.PermFlags.TheSendSync.{the_send as permFlags-send}
+use Rattle.acl_formula.proofs.permissions.PermSet.TheSendSync.{the_send as permSet-send}
+use Rattle.acl_formula.proofs.user_info.Attribute.TheSendSync.{the_send as attribute-send}
+use Rattle.acl_formula.proofs.user_info.AttributeRow.TheSendSync.{the_send as attributeRow-send}
+use Rattle.acl_formula.proofs.user_info.NamedCell.TheSendSync.{the_send as namedCell-send}
+use Rattle.acl_formula.proofs.user_info.UserInfo.TheSendSync.{the_send as userInfo-send}
+use Rattle.acl_rules.proofs.resource.Columns.TheSendSync.{the_send as columns-send}
+use Rattle.acl_rules.proofs.resource.Resource.TheSendSync.{the_send as resource-send}
+use Rattle.acl_rules.proofs.resources.Resources.TheSendSync.{the_send as resources-send}
+use Rattle.action_limits.proofs.tally.Tally.TheSendSync.{the_send as tally-send}
+use Rattle.bundle_core.proofs.loading.Opening.TheSendSync.{the_send as opening-send}
+use Rattle.bundle_core.proofs.session.OpenSession.TheSendSync.{the_send as openSession-send}
+use Rattle.bundle_records.proofs.ledger.RecordLedger.TheSendSync.{the_send as recordLedger-send}
+use Rattle.cell_types.proofs.column_type.ColType.TheSendSync.{the_send as colType-send}
+use Rattle.cell_types.proofs.name.Name.TheSendSync.{the_send as name-send}
+use Rattle.cell_types.proofs.sequence.Sequence.TheSendSync.{the_send as sequence-send}
+use Rattle.cell_types.proofs.text.CellText.TheSendSync.{the_send as cellText-send}
+use Rattle.cell_types.proofs.value.CellItem.TheSendSync.{the_send as cellItem-send}
+use Rattle.cell_types.proofs.value.CellValue.TheSendSync.{the_send as cellValue-send}
+use Rattle.cell_types.proofs.value.ErrKind.TheSendSync.{the_send as errKind-send}
+use Rattle.cell_types.proofs.value.RowRef.TheSendSync.{the_send as rowRef-send}
+use Rattle.cell_types.proofs.value.RowSet.TheSendSync.{the_send as rowSet-send}
+use Rattle.core.proofs.option.Option.TheSendSync.{the_send as option-send}
+use Rattle.doc_model.proofs.column.ColDef.TheSendSync.{the_send as colDef-send}
+use Rattle.doc_model.proofs.column.ColInfo.TheSendSync.{the_send as colInfo-send}
+use Rattle.doc_model.proofs.entry.Entry.TheSendSync.{the_send as entry-send}
+use Rattle.doc_model.proofs.user.User.TheSendSync.{the_send as user-send}
+use Rattle.formula_parse.proofs.operator.BinaryOp.TheSendSync.{the_send as binaryOp-send}
+use Rattle.formula_parse.proofs.operator.Constant.TheSendSync.{the_send as constant-send}
+use Rattle.formula_parse.proofs.operator.LookupKind.TheSendSync.{the_send as lookupKind-send}
+use Rattle.formula_parse.proofs.operator.PrefixOp.TheSendSync.{the_send as prefixOp-send}
+use Rattle.formula_parse.proofs.rule.RuleAtom.TheSendSync.{the_send as ruleAtom-send}
+use Rattle.row_tables.proofs.tables.RowTables.TheSendSync.{the_send as rowTables-send}
+use Rattle.undo_bundles.proofs.log.BundleLog.TheSendSync.{the_send as bundleLog-send}
+use Rattle.user_attrs.proofs.attribute_rule.AttributeRule.TheSendSync.{the_send as attributeRule-send}
+use Rattle.std.proofs.Crossing.{crosses}
+use Rattle.std.proofs.MapsCrossing.{crosses as maps}
+use Rattle.formula_parse.proofs.tree.ArgumentList.TheLaws.TheKnot.{crosses as knot}
+use denote.RattleType.{RattleType}
+use mathlib.Core.List.{[], ◌∷◌}
+use mir.Syntax.{Lifetime, Sym}
+use base.Fml.{Lft}
+use denote.Ref.{ShrRef}
+use denote.Struct.Tuple.{TupleAt, type_at}
+use denote.Struct.Field.{row_field}
+use denote.Param.SendFields.{as_row_sync, declared_sync}
+use denote.Param.Send.{IsSend, IsSync, sendable, recorded_send, struct_send, view_send, shr_sync}
+use denote.Struct.Struct as S
+use denote.Struct.Declared.{shape}
+use Rattle.std.specs.contracts.vec.Vec as vec
+use Rattle.std.specs.contracts.alloc.Global as global
+use Rattle.std.specs.contracts.impls.GlobalAllocator as allocator
+use Rattle.user_attrs.specs.contracts.attribute_rule.AttributeRule as attribute
+use Rattle.acl_rules.specs.contracts.decision.Ctx as ctx
+use Rattle.context_changes.specs.contracts.known.KnownContexts as known
+use Rattle.doc_keeper.specs.declared.keeper.Keeper as keeper
+use Rattle.row_tables.specs.contracts.tables.RowTables as tables
+use Rattle.row_tables.specs.contracts.tables.RowTablesDocTables as doc-tables
+use Rattle.row_tables.specs.contracts.tables.RowBack as back
+use Rattle.row_tables.specs.contracts.tables.RowTablesDocReader as doc-reader
+use Rattle.recalc.specs.contracts.doc.Doc as doc
+use Rattle.bundle_core.specs.contracts.ruled_document.RuledDocument as ruled
+use Rattle.bundle_core.specs.contracts.ruled_document.RuledDocument.TheInside as ruled-inside
+use Rattle.bundle_core.specs.contracts.history_core.Core as core
+use Rattle.session_gate.specs.declared.machine.Machine as machine
+use Rattle.session_gate.specs.contracts.gate.Gate as gate
+use Rattle.session_gate.proofs.gate.Gate.TheSendSync.{the_sync as gate-sync}
+use Rattle.bundle_core.specs.contracts.history_core.Core.TheInside as inside
+
+-- the parts that have a fact of their own
+ruleset parts = (mention-send, permFlags-send, permSet-send, attribute-send, attributeRow-send,
+    namedCell-send, userInfo-send, columns-send, resource-send, resources-send, tally-send,
+    opening-send, openSession-send, recordLedger-send, colType-send, name-send,
+    sequence-send, cellText-send, cellItem-send, cellValue-send, errKind-send, rowRef-send,
+    rowSet-send, option-send, colDef-send, colInfo-send, entry-send, user-send,
+    binaryOp-send, constant-send, lookupKind-send, prefixOp-send, ruleAtom-send,
+    rowTables-send, bundleLog-send, attributeRule-send)
+
+-- what is in force for a user
+context-send : IsSend ctx.the_row
+context-send = search (sendable, parts, knot, crosses, maps) depth 60
+
+contexts-send : IsSend (vec.the_row ctx.the_row global.the_row allocator.TheImpl.ghosts)
+contexts-send = search (sendable, context-send, crosses) depth 60
+
+known-send : IsSend (known.the_field).row
+known-send = struct_send (shape known.the_type) (sequence-send attribute.the_row attributeRule-send, (contexts-send, tt))
+
+doc-send : IsSend (doc.the_row tables.the_row back.the_row doc-tables.TheImpl.ghosts doc-reader.TheImpl.ghosts)
+doc-send = search (sendable, parts, knot, crosses, maps) depth 60
+
+ruled-send : IsSend (ruled.the_row tables.the_row back.the_row doc-tables.TheImpl.ghosts doc-reader.TheImpl.ghosts)
+ruled-send = let T = ruled-inside.the_type tables.the_row back.the_row doc-tables.TheImpl.ghosts doc-reader.TheImpl.ghosts in view_send (ruled-inside.the_row tables.the_row back.the_row doc-tables.TheImpl.ghosts doc-reader.TheImpl.ghosts) _ _ _ _
+    (recorded_send (S.Struct (shape T)) T.D T.to T.to_one (struct_send (shape T) (doc-send, (known-send, tt))))
+
+-- a core may go to another thread where its keeper may
+pub core-send : (K : RattleType) (g : keeper.Ghosts K.Denot) → IsSend K → IsSend (core.the_row K g)
+core-send K g k = let T = inside.the_type K g in view_send (inside.the_row K g) _ _ _ _
+    (recorded_send (S.Struct (shape T)) T.D T.to T.to_one (struct_send (shape T)
+        ((search (sendable, parts, crosses) depth 60), ((search (sendable, parts, crosses) depth 60), ((search (sendable, parts, crosses) depth 60), (ruled-send, ((search (sendable, parts, crosses) depth 60), ((search (sendable, parts, crosses) depth 60), ((search (sendable, parts, crosses) depth 60), ((search (sendable, parts, crosses) depth 60), ((search (sendable, k, parts, crosses) depth 60), ((search (sendable, parts, crosses) depth 60), ((search (sendable, parts, crosses) depth 60), tt)))))))))))))
+
+-- and then threads may share its gate
+pub core-gate-sync : (K Entry Opening Turn Answer : RattleType) (g : keeper.Ghosts K.Denot) (m : machine.Ghosts (core.the_row K g).Denot Entry.Denot Opening.Denot Turn.Denot Answer.Denot) → IsSend K → IsSync (gate.the_row (core.the_row K g) Entry Opening Turn Answer m)
+core-gate-sync K Entry Opening Turn Answer g m k = gate-sync (core.the_row K g) Entry Opening Turn Answer m (core-send K g k)
+
+-- what a closure borrows of three places may be shared where each may
+pub lent-sync : (ν : Sym) (ℓ ℓ′ ℓ″ : Lifetime) (κ κ′ κ″ : Lft) (R S T : RattleType) → IsSync R → IsSync S → IsSync T → IsSync (TupleAt ν (ShrRef ℓ κ R ∷ ShrRef ℓ′ κ′ S ∷ ShrRef ℓ″ κ″ T ∷ []))
+lent-sync ν ℓ ℓ′ ℓ″ κ κ′ κ″ R S T r s t = declared_sync (type_at ν (ShrRef ℓ κ R ∷ ShrRef ℓ′ κ′ S ∷ ShrRef ℓ″ κ″ T ∷ []))
+    (as_row_sync (row_field (ShrRef ℓ κ R)) (shr_sync ℓ κ R r), (as_row_sync (row_field (ShrRef ℓ′ κ′ S)) (shr_sync ℓ′ κ′ S s), (as_row_sync (row_field (ShrRef ℓ″ κ″ T)) (shr_sync ℓ″ κ″ T t), tt)))

@@ -71,13 +71,44 @@ use Rattle.session_gate.proofs.gate.Gate.TheSendSync.{the_sync as gate-sync}
 use Rattle.bundle_core.specs.contracts.history_core.Core.TheInside as inside
 
 -- the parts that have a fact of their own
-ruleset parts = (mention-send, permFlags-send, permSet-send, attribute-send, attributeRow-send,
-    namedCell-send, userInfo-send, columns-send, resource-send, resources-send, tally-send,
-    opening-send, openSession-send, recordLedger-send, colType-send, name-send,
-    sequence-send, cellText-send, cellItem-send, cellValue-send, errKind-send, rowRef-send,
-    rowSet-send, option-send, colDef-send, colInfo-send, entry-send, user-send,
-    binaryOp-send, constant-send, lookupKind-send, prefixOp-send, ruleAtom-send,
-    rowTables-send, bundleLog-send, attributeRule-send)
+ruleset parts = (
+  mention-send,
+  permFlags-send,
+  permSet-send,
+  attribute-send,
+  attributeRow-send,
+  namedCell-send,
+  userInfo-send,
+  columns-send,
+  resource-send,
+  resources-send,
+  tally-send,
+  opening-send,
+  openSession-send,
+  recordLedger-send,
+  colType-send,
+  name-send,
+  sequence-send,
+  cellText-send,
+  cellItem-send,
+  cellValue-send,
+  errKind-send,
+  rowRef-send,
+  rowSet-send,
+  option-send,
+  colDef-send,
+  colInfo-send,
+  entry-send,
+  user-send,
+  binaryOp-send,
+  constant-send,
+  lookupKind-send,
+  prefixOp-send,
+  ruleAtom-send,
+  rowTables-send,
+  bundleLog-send,
+  attributeRule-send,
+)
 
 -- what is in force for a user
 context-send : IsSend ctx.the_row
@@ -100,7 +131,7 @@ ruled-send = let T = ruled-inside.the_type tables.the_row back.the_row doc-table
 pub core-send : (K : RattleType) (g : keeper.Ghosts K.Denot) → IsSend K → IsSend (core.the_row K g)
 core-send K g k = let T = inside.the_type K g in view_send (inside.the_row K g) _ _ _ _
     (recorded_send (S.Struct (shape T)) T.D T.to T.to_one (struct_send (shape T)
-        ((search (sendable, parts, crosses) depth 60), ((search (sendable, parts, crosses) depth 60), ((search (sendable, parts, crosses) depth 60), (ruled-send, ((search (sendable, parts, crosses) depth 60), ((search (sendable, parts, crosses) depth 60), ((search (sendable, parts, crosses) depth 60), ((search (sendable, parts, crosses) depth 60), ((search (sendable, k, parts, crosses) depth 60), ((search (sendable, parts, crosses) depth 60), ((search (sendable, parts, crosses) depth 60), tt)))))))))))))
+    ((search (sendable, parts, crosses) depth 60), ((search (sendable, parts, crosses) depth 60), ((search (sendable, parts, crosses) depth 60), (ruled-send, ((search (sendable, parts, crosses) depth 60), ((search (sendable, parts, crosses) depth 60), ((search (sendable, parts, crosses) depth 60), ((search (sendable, parts, crosses) depth 60), ((search (sendable, k, parts, crosses) depth 60), ((search (sendable, parts, crosses) depth 60), ((search (sendable, parts, crosses) depth 60), tt)))))))))))))
 
 -- and then threads may share its gate
 pub core-gate-sync : (K Entry Opening Turn Answer : RattleType) (g : keeper.Ghosts K.Denot) (m : machine.Ghosts (core.the_row K g).Denot Entry.Denot Opening.Denot Turn.Denot Answer.Denot) → IsSend K → IsSync (gate.the_row (core.the_row K g) Entry Opening Turn Answer m)

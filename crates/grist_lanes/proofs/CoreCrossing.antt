@@ -23,7 +23,7 @@ use Rattle.cell_types.proofs.value.CellValue.TheSendSync.{the_send as cellValue-
 use Rattle.cell_types.proofs.value.ErrKind.TheSendSync.{the_send as errKind-send}
 use Rattle.cell_types.proofs.value.RowRef.TheSendSync.{the_send as rowRef-send}
 use Rattle.cell_types.proofs.value.RowSet.TheSendSync.{the_send as rowSet-send}
-use Rattle.core.proofs.option.Option.TheSendSync.{the_send as option-send}
+use Rattle.std.proofs.option.Option.TheSendSync.{the_send as option-send}
 use Rattle.doc_model.proofs.column.ColDef.TheSendSync.{the_send as colDef-send}
 use Rattle.doc_model.proofs.column.ColInfo.TheSendSync.{the_send as colInfo-send}
 use Rattle.doc_model.proofs.entry.Entry.TheSendSync.{the_send as entry-send}

@@ -15,22 +15,27 @@ use std::sync::Wait;
 use std::test::Fail;
 use std::thread::Threads;
 
-// A port that hands out one connection, over the first script.
-fn port_of_one(alloc: Global) -> Result<MemPort<MemLink>, AllocError>
+// A port that hands out one connection, over these bytes.
+fn port_over(alloc: Global, bytes: Vec<u8>) -> Result<MemPort<MemLink>, AllocError>
     ensures { IfOk result (λ p. is_lent p ≡ false) }
 {
     let mut links = VecDeque::new(alloc);
-    links.push_back(link_over(alloc, coming(alloc, CASES[0].script)?, 99, 99)?)?;
+    links.push_back(link_over(alloc, bytes, 99, 99)?)?;
     MemPort::new(alloc, links, Vec::new(alloc))
 }
 
-fn two_ports(alloc: Global) -> Result<Vec<MemPort<MemLink>>, AllocError>
+/// Two ports, with a connection each over these bytes.
+pub(crate) fn two_ports(
+    alloc: Global,
+    first: Vec<u8>,
+    second: Vec<u8>,
+) -> Result<Vec<MemPort<MemLink>>, AllocError>
     ensures count { IfOk result (λ v. vec_len v ≡ 2) }
     ensures home { IfOk result (λ v. All (λ p. is_lent p ≡ false) v.items) }
 {
     let mut ports = Vec::with_capacity(alloc, 2)?;
-    ports.push(port_of_one(alloc)?)?;
-    ports.push(port_of_one(alloc)?)?;
+    ports.push(port_over(alloc, first)?)?;
+    ports.push(port_over(alloc, second)?)?;
     Ok(ports)
 }
 
@@ -47,7 +52,9 @@ fn lanes_over<R: Threads + Wait + Sync>(
     alloc: Global,
 ) -> Result<(bool, usize), AllocError> {
     let want = lines_behind(alloc, "< ", CASES[0].script)?;
-    let mut ports = two_ports(alloc)?;
+    let first = coming(alloc, CASES[0].script)?;
+    let second = coming(alloc, CASES[0].script)?;
+    let mut ports = two_ports(alloc, first, second)?;
     match serve_lanes(rt, alloc, new_core(alloc)?, &mut ports) {
         Ok(Served { core }) => Ok((
             ports.iter().all(|port| was_served(port, want.as_slice())),

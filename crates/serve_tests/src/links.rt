@@ -141,8 +141,9 @@ fn serve_alone<R: Threads + Wait + Sync, L: Link>(
         return Err(AllocError);
     };
     let end = serve_link(rt, alloc, &gate, &mut pass, &session, link);
-    passes.push(pass)?;
-    match gate.close(PassList::from(passes)) {
+    let mut back = Vec::new(alloc);
+    back.push(pass)?;
+    match gate.close(PassList::from(back)) {
         Ok(core) => Ok(Served {
             end,
             history: core.finish().history,

@@ -4,24 +4,21 @@
 //! alone gives its session for the requests in the order of the history that the gate leaves.
 
 ghost use Rattle.std.specs.Prelude.{◌≡◌, true, IfOk};
-ghost use Rattle.std.specs.Thread.{IsSync};
 ghost use Rattle.doc_model.specs.WellFormed.{asks_well_formed};
-ghost use Rattle.session_gate.specs.Gate.{IsPassOf};
 
-use crate::cores::{name_of, new_core, new_gate};
-use crate::links::link_over;
+use crate::cores::new_core;
+use crate::lanes::two_ports;
 use bundle_core::{Answer, Core};
 use doc_keeper::SureKeeper;
 use doc_model::{Entry, EntryList, Request};
 use grist_json::read_request;
-use grist_serve::serve_link;
-use io_edges::MemLink;
-use session_gate::{Gate, Pass, PassList};
+use grist_lanes::{NoServe, Served, serve_lanes};
+use io_edges::{MemLink, MemPort};
 use std::alloc::{AllocError, Global};
 use std::str::Lines;
 use std::sync::Wait;
 use std::test::Fail;
-use std::thread::{Threads, join};
+use std::thread::Threads;
 
 const FIRST: &str = r#"{"method":"openDoc","token":"te"}
 {"actions":[["AddRecord","Table1",null,{"A":1}]],"method":"applyUserActions"}
@@ -35,59 +32,35 @@ const SECOND: &str = r#"{"method":"openDoc","token":"te"}
 {"bundle":1,"method":"undo"}
 "#;
 
-// Serves a link by a pass, and hands both back.
-fn serve_one<R: Threads + Wait + Sync>(
-    rt: &R,
-    alloc: Global,
-    gate: &Gate<Core<SureKeeper>>,
-    mut pass: Pass<Core<SureKeeper>>,
-    session: &str,
-    text: &str,
-) -> Result<(Pass<Core<SureKeeper>>, MemLink), AllocError>
-    requires { IsPassOf gate.now pass }
-    ensures { IfOk result (λ r. IsPassOf gate.now r.0) }
-{
-    let name = name_of(alloc, session)?;
-    let bytes = Vec::from_slice(alloc, text.as_bytes())?;
-    let mut link = link_over(alloc, bytes, 99, 99)?;
-    let _end = serve_link(rt, alloc, gate, &mut pass, &name, &mut link);
-    Ok((pass, link))
-}
-
-// Two links that were served at the same time, and the history that they left.
+// The ports of two links that were served at the same time, and the history that they left.
 #[derive(Drop)]
 struct Shared {
-    first: MemLink,
-    second: MemLink,
+    ports: Vec<MemPort<MemLink>>,
     history: EntryList,
 }
 
-fn served_by_two<R: Threads + Wait + Sync>(rt: &R, alloc: Global) -> Result<Shared, Fail> {
-    let (gate, passes) = new_gate(alloc, 2)?;
-    let mut passes = passes.into_vec();
-    let second = passes.pop().ok_or("two passes")?;
-    let first = passes.pop().ok_or("two passes")?;
-    let (first, second) = join(
-        rt,
-        ||
-            requires { IsSync R.row × IsPassOf gate first }
-        { serve_one(rt, alloc, &gate, first, "l1c1", FIRST) },
-        ||
-            requires { IsSync R.row × IsPassOf gate second }
-        { serve_one(rt, alloc, &gate, second, "l2c1", SECOND) },
-    );
-    let (first_pass, first) = first?;
-    let (second_pass, second) = second?;
-    passes.push(first_pass)?;
-    passes.push(second_pass)?;
-    let Ok(core) = gate.close(PassList::from(passes)) else {
-        return Err("all passes are back".into());
+fn served_by_two<R: Threads + Wait + Sync>(rt: &R, alloc: Global) -> Result<Shared, AllocError> {
+    let first = Vec::from_slice(alloc, FIRST.as_bytes())?;
+    let second = Vec::from_slice(alloc, SECOND.as_bytes())?;
+    let mut ports = two_ports(alloc, first, second)?;
+    match serve_lanes(rt, alloc, new_core(alloc)?, &mut ports) {
+        Ok(Served { core }) => Ok(Shared {
+            ports,
+            history: core.finish().history,
+        }),
+        Err(NoServe { core: _ }) => Err(AllocError),
+    }
+}
+
+// Whether each port's one link was written these bytes.
+fn were_given(ports: &[MemPort<MemLink>], first: &[u8], second: &[u8]) -> bool {
+    let [one, other] = ports else {
+        return false;
     };
-    Ok(Shared {
-        first,
-        second,
-        history: core.finish().history,
-    })
+    let ([one], [other]) = (one.back(), other.back()) else {
+        return false;
+    };
+    one.conn.bytes() == first && other.conn.bytes() == second
 }
 
 // The request of the next line, and behind the last one the end of the connection.
@@ -155,7 +128,7 @@ fn links_share_one_history(rt: HostRuntime) -> Result<(), Fail> {
     let shared = served_by_two(&rt, rt.alloc())?;
     let (first, second) = given_alone(rt.alloc(), shared.history.as_slice())?;
     assert_eq!(rt; shared.history.len(), 10);
-    assert!(rt; shared.first.bytes() == first.as_slice());
-    assert!(rt; shared.second.bytes() == second.as_slice());
+    let ports = shared.ports.as_slice();
+    assert!(rt; were_given(ports, first.as_slice(), second.as_slice()));
     Ok(())
 }

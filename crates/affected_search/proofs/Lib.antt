@@ -1,4 +1,5 @@
 pub mod ActionLaws
+pub mod ColumnLaws
 pub mod FoundLaws
 pub mod NarrowLaws
 pub mod ReachedLaws

@@ -1,4 +1,5 @@
 pub mod Actions
+pub mod ByColumn
 pub mod Found
 pub mod Narrow
 pub mod Reached

@@ -28,6 +28,7 @@
 
 mod acting;
 mod affected;
+mod by_column;
 mod laws;
 mod recording;
 mod search;
@@ -35,6 +36,7 @@ mod touched;
 
 pub use acting::affected_by_action;
 pub use affected::AffectedCells;
+pub use by_column::rows_by_column;
 pub use laws::{carried_law, found_law, held_law, least_law, narrow_law, set_law, within_law};
 pub use recording::record_cell;
 pub use search::affected_by;

@@ -7,6 +7,7 @@ ghost use Rattle.clap.specs.Words.{kind_of, subcommand_rows_of};
 ghost use Rattle.clap.specs.declared.builder.command.Command.TheViews.{out-Command as fields_of};
 ghost use Rattle.clap.specs.declared.error.kind.ErrorKind.TheVariants.{OutOfMemory};
 ghost use Rattle.run_words.specs.Clap.{doc_of, found_doc, option_rule, replay_app, words_app};
+ghost use Rattle.run_words.specs.ServeViews.{HasFewLanes};
 ghost use Rattle.run_words.specs.ServeWords.{serve_of};
 ghost use Rattle.run_words.specs.Words.{plan_of, replay_in};
 ghost use Rattle.run_words.specs.declared.plans.PlanFault.TheVariants.{Usage};
@@ -79,6 +80,7 @@ fn named(alloc: Global, text: Option<&str>) -> Result<Option<Name>, AllocError>
 // What words ask for that are of no other command than a replay.
 fn replay_plan(alloc: Global, words: &[String]) -> Result<Plan, PlanFault>
     ensures ok { IfOk result (λ p. replay_in (map string_bytes words.now) ≡ Some p) }
+    ensures lanes { IfOk result HasFewLanes }
     ensures usage { (result ≡ Err Usage) ↔ (replay_in (map string_bytes words.now) ≡ None) }
 {
     if !is_replay_form(words) {
@@ -96,6 +98,7 @@ fn replay_plan(alloc: Global, words: &[String]) -> Result<Plan, PlanFault>
 // What the words behind `serve` ask for.
 fn serve_plan(alloc: Global, options: &[String]) -> Result<Plan, PlanFault>
     ensures ok { IfOk result (λ p. serve_of (map string_bytes options.now) ≡ Some p) }
+    ensures lanes { IfOk result HasFewLanes }
     ensures usage { (result ≡ Err Usage) ↔ (serve_of (map string_bytes options.now) ≡ None) }
 {
     let Some(words) = serve_words(options) else {
@@ -120,6 +123,7 @@ fn serve_plan(alloc: Global, options: &[String]) -> Result<Plan, PlanFault>
 /// Source: docs/PROTOCOL.md, "the program".
 pub fn plan(alloc: Global, words: &[String]) -> Result<Plan, PlanFault>
     ensures ok { IfOk result (λ p. plan_of (map string_bytes words.now) ≡ Some p) }
+    ensures lanes { IfOk result HasFewLanes }
     ensures usage { (result ≡ Err Usage) ↔ (plan_of (map string_bytes words.now) ≡ None) }
 {
     match words {

@@ -1,5 +1,5 @@
 //! What the words behind `serve` ask for. No memory is taken.
-ghost use Rattle.std.specs.Prelude.{◌≡◌, ◌≤◌, true, IfSome, map, option_map, string_bytes};
+ghost use Rattle.std.specs.Prelude.{◌≡◌, ◌<◌, ◌≤◌, IfSome, map, option_map, string_bytes};
 ghost use Rattle.run_words.specs.ServeWords.{begins_with_zero, complete, joined_option, number_up_to, option_named, options_in, serve_of, with_apart, with_joined, with_option};
 ghost use Rattle.run_words.specs.ServeViews.{found_of, plan_in};
 
@@ -28,7 +28,7 @@ fn begins_with_zero(text: &[u8]) -> bool
 // The number from 1 to a bound that decimal digits say.
 fn number_up_to(most: u32, text: &str) -> Option<u32>
     ensures value { result ≡ number_up_to most text.now }
-    ensures few { IfSome result (λ n. n ≤ most) }
+    ensures few { IfSome result (λ n. (0 < n) × (n ≤ most)) }
 {
     if begins_with_zero(text.as_bytes()) {
         return None;

@@ -1,5 +1,5 @@
 //! The options of `serve` as they are read.
-ghost use Rattle.std.specs.Prelude.{◌≡◌, true};
+ghost use Rattle.std.specs.Prelude.{◌≡◌, ◌<◌, ◌≤◌, true};
 ghost use Rattle.std.specs.Option.{ForSome};
 ghost use Rattle.cell_types.specs.NameRule.{is_name};
 
@@ -20,6 +20,7 @@ pub(crate) struct ServeOptions<'a> {
     pub conns: Option<u32>,
     pub doc: Option<&'a str>,
     ghost named: { ForSome doc (λ t. is_name t.now ≡ true) },
+    ghost few: { ForSome lanes (λ n. (0 < n) × (n ≤ 64)) },
 }
 
 /// What `serve` was asked for.
@@ -30,4 +31,5 @@ pub(crate) struct ServeWords<'a> {
     pub conns: u32,
     pub doc: Option<&'a str>,
     ghost named: { ForSome doc (λ t. is_name t.now ≡ true) },
+    ghost few: { (0 < lanes) × (lanes ≤ 64) },
 }

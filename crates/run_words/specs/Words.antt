@@ -4,6 +4,7 @@ use Rattle.std.specs.Str.{bytes_eq}
 use Rattle.cell_types.specs.NameRule.{is_name}
 use Rattle.run_words.specs.declared.plans.Plan.{Plan}
 use Rattle.run_words.specs.declared.plans.Plan.TheVariants.{Replay}
+use Rattle.run_words.specs.ServeWords.{serve_of}
 
 -- what stands behind a front, where the text begins with it
 abbrev pub behind : List ℕ → List ℕ → Option (List ℕ)
@@ -26,7 +27,13 @@ abbrev pub replay_of : List (List ℕ) → Option Plan
 replay_of [] = Some (Replay None None)
 replay_of (word ∷ more) = option_and_then replay_over (doc_text (word ∷ more))
 
--- what the words ask for, where they are of a form: replay [--doc NAME]
+-- what words ask for that are of the form replay [--doc NAME]
+abbrev pub replay_in : List (List ℕ) → Option Plan
+replay_in [] = None
+replay_in (word ∷ options) = if bytes_eq word (codes "replay") then replay_of options else None
+
+-- what the words ask for, where they are of a form: that one, or serve and its options
 abbrev pub plan_of : List (List ℕ) → Option Plan
 plan_of [] = None
-plan_of (word ∷ options) = if bytes_eq word (codes "replay") then replay_of options else None
+plan_of (word ∷ options) =
+    if bytes_eq word (codes "serve") then serve_of options else replay_in (word ∷ options)

@@ -1,0 +1,18 @@
+-- What the options that were read are seen as.
+use Rattle.std.specs.Prelude.{None, option_map}
+use Rattle.run_words.specs.declared.plans.Plan.{Plan}
+use Rattle.run_words.specs.declared.plans.Plan.TheVariants.{Serve}
+use Rattle.run_words.specs.declared.serve_options.ServeOptions.{ServeOptions}
+use Rattle.run_words.specs.declared.serve_options.ServeWords.{ServeWords}
+use Rattle.run_words.specs.ServeWords.{Found}
+
+abbrev pub found_of : ServeOptions → Found
+found_of o = record {
+  lanes = o.lanes;
+  port = o.port;
+  conns = o.conns;
+  doc = option_map (λ t. t.now) o.doc;
+}
+
+abbrev pub plan_in : ServeWords → Plan
+plan_in w = Serve w.lanes w.port w.conns (option_map (λ t. t.now) w.doc) None

@@ -9,16 +9,19 @@ ghost use Rattle.clap.specs.declared.error.kind.ErrorKind.TheVariants.{OutOfMemo
 ghost use Rattle.run_words.specs.Clap.{doc_of, found_doc, option_rule, replay_app, words_app};
 ghost use Rattle.run_words.specs.ServeViews.{HasFewLanes};
 ghost use Rattle.run_words.specs.ServeWords.{serve_of};
-ghost use Rattle.run_words.specs.Words.{plan_of, replay_in};
+ghost use Rattle.run_words.specs.Words.{gen_of, plan_of, replay_in};
 ghost use Rattle.run_words.specs.declared.plans.PlanFault.TheVariants.{Usage};
 
 use crate::form::is_replay_form;
 use crate::plans::{Plan, PlanFault};
-use crate::serve_form::serve_words;
+use crate::serve_form::{number_up_to, serve_words};
 use cell_types::Name;
 use clap::{Arg, ArgAction, ArgMatches, Command, Error};
 use name_rules::name_of;
 use std::alloc::{AllocError, Global};
+
+/// How many rows a generated script may have.
+const MAX_ROWS: u32 = 20_000;
 
 fn option<'a>(alloc: Global, name: &'a str) -> Arg<'a>
     ensures rule { rule_of result ≡ option_rule name.entry.now }
@@ -116,6 +119,20 @@ fn serve_plan(alloc: Global, options: &[String]) -> Result<Plan, PlanFault>
     })
 }
 
+// What the words behind `gen` ask for.
+fn gen_plan(options: &[String]) -> Result<Plan, PlanFault>
+    ensures ok { IfOk result (λ p. gen_of (map string_bytes options.now) ≡ Some p) }
+    ensures usage { (result ≡ Err Usage) ↔ (gen_of (map string_bytes options.now) ≡ None) }
+{
+    let [text] = options else {
+        return Err(PlanFault::Usage);
+    };
+    match number_up_to(MAX_ROWS, text.as_str()) {
+        Some(n) => Ok(Plan::Gen { n }),
+        None => Err(PlanFault::Usage),
+    }
+}
+
 /// What the words behind the program's own name ask for.
 ///
 /// Errors: `Usage`, exactly where they are of no form; out of memory.
@@ -128,6 +145,7 @@ pub fn plan(alloc: Global, words: &[String]) -> Result<Plan, PlanFault>
 {
     match words {
         [word, options @ ..] if word.as_str() == "serve" => serve_plan(alloc, options),
+        [word, options @ ..] if word.as_str() == "gen" => gen_plan(options),
         _ => replay_plan(alloc, words),
     }
 }

@@ -25,8 +25,8 @@ fn begins_with_zero(text: &[u8]) -> bool
     }
 }
 
-// The number from 1 to a bound that decimal digits say.
-fn number_up_to(most: u32, text: &str) -> Option<u32>
+/// The number from 1 to a bound that decimal digits say, with no zero before them.
+pub(crate) fn number_up_to(most: u32, text: &str) -> Option<u32>
     ensures value { result ≡ number_up_to most text.now }
     ensures few { IfSome result (λ n. (0 < n) × (n ≤ most)) }
 {

@@ -1,16 +1,7 @@
--- What the words of a command line ask for, and the statuses of the program.
-use Rattle.std.specs.Prelude.{ℕ, Bool, true, false, Option, Some, None}
-use Rattle.run_words.specs.declared.plans.Plan.{Plan}
-use Rattle.run_words.specs.declared.plans.Plan.TheVariants.{Replay, Serve, Gen}
+-- The statuses of the program.
+use Rattle.std.specs.Prelude.{ℕ, Bool, true, false}
 use Rattle.grist_run.specs.declared.status.Status.{Status}
 use Rattle.grist_run.specs.declared.status.Status.TheVariants.{Done, Usage, BadUsers, ReadFault, WriteFault, StoreFault, NoMemory, BadStore, TurnsSpent, HistoryFull}
-
--- a replay is asked for, and not what no run does yet
-abbrev pub is_replay : Option Plan → Bool
-is_replay None = false
-is_replay (Some (Replay doc watch)) = true
-is_replay (Some (Serve lanes port conns doc watch)) = false
-is_replay (Some (Gen n)) = false
 
 -- the status with which the program ends
 abbrev pub status_code : Status → ℕ

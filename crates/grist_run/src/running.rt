@@ -6,13 +6,13 @@ ghost use Rattle.io_edges.specs.Causes.{Rose};
 ghost use Rattle.doc_model.specs.Document.{Document};
 ghost use Rattle.doc_model.specs.declared.entry.Entry.{Entry};
 ghost use Rattle.doc_model.specs.declared.user.User.{User};
-ghost use Rattle.run_words.specs.Words.{plan_of};
+ghost use Rattle.run_words.specs.Words.{is_replay, plan_of};
 ghost use Rattle.grist_run.specs.Hearing.{IsAt};
 ghost use Rattle.grist_run.specs.Run.{IsRun};
 ghost use Rattle.grist_run.specs.Serving.{EndsServing};
 ghost use Rattle.grist_run.specs.Replay.{KeepsRecords, Replays};
 ghost use Rattle.grist_run.specs.Starting.{start_status};
-ghost use Rattle.grist_run.specs.Words.{is_early, is_replay, place_of};
+ghost use Rattle.grist_run.specs.Words.{is_early, place_of};
 
 use crate::serving::serve;
 use crate::status::{Outcome, Status};
@@ -22,7 +22,7 @@ use doc_keeper::Keeper;
 use doc_model::EntryList;
 use doc_opening::StartCause;
 use io_edges::{LineReader, NextLine, Outbox, Sink, Source};
-use run_words::{Plan, PlanFault, plan};
+use run_words::asks_for_replay;
 use std::alloc::Global;
 
 /// Does what the words ask for: a replay of the input's lines over the document that the keeper's
@@ -56,10 +56,10 @@ pub fn run<S: Source, O: Sink, K: Keeper>(
     ensures store_fault { result.status ≡ Status.StoreFault
         → Rose (K.failures keeper) (K.failures result.keeper) }
 {
-    match plan(alloc, words) {
-        Ok(Plan::Replay { .. }) => replay(alloc, input, out, keeper),
-        Ok(_) | Err(PlanFault::Usage) => without_history(alloc, Status::Usage, keeper),
-        Err(PlanFault::NoMemory) => without_history(alloc, Status::NoMemory, keeper),
+    if asks_for_replay(words) {
+        replay(alloc, input, out, keeper)
+    } else {
+        without_history(alloc, Status::Usage, keeper)
     }
 }
 

@@ -1,2 +1,3 @@
 pub mod ClapLemmas
 mod ServeLemmas
+pub mod ReplayLemmas

@@ -1,9 +1,9 @@
 -- What the words of a command line ask for.
-use Rattle.std.specs.Prelude.{ℕ, List, [], ◌∷◌, codes, length, take, drop, Option, Some, None, option_and_then, option_map, if◌then◌else◌}
+use Rattle.std.specs.Prelude.{ℕ, Bool, true, false, List, [], ◌∷◌, codes, length, take, drop, Option, Some, None, option_and_then, option_map, if◌then◌else◌}
 use Rattle.std.specs.Str.{bytes_eq}
 use Rattle.cell_types.specs.NameRule.{is_name}
 use Rattle.run_words.specs.declared.plans.Plan.{Plan}
-use Rattle.run_words.specs.declared.plans.Plan.TheVariants.{Gen, Replay}
+use Rattle.run_words.specs.declared.plans.Plan.TheVariants.{Gen, Replay, Serve}
 use Rattle.run_words.specs.ServeWords.{number_up_to, serve_of}
 
 -- what stands behind a front, where the text begins with it
@@ -46,3 +46,10 @@ plan_of (word ∷ options) =
     if bytes_eq word (codes "serve") then serve_of options
     else if bytes_eq word (codes "gen") then gen_of options
     else replay_in (word ∷ options)
+
+-- a replay is asked for
+abbrev pub is_replay : Option Plan → Bool
+is_replay None = false
+is_replay (Some (Replay doc watch)) = true
+is_replay (Some (Serve lanes port conns doc watch)) = false
+is_replay (Some (Gen n)) = false

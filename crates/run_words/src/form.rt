@@ -1,6 +1,6 @@
 //! Which words are of a form. No memory is taken.
 ghost use Rattle.std.specs.Prelude.{◌≡◌, codes, is_some, map, option_map, string_bytes};
-ghost use Rattle.run_words.specs.Words.{behind, doc_text, replay_in, replay_of};
+ghost use Rattle.run_words.specs.Words.{behind, doc_text, is_replay, plan_of, replay_in, replay_of};
 
 use name_rules::is_name;
 
@@ -34,7 +34,7 @@ fn is_replay(options: &[String]) -> bool
     }
 }
 
-/// Whether the words ask for a replay.
+/// Whether the words are of the form of a replay.
 pub(crate) fn is_replay_form(words: &[String]) -> bool
     ensures { result ≡ is_some (replay_in (map string_bytes words.now)) }
 {
@@ -42,4 +42,13 @@ pub(crate) fn is_replay_form(words: &[String]) -> bool
         [word, options @ ..] => word.as_str() == "replay" && is_replay(options),
         [] => false,
     }
+}
+
+/// Whether the words ask for a replay.
+///
+/// Memory: none.
+pub fn asks_for_replay(words: &[String]) -> bool
+    ensures { result ≡ is_replay (plan_of (map string_bytes words.now)) }
+{
+    is_replay_form(words)
 }

@@ -17,5 +17,6 @@ mod reading;
 mod serve_form;
 mod serve_options;
 
+pub use form::asks_for_replay;
 pub use plans::{Plan, PlanFault};
 pub use reading::plan;

@@ -83,8 +83,10 @@ module _ (table : List ℕ) (g : Grid ColDef) (d : ColDef) (info : ColInfo) wher
 
   to_info : list_any renames (modified_to table g d info) ≡ false
   to_info =
-      let behind : List Step = direct (ModifyColumn table d.id info) ∷ [] ++ filled table g d info in
-      either renames (same_info d.info info) [] (emptied table g d info ++ behind) refl (both renames (emptied table g d info) behind empty fill)
+      let change = direct (ModifyColumn table d.id info) ∷ [] in
+      let front = emptied table g d info ++ change in
+      either renames (same_info d.info info) [] (front ++ filled table g d info) refl
+      (both renames front (filled table g d info) (both renames (emptied table g d info) change empty refl) fill)
 
 modify : (table : List ℕ) (g : Grid ColDef) (c : UserCol) → list_any renames (modified table g c) ≡ false
 modify table g c =

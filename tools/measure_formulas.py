@@ -35,6 +35,8 @@ TASK_SUM = "SUM(Tasks.lookupRecords(Project=$Project).Hours)"
 SIZES = (10_000, 20_000, 50_000, 100_000)
 TASKS, PROJECTS = 5_000, 100
 BULK_ROWS = 5_000
+# As many rows with two columns of numbers as one line can hold.
+LINE_ROWS = 50_000
 
 
 def frame(*actions):
@@ -45,16 +47,11 @@ def table(id, **types):
     return frame(["AddTable", id, [{"id": column, "type": type} for column, type in types.items()]])
 
 
-def whole_rows(id, **columns):
-    """A line that adds all rows with these columns of values."""
-    return [frame(["BulkAddRecord", id, [None] * len(next(iter(columns.values()))), columns])]
-
-
-def rows(id, **columns):
-    """Lines that add rows with these columns of values."""
+def rows(id, each=BULK_ROWS, **columns):
+    """Lines that add rows with these columns of values, so many each."""
     count = len(next(iter(columns.values())))
-    for first in range(0, count, BULK_ROWS):
-        part = {column: values[first : first + BULK_ROWS] for column, values in columns.items()}
+    for first in range(0, count, each):
+        part = {column: values[first : first + each] for column, values in columns.items()}
         yield frame(["BulkAddRecord", id, [None] * len(next(iter(part.values()))), part])
 
 
@@ -131,8 +128,10 @@ def chain(count):
     without, lines = [[frame(["AddTable", "Run", columns[:size]]), filled] for size in (1, 2)]
     seconds, memory = between(without, lines, "V", count)
     show(f"chain of {count} rows", count, seconds, memory)
-    numbers = [table("Run", A="Int", V="Int"), *whole_rows("Run", A=[1] * count, V=[*range(1, count + 1)])]
-    show_evaluation(count, seconds, between(without, numbers, "V", count)[0])
+    ones, values = [1] * count, [*range(1, count + 1)]
+    plain = [table("Run", A="Int"), *rows("Run", LINE_ROWS, A=ones)]
+    numbers = [table("Run", A="Int", V="Int"), *rows("Run", LINE_ROWS, A=ones, V=values)]
+    show_evaluation(count, seconds, between(plain, numbers, "V", count)[0])
     return seconds
 
 

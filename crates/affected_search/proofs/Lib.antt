@@ -1,5 +1,11 @@
+pub mod ActionLaws
+pub mod ColumnLaws
 pub mod FoundLaws
+pub mod NarrowLaws
 pub mod ReachedLaws
+pub mod RecordingLaws
 pub mod SearchLaws
 pub mod SheetLaws
+pub mod TouchedLaws
+pub mod UpkeepLaws
 pub mod WithinLaws

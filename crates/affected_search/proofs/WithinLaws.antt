@@ -30,7 +30,7 @@ use Rattle.dep_graph.specs.Sources.{cell_in, column_in}
 use Rattle.affected_search.specs.Reached.{ReadLists, reads_one, IsReached, from_touched, from_cell}
 use Rattle.affected_search.specs.Sheets.{has_number, HoldsOnlyReads, ListsOnlyTouched, WithinLaw}
 
-any_weaker : {X : Type 0} (p q : X → Bool) → ((x : X) → p x ≡ true → q x ≡ true) → (xs : List X) → list_any p xs ≡ true → list_any q xs ≡ true
+pub any_weaker : {X : Type 0} (p q : X → Bool) → ((x : X) → p x ≡ true → q x ≡ true) → (xs : List X) → list_any p xs ≡ true → list_any q xs ≡ true
 any_weaker p q h [] e = absurd (false≢true e)
 any_weaker p q h (x ∷ xs) e = elim (or_cases (p x) (list_any p xs) e) [
   | inl here ↦ or_left (q x) (list_any q xs) (h x here)

@@ -1,7 +1,9 @@
 //! Laws of affected cells.
 
+ghost use Rattle.affected_search.specs.Narrow.{NarrowLaw};
 ghost use Rattle.affected_search.specs.Reached.{LeastLaw};
 ghost use Rattle.affected_search.specs.Sheets.{FoundLaw, HeldLaw, WithinLaw};
+ghost use Rattle.affected_search.specs.Upkeep.{CarriedLaw, SetLaw};
 
 /// Each cell that is reached stands in every closed list of cells, so what is found is the least
 /// such list.
@@ -27,4 +29,21 @@ pub fn found_law()
 /// else than formula cells read and readers of what is listed read something touched.
 pub fn within_law()
     ensures { WithinLaw }
+{}
+
+/// A cell that is set to the notes of its run has its reads in the graph, and each other cell has
+/// those that it had there.
+pub fn set_law()
+    ensures { SetLaw }
+{}
+
+/// Over an action a graph has the reads of each formula cell again, once it has those of the cells
+/// that are new or found, where it has those of each other cell still.
+pub fn carried_law()
+    ensures { CarriedLaw }
+{}
+
+/// What an action on records loses is found, or written or removed.
+pub fn narrow_law()
+    ensures { NarrowLaw }
 {}

@@ -13,17 +13,31 @@
 //! of what `DepGraph::set` records, and that readers of what the action touches read something
 //! listed. By `within_law` no other formula cell is reached than the action may affect, where the
 //! graph holds nothing else and readers of what is listed read something touched.
-//! Not promised: which reads are listed for an action.
+//! Of an action on records `touched_reads` lists exactly the reads that it touches, of those that
+//! have numbers, so that `affected_by_action` has both laws on its contract. What such an action
+//! loses is found, or written or removed (`narrow_law`). `record_cell` records what the formula of
+//! a cell reads, by one attempt at most; once the new and the found cells are recorded anew, the
+//! graph holds the reads of each formula cell again (`set_law`, `carried_law`).
+//! Not promised: which reads a schema action touches, by numbers.
 //! Costs: each reader of a touched read, of a found cell and of a found cell's column as a key
 //! column is looked up once for each of these reads; a column is asked for once, however many of
-//! its cells are found. The rest of the document is not gone over.
-//! Read first: specs/Reached.antt, then search.rt.
+//! its cells are found. The rest of the document is not gone over. Where rows come or go, each name
+//! that has a number is asked for once, and once for each row.
+//! Read first: specs/Reached.antt, then search.rt; specs/Actions.antt, then acting.rt.
 #![tactic(auto)]
 
+mod acting;
 mod affected;
+mod by_column;
 mod laws;
+mod recording;
 mod search;
+mod touched;
 
+pub use acting::affected_by_action;
 pub use affected::AffectedCells;
-pub use laws::{found_law, held_law, least_law, within_law};
+pub use by_column::rows_by_column;
+pub use laws::{carried_law, found_law, held_law, least_law, narrow_law, set_law, within_law};
+pub use recording::record_cell;
 pub use search::affected_by;
+pub use touched::touched_reads;

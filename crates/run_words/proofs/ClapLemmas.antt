@@ -13,7 +13,7 @@ use Rattle.clap.proofs.OnLiterals.{clap_on_literals}
 use Rattle.clap.proofs.WalkLemmas.{first_value-rows}
 use Rattle.run_words.specs.declared.plans.Plan.TheVariants.{Replay}
 use Rattle.run_words.specs.Clap.{doc_of, found_doc, words_app}
-use Rattle.run_words.specs.Words.{doc_text, plan_of, replay_of, replay_over}
+use Rattle.run_words.specs.Words.{doc_text, replay_in, replay_of, replay_over}
 
 -- clap takes the words, and finds that document
 pub record Finds (words : List (List ℕ)) (doc : Option (List ℕ)) : Type 0 where
@@ -107,7 +107,7 @@ by_options (word ∷ text ∷ []) good = by_two word text good
 by_options (word ∷ text ∷ one ∷ more) good = let never : ⊥ = cc good in absurd never
 
 -- clap takes words that are of a form, and finds the document that they name
-pub finds_form : (words : List (List ℕ)) → is_some (plan_of words) ≡ true → Finds words (option_and_then doc_of (plan_of words))
+pub finds_form : (words : List (List ℕ)) → is_some (replay_in words) ≡ true → Finds words (option_and_then doc_of (replay_in words))
 finds_form [] good = let never : ⊥ = cc good in absurd never
 finds_form (word ∷ options) good = elim (bytes_eq word replay) as (λ b. bytes_eq word replay ≡ b → is_some (cond b (replay_of options) None) ≡ true → Finds (word ∷ options) (option_and_then doc_of (cond b (replay_of options) None))) [
   | true ↦ λ same g. subst (λ w. Finds (w ∷ options) (option_and_then doc_of (replay_of options))) (sym ((bytes_eq-Decides word replay).0 same)) (by_options options g)

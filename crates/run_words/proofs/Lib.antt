@@ -1,1 +1,2 @@
 pub mod ClapLemmas
+mod ServeLemmas

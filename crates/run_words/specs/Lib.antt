@@ -1,2 +1,4 @@
+pub mod ServeWords
+pub mod ServeViews
 pub mod Words
 pub mod Clap

@@ -1,9 +1,10 @@
 -- What the words of a command line ask for.
-use Rattle.std.specs.Prelude.{ℕ, List, [], ◌∷◌, codes, length, take, drop, Option, Some, None, option_and_then, if◌then◌else◌}
+use Rattle.std.specs.Prelude.{ℕ, List, [], ◌∷◌, codes, length, take, drop, Option, Some, None, option_and_then, option_map, if◌then◌else◌}
 use Rattle.std.specs.Str.{bytes_eq}
 use Rattle.cell_types.specs.NameRule.{is_name}
 use Rattle.run_words.specs.declared.plans.Plan.{Plan}
-use Rattle.run_words.specs.declared.plans.Plan.TheVariants.{Replay}
+use Rattle.run_words.specs.declared.plans.Plan.TheVariants.{Gen, Replay}
+use Rattle.run_words.specs.ServeWords.{number_up_to, serve_of}
 
 -- what stands behind a front, where the text begins with it
 abbrev pub behind : List ℕ → List ℕ → Option (List ℕ)
@@ -26,7 +27,22 @@ abbrev pub replay_of : List (List ℕ) → Option Plan
 replay_of [] = Some (Replay None None)
 replay_of (word ∷ more) = option_and_then replay_over (doc_text (word ∷ more))
 
--- what the words ask for, where they are of a form: replay [--doc NAME]
+-- what words ask for that are of the form replay [--doc NAME]
+abbrev pub replay_in : List (List ℕ) → Option Plan
+replay_in [] = None
+replay_in (word ∷ options) = if bytes_eq word (codes "replay") then replay_of options else None
+
+-- what `gen` asks for with these words behind it: a script of that many rows
+abbrev pub gen_of : List (List ℕ) → Option Plan
+gen_of [] = None
+gen_of (text ∷ []) = option_map Gen (number_up_to 20000 text)
+gen_of (text ∷ word ∷ more) = None
+
+-- what the words ask for, where they are of a form: that one, serve and its options, or gen and a
+-- number
 abbrev pub plan_of : List (List ℕ) → Option Plan
 plan_of [] = None
-plan_of (word ∷ options) = if bytes_eq word (codes "replay") then replay_of options else None
+plan_of (word ∷ options) =
+    if bytes_eq word (codes "serve") then serve_of options
+    else if bytes_eq word (codes "gen") then gen_of options
+    else replay_in (word ∷ options)

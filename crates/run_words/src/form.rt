@@ -1,6 +1,6 @@
 //! Which words are of a form. No memory is taken.
 ghost use Rattle.std.specs.Prelude.{◌≡◌, codes, is_some, map, option_map, string_bytes};
-ghost use Rattle.run_words.specs.Words.{behind, doc_text, plan_of, replay_of};
+ghost use Rattle.run_words.specs.Words.{behind, doc_text, replay_in, replay_of};
 
 use name_rules::is_name;
 
@@ -34,9 +34,9 @@ fn is_replay(options: &[String]) -> bool
     }
 }
 
-/// Whether the words are of a form.
-pub(crate) fn is_of_form(words: &[String]) -> bool
-    ensures { result ≡ is_some (plan_of (map string_bytes words.now)) }
+/// Whether the words ask for a replay.
+pub(crate) fn is_replay_form(words: &[String]) -> bool
+    ensures { result ≡ is_some (replay_in (map string_bytes words.now)) }
 {
     match words {
         [word, options @ ..] => word.as_str() == "replay" && is_replay(options),

@@ -7,15 +7,21 @@ ghost use Rattle.clap.specs.Words.{kind_of, subcommand_rows_of};
 ghost use Rattle.clap.specs.declared.builder.command.Command.TheViews.{out-Command as fields_of};
 ghost use Rattle.clap.specs.declared.error.kind.ErrorKind.TheVariants.{OutOfMemory};
 ghost use Rattle.run_words.specs.Clap.{doc_of, found_doc, option_rule, replay_app, words_app};
-ghost use Rattle.run_words.specs.Words.{plan_of};
+ghost use Rattle.run_words.specs.ServeViews.{HasFewLanes};
+ghost use Rattle.run_words.specs.ServeWords.{serve_of};
+ghost use Rattle.run_words.specs.Words.{gen_of, plan_of, replay_in};
 ghost use Rattle.run_words.specs.declared.plans.PlanFault.TheVariants.{Usage};
 
-use crate::form::is_of_form;
+use crate::form::is_replay_form;
 use crate::plans::{Plan, PlanFault};
+use crate::serve_form::{number_up_to, serve_words};
 use cell_types::Name;
 use clap::{Arg, ArgAction, ArgMatches, Command, Error};
 use name_rules::name_of;
 use std::alloc::{AllocError, Global};
+
+/// How many rows a generated script may have.
+const MAX_ROWS: u32 = 20_000;
 
 fn option<'a>(alloc: Global, name: &'a str) -> Arg<'a>
     ensures rule { rule_of result ≡ option_rule name.entry.now }
@@ -45,9 +51,9 @@ fn command<'a>(alloc: Global) -> Result<Command<'a>, AllocError>
 
 // What clap finds in words that are of a form. It refuses none of them.
 fn matched<'a>(alloc: Global, words: &'a [String]) -> Result<ArgMatches<'a>, Error>
-    requires form { is_some (plan_of (map string_bytes words.now)) ≡ true }
+    requires form { is_some (replay_in (map string_bytes words.now)) ≡ true }
     ensures doc { IfOk result (λ m. found_doc (subcommand_rows_of m)
-        ≡ option_and_then doc_of (plan_of (map string_bytes words.entry.now))) }
+        ≡ option_and_then doc_of (replay_in (map string_bytes words.entry.now))) }
     ensures err { IfErr result (λ e. kind_of e ≡ OutOfMemory) }
 {
     let command = command(alloc)?;
@@ -74,16 +80,13 @@ fn named(alloc: Global, text: Option<&str>) -> Result<Option<Name>, AllocError>
     }
 }
 
-/// What the words behind the program's own name ask for.
-///
-/// Errors: `Usage`, exactly where they are of no form; out of memory.
-/// Memory: none where the words are of no form.
-/// Source: docs/PROTOCOL.md, "the program".
-pub fn plan(alloc: Global, words: &[String]) -> Result<Plan, PlanFault>
-    ensures ok { IfOk result (λ p. plan_of (map string_bytes words.now) ≡ Some p) }
-    ensures usage { (result ≡ Err Usage) ↔ (plan_of (map string_bytes words.now) ≡ None) }
+// What words ask for that are of no other command than a replay.
+fn replay_plan(alloc: Global, words: &[String]) -> Result<Plan, PlanFault>
+    ensures ok { IfOk result (λ p. replay_in (map string_bytes words.now) ≡ Some p) }
+    ensures lanes { IfOk result HasFewLanes }
+    ensures usage { (result ≡ Err Usage) ↔ (replay_in (map string_bytes words.now) ≡ None) }
 {
-    if !is_of_form(words) {
+    if !is_replay_form(words) {
         return Err(PlanFault::Usage);
     }
     let Ok(matches) = matched(alloc, words) else {
@@ -93,4 +96,56 @@ pub fn plan(alloc: Global, words: &[String]) -> Result<Plan, PlanFault>
         return Err(PlanFault::NoMemory);
     };
     Ok(Plan::Replay { doc, watch: None })
+}
+
+// What the words behind `serve` ask for.
+fn serve_plan(alloc: Global, options: &[String]) -> Result<Plan, PlanFault>
+    ensures ok { IfOk result (λ p. serve_of (map string_bytes options.now) ≡ Some p) }
+    ensures lanes { IfOk result HasFewLanes }
+    ensures usage { (result ≡ Err Usage) ↔ (serve_of (map string_bytes options.now) ≡ None) }
+{
+    let Some(words) = serve_words(options) else {
+        return Err(PlanFault::Usage);
+    };
+    let Ok(doc) = named(alloc, words.doc) else {
+        return Err(PlanFault::NoMemory);
+    };
+    Ok(Plan::Serve {
+        lanes: words.lanes,
+        port: words.port,
+        conns: words.conns,
+        doc,
+        watch: None,
+    })
+}
+
+// What the words behind `gen` ask for.
+fn gen_plan(options: &[String]) -> Result<Plan, PlanFault>
+    ensures ok { IfOk result (λ p. gen_of (map string_bytes options.now) ≡ Some p) }
+    ensures usage { (result ≡ Err Usage) ↔ (gen_of (map string_bytes options.now) ≡ None) }
+{
+    let [text] = options else {
+        return Err(PlanFault::Usage);
+    };
+    match number_up_to(MAX_ROWS, text.as_str()) {
+        Some(n) => Ok(Plan::Gen { n }),
+        None => Err(PlanFault::Usage),
+    }
+}
+
+/// What the words behind the program's own name ask for.
+///
+/// Errors: `Usage`, exactly where they are of no form; out of memory.
+/// Memory: none where the words are of no form.
+/// Source: docs/PROTOCOL.md, "the program".
+pub fn plan(alloc: Global, words: &[String]) -> Result<Plan, PlanFault>
+    ensures ok { IfOk result (λ p. plan_of (map string_bytes words.now) ≡ Some p) }
+    ensures lanes { IfOk result HasFewLanes }
+    ensures usage { (result ≡ Err Usage) ↔ (plan_of (map string_bytes words.now) ≡ None) }
+{
+    match words {
+        [word, options @ ..] if word.as_str() == "serve" => serve_plan(alloc, options),
+        [word, options @ ..] if word.as_str() == "gen" => gen_plan(options),
+        _ => replay_plan(alloc, words),
+    }
 }

@@ -1,0 +1,3 @@
+mod SessionNames
+mod ScriptLemmas
+mod MakingLemmas

@@ -1,0 +1,5 @@
+pub mod Draws
+pub mod Script
+pub mod Left
+pub mod Stages
+pub mod Made

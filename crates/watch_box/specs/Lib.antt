@@ -1,0 +1,4 @@
+pub mod Taking
+pub mod Watching
+pub mod Watchers
+pub mod SpareLines

@@ -22,7 +22,7 @@ do_all_checked-requires-clause-may_carry g c =
     let s = g.D.DocReader.document c.args.doc.now in
     let P : List Step → Type 0 = λ l. list_any renames l ≡ false in
     let plan : IsActionPlan c.context.result.now s c.args.index c.args.action.now c.in-Accepted.plan = rw c.in-Accepted.is at c.in_ok-verdict.ensures in
-    λ kept. subst P (sym plan.steps ∙ c.as_slice-steps.ensures) (no_renames s c.args.action.now (c.requires.may_carry kept))
+    λ kept. subst P (sym c.as_slice-steps.ensures) (subst P (sym plan.steps) (no_renames s c.args.action.now (c.requires.may_carry kept)))
 
 pub returns-in-Ok-None-clause-judged : goal.returns-in-Ok-None-clause-judged
 returns-in-Ok-None-clause-judged g c =

@@ -154,8 +154,8 @@ impl<D: DocTables> RuledDocument<D> {
         judge(alloc, &mut self.doc, tally, ctx, requested)
     }
 
-    /// Judges the undo of the bundle of that number in a user's log. The document is as before,
-    /// whatever the answer.
+    /// Judges the undo of the bundle of that number in a user's log by what is in force for the
+    /// user now. The document is as before, whatever the answer.
     ///
     /// Errors: out of memory.
     pub fn judge_own_undo(
@@ -173,6 +173,8 @@ impl<D: DocTables> RuledDocument<D> {
             (D.document self.old)) (Some number) (D.document self.old) j) }
         ensures same { D.document self.new ≡ D.document self.old }
     {
-        judge_own_undo(alloc, &mut self.doc, tally, user, log, number)
+        let place = self.known.place_for(alloc, &self.doc, user)?;
+        let ctx = &self.known.contexts[place];
+        judge_own_undo(alloc, &mut self.doc, tally, ctx, log, number)
     }
 }

@@ -1,5 +1,6 @@
 pub mod CreatedLemmas
 pub mod ChangedLemmas
+pub mod CarriedLemmas
 pub mod CheckLemmas
 pub mod JudgmentLemmas
 pub mod TakeLemmas

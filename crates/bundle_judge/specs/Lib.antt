@@ -2,6 +2,7 @@ pub mod BareVerdicts
 pub mod Denials
 pub mod Judgement
 pub mod Created
+pub mod CarriedContexts
 pub mod JudgedBundles
 pub mod JudgedActions
 pub mod Rollback

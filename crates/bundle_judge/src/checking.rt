@@ -1,6 +1,6 @@
 //! Steps done between their checks by the rules.
 
-ghost use Rattle.std.specs.Prelude.{◌≡◌, ◌&&◌, [], ◌∷◌, not, true, map, option_map, IfOk, OnOk, MatchOption, Some};
+ghost use Rattle.std.specs.Prelude.{◌≡◌, ◌&&◌, [], ◌∷◌, not, true, false, map, option_map, IfOk, OnOk, MatchOption, Some};
 ghost use Rattle.doc_model.specs.Apply.{all_valid, apply};
 ghost use Rattle.doc_model.specs.DocumentLaws.{IsWhole};
 ghost use Rattle.doc_model.specs.Valid.{valid};
@@ -9,6 +9,7 @@ ghost use Rattle.acl_checks.specs.BeforeStep.{row_of};
 ghost use Rattle.acl_checks.specs.Unchecked.{are_unchecked};
 ghost use Rattle.recalc.specs.Evaluated.{filled};
 ghost use Rattle.view_parts.specs.PartLaws.{AreSameOutside};
+ghost use Rattle.bundle_judge.specs.CarriedContexts.{MayCarry, carried_context, is_kept, renames};
 ghost use Rattle.bundle_judge.specs.ChangedCells.{StayNoted};
 ghost use Rattle.rule_contexts.specs.Context.{carry};
 ghost use Rattle.bundle_judge.specs.Denials.{denial_at, denial_of, denied_by, denying_row};
@@ -16,10 +17,11 @@ ghost use Rattle.bundle_judge.specs.JudgedActions.{AreLetDone};
 ghost use Rattle.bundle_judge.specs.Rollback.{AllLeadBack, gone_back};
 
 use crate::bare_verdict::BareVerdict;
+use crate::carried_context::CarriedContext;
 use crate::rollback::do_one;
 use acl_checks::laws::unchecked_law;
 use acl_checks::{after_step, are_unchecked, before_step};
-use acl_rules::{Ctx, RuleId, carry, rule_ref};
+use acl_rules::{Ctx, RuleId, rule_ref};
 use doc_model::{DocTables, Step};
 use recalc::{Doc, Trace};
 use std::alloc::{AllocError, Global};
@@ -83,12 +85,12 @@ fn do_between<D: DocTables>(
     Ok(None)
 }
 
-/// Does a valid step of the action at that index as `do_one` does it, and carries the rules along.
-/// Answers the denial of the step, where a rule denies it.
+/// Does a valid step of the action at that index as `do_one` does it, and carries the context
+/// along. Answers the denial of the step, where a rule denies it.
 pub fn do_checked<D: DocTables>(
     alloc: Global,
     doc: &mut Doc<D>,
-    ctx: &mut Ctx,
+    carried: &mut CarriedContext<'_>,
     index: u32,
     step: &Step,
     traces: &mut Vec<Trace<D>>,
@@ -97,9 +99,12 @@ pub fn do_checked<D: DocTables>(
     requires whole { IsWhole (D.document doc.old) }
     requires valid { valid (D.document doc.old) step.now.action ≡ true }
     requires led { AllLeadBack D.fits D.undone traces.old.items (D.document doc.old) }
+    requires may_carry { is_kept carried.old ≡ true → renames step.now ≡ false }
     ensures denied { IfOk result
-        (λ o. o ≡ denial_at ctx.old (D.document doc.old) index step.now) }
-    ensures carried { OnOk result (ctx.new ≡ carry step.now.action ctx.old) }
+        (λ o. o ≡ denial_at (carried_context carried.old) (D.document doc.old) index step.now) }
+    ensures carried { OnOk result (carried_context carried.new
+        ≡ carry step.now.action (carried_context carried.old)) }
+    ensures kept { OnOk result (is_kept carried.new ≡ is_kept carried.old) }
     ensures whole { OnOk result (IsWhole (D.document doc.new)) }
     ensures done { OnOk result (D.document doc.new ≡ apply (D.document doc.old) step.now.action) }
     ensures led { AllLeadBack D.fits D.undone traces.new.items (D.document doc.new) }
@@ -109,9 +114,9 @@ pub fn do_checked<D: DocTables>(
         (filled (D.document doc.old)) (filled (D.document doc.new))) }
     ensures stays { OnOk result (StayNoted changed.old.items changed.new.items) }
 {
-    let rule = do_between(alloc, doc, ctx, step, traces, changed)?;
-    let denial = denied_by(alloc, ctx, index, rule)?;
-    match carry(alloc, &mut ctx.book, &step.action) {
+    let rule = do_between(alloc, doc, carried.context(), step, traces, changed)?;
+    let denial = denied_by(alloc, carried.context(), index, rule)?;
+    match carried.carry(alloc, &step.action) {
         Ok(()) => Ok(denial),
         Err(error) => {
             drop(denial);
@@ -121,11 +126,11 @@ pub fn do_checked<D: DocTables>(
 }
 
 /// Does the valid steps of the action at that index, up to the first that a rule denies, as
-/// `do_all` does them, and carries the rules along. When out of memory, some of them are done.
+/// `do_all` does them, and carries the context along. When out of memory, some of them are done.
 pub fn do_all_checked<D: DocTables>(
     alloc: Global,
     doc: &mut Doc<D>,
-    ctx: &mut Ctx,
+    carried: &mut CarriedContext<'_>,
     index: u32,
     steps: &[Step],
     traces: &mut Vec<Trace<D>>,
@@ -134,17 +139,20 @@ pub fn do_all_checked<D: DocTables>(
     requires whole { IsWhole (D.document doc.old) }
     requires valid { all_valid (D.document doc.old) (map action_of steps.now) ≡ true }
     requires led { AllLeadBack D.fits D.undone traces.old.items (D.document doc.old) }
+    requires may_carry { MayCarry carried.old steps.now }
     ensures ok { IfOk result (λ o. MatchOption o
-        (AreLetDone ctx.old (D.document doc.old) index steps.now ctx.new
-        (D.document doc.new) changed.new.items)
-        (λ v. denial_of ctx.old (D.document doc.old) index steps.now ≡ Some v)) }
+        (AreLetDone (carried_context carried.old) (D.document doc.old) index steps.now
+        (carried_context carried.new) (D.document doc.new) changed.new.items)
+        (λ v. denial_of (carried_context carried.old) (D.document doc.old) index steps.now
+        ≡ Some v)) }
+    ensures kept { OnOk result (is_kept carried.new ≡ is_kept carried.old) }
     ensures led { AllLeadBack D.fits D.undone traces.new.items (D.document doc.new) }
     ensures back { gone_back D.fits D.undone traces.new.items (D.document doc.new)
         ≡ gone_back D.fits D.undone traces.old.items (D.document doc.old) }
     ensures stays { OnOk result (StayNoted changed.old.items changed.new.items) }
 {
     for step in steps {
-        match do_checked(alloc, doc, ctx, index, step, traces, changed)? {
+        match do_checked(alloc, doc, carried, index, step, traces, changed)? {
             Some(denial) => return Ok(Some(denial)),
             None => {}
         }

@@ -1,6 +1,6 @@
 //! The judgement of a bundle: each action is judged where those before it are done.
 
-ghost use Rattle.std.specs.Prelude.{◌≡◌, [], ◌≤◌, true, map, length, IfOk, OnOk, None, Some};
+ghost use Rattle.std.specs.Prelude.{◌≡◌, [], ◌≤◌, true, false, map, length, IfOk, OnOk, None, Some};
 ghost use Rattle.std.specs.List.{list_all};
 ghost use Rattle.doc_model.specs.DocumentLaws.{IsWhole};
 ghost use Rattle.user_actions.specs.Allowed.{is_allowed};
@@ -11,6 +11,7 @@ ghost use Rattle.action_limits.specs.Tallies.{IsTally};
 ghost use Rattle.doc_model.specs.WellFormed.{is_well_formed};
 ghost use Rattle.bundle_judge.specs.declared.bare_verdict.BareVerdict.TheVariants.{Limited, Refused};
 ghost use Rattle.bundle_judge.specs.Judgement.{judge, judge_from, limited};
+ghost use Rattle.bundle_judge.specs.CarriedContexts.{MayCarryAll, asks_rename, carried_context, is_kept};
 ghost use Rattle.bundle_judge.specs.ChangedCells.{StayNoted};
 ghost use Rattle.bundle_judge.specs.Created.{created_of};
 ghost use Rattle.bundle_judge.specs.JudgedBundles.{IsJudgedBundle};
@@ -19,6 +20,7 @@ ghost use Rattle.bundle_judge.specs.Rollback.{AllLeadBack, gone_back};
 ghost use Rattle.rule_contexts.specs.Context.{context, view_in};
 
 use crate::bare_verdict::BareVerdict;
+use crate::carried_context::{CarriedContext, ask_renames};
 use crate::checking::do_all_checked;
 use crate::created::{Created, created_of};
 use crate::rollback::{do_all, do_last, go_back_all};
@@ -30,7 +32,7 @@ use acl_rules::Ctx;
 use action_limits::{Expansion, Tally, expand};
 use doc_model::{DocTables, LimitKind, MAX_ACTIONS, Refusal, StepList, UserAction};
 use recalc::{Doc, Trace};
-use rule_contexts::{context_of, seen_law};
+use rule_contexts::seen_law;
 use std::alloc::{AllocError, Global};
 use user_actions::refuse;
 use view_parts::{ChangedRows, requested_law};
@@ -219,7 +221,7 @@ fn judge_and_do<D: DocTables>(
     alloc: Global,
     doc: &mut Doc<D>,
     tally: Tally,
-    ctx: &mut Ctx,
+    carried: &mut CarriedContext<'_>,
     action: &UserAction,
     index: u32,
     traces: &mut Vec<Trace<D>>,
@@ -229,19 +231,22 @@ fn judge_and_do<D: DocTables>(
     requires well_formed { is_well_formed action.now ≡ true }
     requires tally { IsTally (D.document doc.old) tally }
     requires led { AllLeadBack D.fits D.undone traces.old.items (D.document doc.old) }
-    ensures judged { IfOk result (λ r. IsDoneAction ctx.old (D.document doc.old) index
-        action.now ctx.new (D.document doc.new) changed.new.items r) }
+    requires may_carry { is_kept carried.old ≡ true → asks_rename action.now ≡ false }
+    ensures judged { IfOk result (λ r. IsDoneAction (carried_context carried.old)
+        (D.document doc.old) index action.now (carried_context carried.new) (D.document doc.new)
+        changed.new.items r) }
+    ensures kept { OnOk result (is_kept carried.new ≡ is_kept carried.old) }
     ensures led { AllLeadBack D.fits D.undone traces.new.items (D.document doc.new) }
     ensures back { gone_back D.fits D.undone traces.new.items (D.document doc.new)
         ≡ gone_back D.fits D.undone traces.old.items (D.document doc.old) }
     ensures stays { OnOk result (StayNoted changed.old.items changed.new.items) }
 {
-    let plan = match judge_action(alloc, doc, tally, ctx, action, index)? {
+    let plan = match judge_action(alloc, doc, tally, carried.context(), action, index)? {
         JudgedAction::Refused(verdict) => return Ok(JudgedAction::Refused(verdict)),
         JudgedAction::Accepted(plan) => plan,
     };
     let steps = plan.steps.as_slice();
-    match do_all_checked(alloc, doc, ctx, index, steps, traces, changed) {
+    match do_all_checked(alloc, doc, carried, index, steps, traces, changed) {
         Ok(None) => Ok(JudgedAction::Accepted(plan)),
         Ok(Some(denial)) => {
             drop(plan);
@@ -259,7 +264,7 @@ fn judge_checked<D: DocTables>(
     alloc: Global,
     doc: &mut Doc<D>,
     tally: Tally,
-    ctx: &mut Ctx,
+    carried: &mut CarriedContext<'_>,
     requested: &[UserAction],
     traces: &mut Vec<Trace<D>>,
 ) -> Result<JudgedBundle, AllocError>
@@ -268,8 +273,10 @@ fn judge_checked<D: DocTables>(
     requires well_formed { list_all is_well_formed requested.now ≡ true }
     requires few { length requested.now ≤ 2000 }
     requires first { traces.old.items ≡ [] }
+    requires may_carry { MayCarryAll carried.old requested.now }
     ensures judged { IfOk result (λ j. IsJudgedBundle
-        (judge_from ctx.old (D.document doc.old) 0 requested.now) None (D.document doc.old) j) }
+        (judge_from (carried_context carried.old) (D.document doc.old) 0 requested.now) None
+        (D.document doc.old) j) }
     ensures led { AllLeadBack D.fits D.undone traces.new.items (D.document doc.new) }
     ensures back { gone_back D.fits D.undone traces.new.items (D.document doc.new)
         ≡ D.document doc.old }
@@ -284,7 +291,7 @@ fn judge_checked<D: DocTables>(
             alloc,
             doc,
             tally,
-            ctx,
+            carried,
             action,
             index as u32,
             traces,
@@ -311,7 +318,7 @@ fn judge_checked<D: DocTables>(
 }
 
 // Judges one action after another under the rules in force; the traces lead back. Rules that may
-// deny something are read once more, since they are carried along.
+// deny something are read once more where the bundle asks for a rename, which moves them.
 fn judge_in<D: DocTables>(
     alloc: Global,
     doc: &mut Doc<D>,
@@ -335,8 +342,8 @@ fn judge_in<D: DocTables>(
     if are_unchecked(ctx) {
         return judge_unchecked(alloc, doc, tally, ctx, requested, traces);
     }
-    let mut own = context_of(alloc, doc, &ctx.user.user)?;
-    judge_checked(alloc, doc, tally, &mut own, requested, traces)
+    let mut carried = CarriedContext::of(alloc, doc, ctx, ask_renames(requested))?;
+    judge_checked(alloc, doc, tally, &mut carried, requested, traces)
 }
 
 /// Judges a bundle of a user by what is in force for the user in the document now: it is done while

@@ -13,13 +13,14 @@
 //! rule. `do_for_good` does the steps of a plan, and `go_back_all` takes them back without memory.
 //! Costs: a bundle costs what its actions touch; where there are formulas the evaluation of the
 //! document after each action too. Its last actions are done once, in `do_for_good`, where there
-//! are no formulas and no rules. What is in force for the user is at hand; where rules may deny
-//! something they are read once more, to be carried along, and the steps are checked.
+//! are no formulas and no rules. What is in force for the user is at hand; only a bundle or undo
+//! that renames a table or a column reads it once more, where rules may deny something.
 //! Read first: specs/Judgement.antt, specs/Denials.antt and specs/Undo.antt, then judging.rt,
 //! checking.rt and undoing.rt.
 #![tactic(auto)]
 
 mod bare_verdict;
+mod carried_context;
 mod changed_rows;
 mod checking;
 mod created;

@@ -4,6 +4,7 @@ ghost use Rattle.std.specs.Prelude.{◌≡◌, [], ◌<◌, ◌^◌, length, IfE
 ghost use Rattle.doc_model.specs.DocumentLaws.{IsWhole};
 ghost use Rattle.action_limits.specs.Tallies.{IsTally};
 ghost use Rattle.bundle_judge.specs.declared.bare_verdict.BareVerdict.TheVariants.{Refused};
+ghost use Rattle.bundle_judge.specs.CarriedContexts.{MayCarry, carried_context};
 ghost use Rattle.bundle_judge.specs.JudgedBundles.{IsJudgedBundle};
 ghost use Rattle.rule_contexts.specs.Context.{context};
 ghost use Rattle.bundle_judge.specs.Rollback.{AllLeadBack, gone_back};
@@ -12,6 +13,7 @@ ghost use Rattle.bundle_judge.specs.UndoneSteps.{MayGoOn};
 ghost use Rattle.undo_bundles.specs.BundleLog.{undo_of};
 
 use crate::bare_verdict::BareVerdict;
+use crate::carried_context::{CarriedContext, rename_any};
 use crate::checking::do_checked;
 use crate::judging::{BundlePlan, JudgedBundle, limited};
 use crate::rollback::go_back_all;
@@ -19,9 +21,8 @@ use crate::split_steps::SplitSteps;
 use acl_rules::Ctx;
 use action_limits::Tally;
 use doc_actions::is_valid;
-use doc_model::{DocAction, DocTables, Refusal, Step, StepList, User};
+use doc_model::{DocAction, DocTables, Refusal, Step, StepList};
 use recalc::{Doc, Trace};
-use rule_contexts::context_of;
 use std::alloc::{AllocError, Global};
 use undo_bundles::{BundleLog, LogFault};
 
@@ -55,7 +56,7 @@ fn judge_each<D: DocTables>(
     alloc: Global,
     doc: &mut Doc<D>,
     tally: Tally,
-    ctx: &mut Ctx,
+    carried: &mut CarriedContext<'_>,
     number: u64,
     steps: &[Step],
     traces: &mut Vec<Trace<D>>,
@@ -64,8 +65,9 @@ fn judge_each<D: DocTables>(
     requires tally { IsTally (D.document doc.old) tally }
     requires few { length steps.now < 2 ^ 32 }
     requires first { traces.old.items ≡ [] }
+    requires may_carry { MayCarry carried.old steps.now }
     ensures judged { IfOk result (λ j. IsJudgedBundle
-        (judge_undo ctx.old (D.document doc.old) 0 steps.now) (Some number)
+        (judge_undo (carried_context carried.old) (D.document doc.old) 0 steps.now) (Some number)
         (D.document doc.old) j) }
     ensures led { AllLeadBack D.fits D.undone traces.new.items (D.document doc.new) }
     ensures back { gone_back D.fits D.undone traces.new.items (D.document doc.new)
@@ -82,7 +84,15 @@ fn judge_each<D: DocTables>(
                 return Ok(JudgedBundle::Refused(verdict));
             }
         }
-        match do_checked(alloc, doc, ctx, index as u32, step, traces, &mut changed)? {
+        match do_checked(
+            alloc,
+            doc,
+            carried,
+            index as u32,
+            step,
+            traces,
+            &mut changed,
+        )? {
             Some(denial) => {
                 drop(changed);
                 return Ok(JudgedBundle::Refused(denial));
@@ -99,32 +109,33 @@ fn judge_each<D: DocTables>(
     }))
 }
 
-// Judges the steps that undo the bundle of that number under the rules of the document now: they
-// are done while they are judged, and gone back over without memory. The document is as before,
-// whatever the answer.
+// Judges the steps that undo the bundle of that number under the rules in force, which are read
+// once more where a step renames something: they are done while they are judged, and gone back
+// over without memory. The document is as before, whatever the answer.
 fn judge_steps<D: DocTables>(
     alloc: Global,
     doc: &mut Doc<D>,
     tally: Tally,
-    user: &User,
+    ctx: &Ctx,
     number: u64,
     steps: &StepList,
 ) -> Result<JudgedBundle, AllocError>
+    requires in_force { ctx.now ≡ context ctx.now.user.user (D.document doc.old) }
     requires whole { IsWhole (D.document doc.old) }
     requires tally { IsTally (D.document doc.old) tally }
     ensures judged { IfOk result (λ j. IsJudgedBundle
-        (judge_undo (context user.now (D.document doc.old)) (D.document doc.old) 0 steps.now)
-        (Some number) (D.document doc.old) j) }
+        (judge_undo ctx.now (D.document doc.old) 0 steps.now) (Some number)
+        (D.document doc.old) j) }
     ensures same { D.document doc.new ≡ D.document doc.old }
 {
     if steps.len() > u32::MAX as usize {
         // Never taken: no memory holds so many steps.
         return Err(AllocError);
     }
-    let mut ctx = context_of(alloc, doc, user)?;
-    let mut traces = Vec::new(alloc);
     let steps = steps.as_slice();
-    let judged = judge_each(alloc, doc, tally, &mut ctx, number, steps, &mut traces);
+    let mut carried = CarriedContext::of(alloc, doc, ctx, rename_any(steps))?;
+    let mut traces = Vec::new(alloc);
+    let judged = judge_each(alloc, doc, tally, &mut carried, number, steps, &mut traces);
     go_back_all(doc, traces);
     judged
 }
@@ -147,27 +158,28 @@ fn refused(refusal: Refusal) -> BareVerdict
     }
 }
 
-/// Judges the undo of the bundle of that number in a user's log. The document is as before,
-/// whatever the answer.
+/// Judges the undo of the bundle of that number in a user's log by what is in force for the user
+/// in the document now. The document is as before, whatever the answer.
 ///
 /// Errors: out of memory.
 pub fn judge_own_undo<D: DocTables>(
     alloc: Global,
     doc: &mut Doc<D>,
     tally: Tally,
-    user: &User,
+    ctx: &Ctx,
     log: &BundleLog,
     number: u64,
 ) -> Result<JudgedBundle, AllocError>
+    requires in_force { ctx.now ≡ context ctx.now.user.user (D.document doc.old) }
     requires whole { IsWhole (D.document doc.old) }
     requires tally { IsTally (D.document doc.old) tally }
     ensures judged { IfOk result (λ j. IsJudgedBundle
-        (judge_own_undo user.now (undo_of log.now.log number)
+        (judge_own_undo ctx.now.user.user (undo_of log.now.log number)
         (D.document doc.old)) (Some number) (D.document doc.old) j) }
     ensures same { D.document doc.new ≡ D.document doc.old }
 {
     match log.undo_of(number) {
-        Ok(steps) => judge_steps(alloc, doc, tally, user, number, steps),
+        Ok(steps) => judge_steps(alloc, doc, tally, ctx, number, steps),
         Err(fault) => Ok(JudgedBundle::Refused(refused(refusal_of(fault)))),
     }
 }

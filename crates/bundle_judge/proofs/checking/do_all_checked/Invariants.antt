@@ -1,9 +1,10 @@
-use Rattle.std.proofs.Common.{map}
+use Rattle.std.proofs.Common.{◌≡◌, map}
 use Rattle.doc_model.specs.DocumentLaws.{IsWhole}
 use Rattle.user_actions.specs.StepLaws.{action_of}
 use Rattle.recalc.specs.Evaluated.{filled}
 use Rattle.recalc.specs.WayBack.{IsWayBack}
 use Rattle.view_parts.specs.PartLaws.{AreSameOutside}
+use Rattle.bundle_judge.specs.CarriedContexts.{carried_context, is_kept}
 use Rattle.bundle_judge.specs.ChangedCells.{StayNoted}
 use Rattle.bundle_judge.specs.Rollback.{led_back}
 use Rattle.bundle_judge.proofs.CheckLemmas.{IsChecking}
@@ -16,4 +17,5 @@ invariant-loop-step g l =
     × AreSameOutside (map action_of l.steps) l.changed.items (filled (g.D.DocReader.document l.initial.doc)) (filled (g.D.DocReader.document l.doc))
     × IsWhole (g.D.DocReader.document l.doc)
     × StayNoted l.initial.changed.items l.changed.items
-    × IsChecking l.initial.ctx (g.D.DocReader.document l.initial.doc) l.index l.steps l.step-index l.ctx (g.D.DocReader.document l.doc)
+    × IsChecking (carried_context l.initial.carried) (g.D.DocReader.document l.initial.doc) l.index l.steps l.step-index (carried_context l.carried) (g.D.DocReader.document l.doc)
+    × (is_kept l.carried ≡ is_kept l.initial.carried)

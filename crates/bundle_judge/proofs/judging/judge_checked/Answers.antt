@@ -6,8 +6,10 @@ use Rattle.doc_model.specs.WellFormed.{is_well_formed}
 use Rattle.recalc.specs.Evaluated.{filled}
 use Rattle.view_parts.specs.PartLaws.{AreSameOutside}
 use Rattle.user_actions.specs.StepLaws.{action_of}
+use Rattle.bundle_judge.specs.CarriedContexts.{asks_rename, carried_context}
 use Rattle.bundle_judge.specs.JudgedActions.{IsAt, IsDonePlan}
 use Rattle.bundle_judge.specs.JudgedBundles.{after_steps}
+use Rattle.bundle_judge.proofs.CarriedLemmas.{none_at}
 use Rattle.bundle_judge.proofs.ChangedLemmas.{outside_then}
 use Rattle.bundle_judge.proofs.JudgmentLemmas.{at_done, at_next, holds_at, next_done, planned, refused_at, whole_at}
 use Rattle.bundle_judge.proofs.RollbackLemmas.{left_at}
@@ -17,15 +19,20 @@ use Rattle.bundle_judge.proofs.judging.judge_checked.Goals as goal
 pub judge_and_do-requires-clause-whole : goal.judge_and_do-requires-clause-whole
 judge_and_do-requires-clause-whole g c =
     let l = c.loop-index in
-    whole_at c.args.ctx.now (g.D.DocReader.document c.args.doc.now) c.args.requested.now l.index l.ctx (g.D.DocReader.document l.doc) l.steps.items [] l.created.items l.tally l.invariant.0 c.requires.whole
+    whole_at (carried_context c.args.carried.now) (g.D.DocReader.document c.args.doc.now) c.args.requested.now l.index (carried_context l.carried) (g.D.DocReader.document l.doc) l.steps.items [] l.created.items l.tally l.invariant.0 c.requires.whole
 
 pub judge_and_do-requires-clause-well_formed : goal.judge_and_do-requires-clause-well_formed
 judge_and_do-requires-clause-well_formed g c = holds_at is_well_formed c.args.requested.now c.loop-index.index c.index-requested-index.result c.requires.well_formed c.loop-index-test.true c.index-requested-index.is
 
+pub judge_and_do-requires-clause-may_carry : goal.judge_and_do-requires-clause-may_carry
+judge_and_do-requires-clause-may_carry g c =
+    let l = c.loop-index in
+    λ kept. none_at asks_rename c.args.requested.now l.index c.index-requested-index.result (c.requires.may_carry (sym l.invariant.4 ∙ kept)) c.loop-index-test.true c.index-requested-index.is
+
 pub returns-in-Refused-clause-judged : goal.returns-in-Refused-clause-judged
 returns-in-Refused-clause-judged g c =
     let l = c.loop-index in
-    refused_at c.args.ctx.now (g.D.DocReader.document c.args.doc.now) c.args.requested.now l.index l.ctx (g.D.DocReader.document l.doc) l.steps.items l.created.items l.tally c.index-requested-index.result (drop (l.index + 1) c.args.requested.now) l.invariant.0
+    refused_at (carried_context c.args.carried.now) (g.D.DocReader.document c.args.doc.now) c.args.requested.now l.index (carried_context l.carried) (g.D.DocReader.document l.doc) l.steps.items l.created.items l.tally c.index-requested-index.result (drop (l.index + 1) c.args.requested.now) l.invariant.0
     (left_at l.index c.args.requested.now c.index-requested-index.result c.loop-index-test.true c.index-requested-index.is) c.in-Refused.verdict (rw c.in-Refused.is at c.in_ok-verdict.ensures.judged)
 
 pub loop-index-preserved : goal.loop-index-preserved
@@ -38,17 +45,18 @@ loop-index-preserved g c =
     let n = c.in-Accepted.plan in
     let more = c.in_ok-verdict.ensures in
     let changed = c.judge_and_do.new.changed.items in
-    let done : IsDonePlan l.ctx s l.index a c.judge_and_do.new.ctx t changed n = rw c.in-Accepted.is at more.judged in
-    let next : IsAt c.args.ctx.now start c.args.requested.now (l.index + 1) c.judge_and_do.new.ctx s l.steps.items n.steps c.push.new.self.items n.tally =
-    at_next c.args.ctx.now start c.args.requested.now l.index l.ctx s l.steps.items l.created.items l.tally a (drop (l.index + 1) c.args.requested.now) l.invariant.0
-    (left_at l.index c.args.requested.now a c.loop-index-test.true c.index-requested-index.is) n c.push.new.self.items c.judge_and_do.new.ctx refl done.plan done.done.undenied done.done.carried c.in_ok-push-in-Accepted.ensures.items in
+    let done : IsDonePlan (carried_context l.carried) s l.index a (carried_context c.judge_and_do.new.carried) t changed n = rw c.in-Accepted.is at more.judged in
+    let next : IsAt (carried_context c.args.carried.now) start c.args.requested.now (l.index + 1) (carried_context c.judge_and_do.new.carried) s l.steps.items n.steps c.push.new.self.items n.tally =
+    at_next (carried_context c.args.carried.now) start c.args.requested.now l.index (carried_context l.carried) s l.steps.items l.created.items l.tally a (drop (l.index + 1) c.args.requested.now) l.invariant.0
+    (left_at l.index c.args.requested.now a c.loop-index-test.true c.index-requested-index.is) n c.push.new.self.items (carried_context c.judge_and_do.new.carried) refl done.plan done.done.undenied done.done.carried c.in_ok-push-in-Accepted.ensures.items in
     let all : c.append.new.self.items ≡ l.steps.items ++ n.steps = c.in_ok-append-in-Accepted.ensures.items ∙ ap (λ xs. l.steps.items ++ xs) c.into_vec.ensures in
     let W : List Step → Type 0 = λ xs. AreSameOutside (map action_of xs) changed (filled start) (filled t) in (
-      at_done c.args.ctx.now start c.args.requested.now (l.index + 1) c.judge_and_do.new.ctx s l.steps.items n.steps c.push.new.self.items n.tally next t c.append.new.self.items done.done.done all,
+      at_done (carried_context c.args.carried.now) start c.args.requested.now (l.index + 1) (carried_context c.judge_and_do.new.carried) s l.steps.items n.steps c.push.new.self.items n.tally next t c.append.new.self.items done.done.done all,
       subst W (sym all) (outside_then (map action_of l.steps.items) (map action_of n.steps) (map action_of (l.steps.items ++ n.steps)) l.changed.items changed (filled start) (filled s) (filled t)
           (front_within l.steps.items n.steps) (back_within l.steps.items n.steps) more.stays l.invariant.1 done.done.outside),
       more.led,
       more.back ∙ l.invariant.3,
+      more.kept ∙ l.invariant.4,
     )
 
 pub returns-clause-judged : goal.returns-clause-judged
@@ -62,6 +70,6 @@ returns-clause-judged g c =
     let T : Document → Type 0 = λ u. AreSameOutside (map action_of l.steps.items) l.changed.items (filled start) (filled u) in
     let W : List Step → Type 0 = λ xs. AreSameOutside (map action_of xs) l.changed.items (filled start) (filled (after_steps start all)) in
     let U : List Step → Type 0 = λ xs. AreSameOutside (map action_of xs) l.changed.items (filled start) (filled (after_steps start xs)) in
-    planned c.args.ctx.now start c.args.requested.now l.index l.ctx s l.steps.items [] l.created.items l.tally l.invariant.0 _ le refl (c.in_ok-of.ensures ∙ sym nil) refl refl
+    planned (carried_context c.args.carried.now) start c.args.requested.now l.index (carried_context l.carried) s l.steps.items [] l.created.items l.tally l.invariant.0 _ le refl (c.in_ok-of.ensures ∙ sym nil) refl refl
     (subst U (sym (c.in_ok-of.ensures ∙ sym nil))
-    (subst W (sym nil) (subst T (next_done c.args.ctx.now start c.args.requested.now l.index l.ctx s l.steps.items [] l.created.items l.tally l.invariant.0) l.invariant.1)))
+    (subst W (sym nil) (subst T (next_done (carried_context c.args.carried.now) start c.args.requested.now l.index (carried_context l.carried) s l.steps.items [] l.created.items l.tally l.invariant.0) l.invariant.1)))

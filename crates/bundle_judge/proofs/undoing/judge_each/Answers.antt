@@ -2,8 +2,10 @@ use Rattle.std.proofs.Common.{◌≤◌, ◌∷◌, [], map, length, refl, sym, 
 use Rattle.doc_model.specs.Document.{Document}
 use Rattle.recalc.specs.Evaluated.{filled}
 use Rattle.user_actions.specs.StepLaws.{action_of}
+use Rattle.bundle_judge.specs.CarriedContexts.{carried_context, renames}
 use Rattle.bundle_judge.specs.Undo.{stale_at}
 use Rattle.bundle_judge.specs.UndoneSteps.{MayGoOn}
+use Rattle.bundle_judge.proofs.CarriedLemmas.{none_at}
 use Rattle.bundle_judge.proofs.ChangedLemmas.{outside_then, within_itself}
 use Rattle.bundle_judge.proofs.StepLemmas.{one_within}
 use Rattle.bundle_judge.proofs.UndoneLemmas.{undo_ends, undo_next, undo_refused}
@@ -13,8 +15,13 @@ pub returns-in-Err-clause-judged : goal.returns-in-Err-clause-judged
 returns-in-Err-clause-judged g c =
     let l = c.loop-index in
     let x = c.index-steps-index.result in
-    undo_refused c.args.ctx.now (g.D.DocReader.document c.args.doc.now) c.args.steps.now l.index l.ctx (g.D.DocReader.document l.doc) l.tally l.invariant.0 x c.loop-index-test.true c.index-steps-index.is c.in-Err.verdict
+    undo_refused (carried_context c.args.carried.now) (g.D.DocReader.document c.args.doc.now) c.args.steps.now l.index (carried_context l.carried) (g.D.DocReader.document l.doc) l.tally l.invariant.0 x c.loop-index-test.true c.index-steps-index.is c.in-Err.verdict
     (ap (λ d. stale_at (g.D.DocReader.document d) l.index x.action) (sym c.tables.ensures.value) ∙ c.in-Err.ensures.err)
+
+pub do_checked-requires-clause-may_carry : goal.do_checked-requires-clause-may_carry
+do_checked-requires-clause-may_carry g c =
+    let l = c.loop-index in
+    λ kept. none_at renames c.args.steps.now l.index c.index-steps-index.result (c.requires.may_carry (sym l.invariant.5 ∙ kept)) c.loop-index-test.true c.index-steps-index.is
 
 pub loop-index-preserved : goal.loop-index-preserved
 loop-index-preserved g c =
@@ -28,17 +35,18 @@ loop-index-preserved g c =
     let actions = map action_of xs in
     let M : Document → Type 0 = λ u. MayGoOn u l.index x.action c.in-Ok.next in
     let may : MayGoOn s l.index x.action c.in-Ok.next = subst M (ap g.D.DocReader.document c.tables.ensures.value) c.in-Ok.ensures.ok in (
-      undo_next c.args.ctx.now start xs l.index l.ctx s l.tally l.invariant.0 x c.loop-index-test.true c.index-steps-index.is c.do_checked.new.ctx t c.in-Ok.next may
+      undo_next (carried_context c.args.carried.now) start xs l.index (carried_context l.carried) s l.tally l.invariant.0 x c.loop-index-test.true c.index-steps-index.is (carried_context c.do_checked.new.carried) t c.in-Ok.next may
           (sym more.denied ∙ c.in-None.is) more.carried more.done,
       outside_then actions (x.action ∷ []) actions l.changed.items c.do_checked.new.changed.items (filled start) (filled s) (filled t)
           (within_itself actions) (one_within xs l.index x c.loop-index-test.true c.index-steps-index.is) more.stays l.invariant.1 more.outside,
       more.whole,
       more.led,
       more.back ∙ l.invariant.4,
+      more.kept ∙ l.invariant.5,
     )
 
 pub returns-clause-judged : goal.returns-clause-judged
 returns-clause-judged g c =
     let l = c.loop-index in
     let le : length c.args.steps.now ≤ l.index = omega (arith, c.loop-index-test.false) in
-    undo_ends c.args.ctx.now (g.D.DocReader.document c.args.doc.now) c.args.steps.now l.index l.ctx (g.D.DocReader.document l.doc) l.tally l.invariant.0 _ c.args.number le refl c.in_ok-copy_of.ensures c.new.ensures.items refl l.invariant.1
+    undo_ends (carried_context c.args.carried.now) (g.D.DocReader.document c.args.doc.now) c.args.steps.now l.index (carried_context l.carried) (g.D.DocReader.document l.doc) l.tally l.invariant.0 _ c.args.number le refl c.in_ok-copy_of.ensures c.new.ensures.items refl l.invariant.1

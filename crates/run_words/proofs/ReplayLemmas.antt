@@ -5,7 +5,7 @@ use Rattle.std.proofs.lemmas.Slice.Eq.{bytes_eq-Decides}
 use Rattle.cell_types.specs.NameRule.{is_name}
 use Rattle.run_words.specs.declared.plans.Plan.{Plan}
 use Rattle.run_words.specs.declared.plans.Plan.TheVariants.{Gen, Replay, Serve}
-use Rattle.run_words.specs.ServeWords.{complete, nothing_found, number_up_to, options_in, serve_of, serve_plan}
+use Rattle.run_words.specs.ServeWords.{complete, nothing_found, number_up_to, options_in, serve_of}
 use Rattle.run_words.specs.Words.{doc_text, gen_of, is_replay, plan_of, replay_in, replay_of, replay_over}
 
 none_then : {A : Type 0} (next : A → Option Plan) → ((a : A) → is_replay (next a) ≡ false) → (o : Option A) → is_replay (option_and_then next o) ≡ false

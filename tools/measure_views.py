@@ -132,7 +132,8 @@ def updating(rows, sessions):
     before = users() + [OPEN % ("ann", "s1")] + list(document(rows))
     before += [OPEN % (name, f"{name}{n}") for n in range(sessions // len(USERS)) for _, name in USERS if (name, n) != ("ann", 0)]
     more = [UPDATE % (n * 7 % rows + 1, n) for n in range(UPDATES)]
-    if written(before + more[:3]).count('"bundle":') != 3:
+    bundles = [written(script).count('"bundle":') for script in (before, before + more[:3])]
+    if bundles[1] - bundles[0] != 3:
         raise SystemExit("an update is refused")
     return (least_seconds(before + more) - least_seconds(before)) / UPDATES
 

@@ -26,7 +26,7 @@ use Rattle.action_censor.specs.Back.{all_rows_back, first_held, grid_back, held_
 use Rattle.action_censor.specs.declared.steps.StepTrace.{StepTrace}
 use Rattle.action_censor.specs.Step.{Step, is_in_row, step_of}
 use Rattle.action_censor.specs.ToldCells.{listed, old_cell, told_cell, told_in_row, told_of_row}
-use Rattle.action_censor.specs.TouchedTables.{kept_row}
+use Rattle.action_censor.specs.TouchedTables.{kept_row, old_row}
 use mathlib.Core.Path.{fun_ext}
 
 -- ---- cells under their rows
@@ -165,3 +165,14 @@ cells_end f all n ys past so = so ∙ ap (map f) (all_taken all n past)
 
 pub none_added : (b : Bool) (rows : List RuleRow) (row : RuleRow) → b ≡ false → rows ≡ rows ++ cond b (row ∷ []) []
 none_added b rows row isnt = sym (ap (λ b. rows ++ cond b (row ∷ []) []) isnt ∙ append-nil rows)
+
+-- one row more that was there, as it was
+module _ (ks : List Step) (t : List ℕ) (g : Grid ColDef) where
+  pub old_next : (r : ℕ) (told : List NamedCell) (there : Bool) (ys zs : List RuleRow) → told ≡ told_of_row ks t r → there ≡ has (all_rows_back ks t g.rows) r
+      → zs ≡ ys ++ cond there (old_row told g r ∷ []) [] → zs ≡ ys ++ cond (has (all_rows_back ks t g.rows) r) (row_of (grid_back ks t g) r ∷ []) []
+  old_next r told there ys zs so is made =
+      made ∙ ap (λ b. ys ++ cond b (old_row told g r ∷ []) []) is
+      ∙ elim (has (all_rows_back ks t g.rows) r) as (λ b. has (all_rows_back ks t g.rows) r ≡ b → ys ++ cond b (old_row told g r ∷ []) [] ≡ ys ++ cond b (row_of (grid_back ks t g) r ∷ []) []) [
+        | true ↦ λ here. ap (λ w. ys ++ w ∷ []) (row_was ks t g r told so here)
+        | false ↦ λ _. refl
+      ] refl

@@ -4,6 +4,7 @@ mod StepLemmas
 mod NarrowLemmas
 mod ToldLemmas
 mod RowLemmas
+mod ThereLemmas
 mod CellLemmas
 mod TableLemmas
 mod PartLemmas

@@ -1,5 +1,5 @@
 -- The rows that steps are about, and which of them were there before.
-use Rattle.std.proofs.Common.{ℕ, zero, suc, ◌+◌, ◌<◌, Bool, true, false, cond, not, ◌&&◌, ◌||◌, List, [], ◌∷◌, ◌++◌, map, filter, take, length, get_or, ◌≡◌, refl, sym, ap, ◌∙◌, Some, None, unwrap_or, nat_eq, arith}
+use Rattle.std.proofs.Common.{ℕ, zero, suc, ◌+◌, ◌<◌, Bool, true, false, cond, not, ◌&&◌, ◌||◌, List, [], ◌∷◌, ◌++◌, map, filter, take, length, get_or, ◌≡◌, refl, sym, ap, ◌∙◌, Option, Some, None, unwrap_or, nat_eq, arith}
 use Rattle.std.proofs.lemmas.Bool.{and_parts}
 use Rattle.std.proofs.lemmas.List.{map-append, take_more}
 use Rattle.std.proofs.lemmas.List.Elements.{filter-append}
@@ -9,13 +9,14 @@ use Rattle.std.specs.Str.{bytes_eq}
 use Rattle.cell_types.specs.declared.cell.CellOld.{CellOld}
 use Rattle.doc_model.specs.declared.action.DocAction.{DocAction}
 use Rattle.doc_model.specs.declared.action.DocAction.TheVariants.{BulkAdd, BulkUpdate, BulkRemove, AddTable, RemoveTable, RenameTable, AddColumn, RemoveColumn, RenameColumn, ModifyColumn}
+use Rattle.doc_model.specs.Records.{or_else}
 use Rattle.doc_model.specs.Rows.{has, insert_rows, without, IsAscending}
 use Rattle.doc_model.specs.Touched.{is_about, names_table}
 use Rattle.doc_model.proofs.RowsLaws.{has-filter, has-insert_rows}
 use Rattle.censored_view.proofs.SortedRows.{among}
 use Rattle.action_censor.specs.Back.{all_rows_back, rows_back}
 use Rattle.action_censor.specs.Step.{Step, are_records, is_in_row, is_of_records, is_row_in, is_row_of}
-use Rattle.action_censor.specs.Touched.{cell_rows, rows_in, rows_named, rows_told, there_back, told_there}
+use Rattle.action_censor.specs.Touched.{cell_rows, first_there, rows_in, rows_named, rows_told, told_there}
 
 -- ---- the rows that steps are about
 
@@ -95,10 +96,15 @@ back_has (RemoveColumn table column) t now r = refl
 back_has (RenameColumn table column new) t now r = refl
 back_has (ModifyColumn table column info) t now r = refl
 
-pub there_back-has : (ks : List Step) (t now : List ℕ) (r : ℕ) → there_back ks t r (has now r) ≡ has (all_rows_back ks t now) r
-there_back-has [] t now r = refl
-there_back-has (k ∷ ks) t now r =
-    ap (unwrap_or (told_there k.action t r)) (there_back-has ks t now r)
+either : (o p : Option Bool) (n : Bool) → unwrap_or (or_else o p) n ≡ unwrap_or o (unwrap_or p n)
+either None p n = refl
+either (Some b) p n = refl
+
+pub first_there-has : (ks : List Step) (t now : List ℕ) (r : ℕ) → unwrap_or (first_there ks t r) (has now r) ≡ has (all_rows_back ks t now) r
+first_there-has [] t now r = refl
+first_there-has (k ∷ ks) t now r =
+    either (told_there k.action t r) (first_there ks t r) (has now r)
+    ∙ ap (unwrap_or (told_there k.action t r)) (first_there-has ks t now r)
     ∙ sym (back_has k.action t (all_rows_back ks t now) r)
 
 -- ---- rows that are kept, one after another

@@ -1,10 +1,11 @@
 -- The tables and rows that steps of records are about, as the code lists them.
-use Rattle.std.specs.Prelude.{ℕ, Bool, true, false, cond, ◌&&◌, List, [], ◌∷◌, ◌++◌, map, Option, Some, None, unwrap_or}
+use Rattle.std.specs.Prelude.{ℕ, Bool, true, false, cond, ◌&&◌, List, [], ◌∷◌, ◌++◌, map, Option, Some, None}
 use Rattle.std.specs.List.{list_any}
 use Rattle.std.specs.Str.{bytes_eq}
 use Rattle.cell_types.specs.declared.cell.CellOld.{CellOld}
 use Rattle.doc_model.specs.declared.action.DocAction.{DocAction}
 use Rattle.doc_model.specs.declared.action.DocAction.TheVariants.{BulkAdd, BulkUpdate, BulkRemove}
+use Rattle.doc_model.specs.Records.{or_else}
 use Rattle.doc_model.specs.Rows.{has}
 use Rattle.doc_model.specs.Touched.{names_table}
 use Rattle.action_censor.specs.Step.{Step}
@@ -59,7 +60,7 @@ told_there (BulkAdd table rows ks) t r = cond (bytes_eq table t && has rows r) (
 told_there (BulkRemove table rows) t r = cond (bytes_eq table t && has rows r) (Some true) None
 told_there _ t r = None
 
--- whether it was there before all steps: the first that adds or removes it tells
-abbrev pub there_back : List Step → List ℕ → ℕ → Bool → Bool
-there_back [] t r now = now
-there_back (k ∷ ks) t r now = unwrap_or (told_there k.action t r) (there_back ks t r now)
+-- what the first step that adds or removes it tells
+abbrev pub first_there : List Step → List ℕ → ℕ → Option Bool
+first_there [] t r = None
+first_there (k ∷ ks) t r = or_else (told_there k.action t r) (first_there ks t r)

@@ -9,9 +9,11 @@ use Rattle.doc_readers.specs.Parts.{grid_at}
 use Rattle.acl_formula.specs.RuleFields.{cell_in}
 use Rattle.acl_formula.specs.RuleRow.{RuleRow}
 use Rattle.acl_formula.specs.declared.user_info.AttributeRow.{AttributeRow}
+use Rattle.acl_formula.specs.declared.user_info.NamedCell.{NamedCell}
 use Rattle.censored_view.specs.Readable.{row_of}
 use Rattle.action_censor.specs.Back.{grid_back}
 use Rattle.action_censor.specs.Step.{Step, is_row_of, is_table_of}
+use Rattle.action_censor.specs.ToldCells.{old_cell}
 use Rattle.action_censor.specs.declared.touched_table.TouchedTable.{TouchedTable}
 
 abbrev pub touched_id : TouchedTable → List ℕ
@@ -20,6 +22,10 @@ touched_id t = t.id
 -- a row that is kept
 abbrev pub kept_row : AttributeRow → RuleRow
 kept_row r = record { id = r.row; cell = λ c. cell_in r.cells c }
+
+-- a row as it was, by what is told of its cells
+abbrev pub old_row : List NamedCell → Grid ColDef → ℕ → RuleRow
+old_row told g r = kept_row (record { row = r; cells = map (old_cell told g r) g.columns })
 
 -- the rows of a table that pass, as rules read them
 abbrev pub passing_rows : (ℕ → Bool) → Grid ColDef → List RuleRow

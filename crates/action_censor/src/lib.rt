@@ -9,9 +9,9 @@
 //! views, and reads no cell of any other row. `steps_law`: what steps tell of a table is what it
 //! was before them. `told_law`: cells of other rows may hold anything.
 //! Not here: bundles that change the schema, or what a context lets be read.
-//! Costs: `touched_tables` the cells of the touched rows, each step's cells for each touched table,
-//! and each touched row times the rows that actions add and remove; `follow` a decision and a copy
-//! for each cell of the touched rows.
+//! Costs: `touched_tables` the cells of the touched rows, and for each touched table the steps'
+//! cells and the rows that their actions name; `follow` a decision and a copy for each cell of the
+//! touched rows.
 //! Read first: specs/Back.antt, specs/TouchedTables.antt, touched_table.rt and following.rt.
 #![tactic(auto)]
 
@@ -21,6 +21,7 @@ mod laws;
 mod old_rows;
 mod steps;
 mod table_names;
+mod there_before;
 mod touched_rows;
 mod touched_table;
 

@@ -1,6 +1,6 @@
 //! Rows as they were before steps.
 
-ghost use Rattle.std.specs.Prelude.{◌≡◌, ◌++◌, ◌∷◌, [], ℕ, cond, filter, map, None, Some, unwrap_or, IfOk, MatchOption, OnOk};
+ghost use Rattle.std.specs.Prelude.{◌≡◌, ◌++◌, ◌∷◌, [], cond, filter, map, None, Some, unwrap_or, IfOk, MatchOption, OnOk};
 ghost use Rattle.doc_model.specs.Column.{column_id};
 ghost use Rattle.doc_model.specs.Grid.{cell};
 ghost use Rattle.doc_model.specs.LaidOut.{IsLaidOut};
@@ -10,12 +10,12 @@ ghost use Rattle.acl_formula.specs.RuleFields.{cell_in};
 ghost use Rattle.censored_view.specs.Readable.{row_of};
 ghost use Rattle.action_censor.specs.Back.{grid_back};
 ghost use Rattle.action_censor.specs.Step.{step_of};
-ghost use Rattle.action_censor.specs.ToldCells.{cells_at, old_cell, told_of_row};
-ghost use Rattle.action_censor.specs.TouchedTables.{kept_row};
+ghost use Rattle.action_censor.specs.ToldCells.{old_cell};
+ghost use Rattle.action_censor.specs.TouchedTables.{kept_row, old_row};
 
-use crate::cells_by_row::{CellsByRow, cells_of};
+use crate::cells_by_row::{cells_of, told_cells};
 use crate::steps::StepTrace;
-use crate::touched_rows::was_there;
+use crate::there_before::{there_before, was_there};
 use acl_formula::{AttributeRow, NamedCell, NamedCellList};
 use cell_types::{CellValue, Name, copy_of};
 use doc_model::{ColDef, DocReader};
@@ -92,22 +92,17 @@ fn old_cells<D: DocReader>(
 fn add_old_row<D: DocReader>(
     alloc: Global,
     tables: &D,
-    steps: &[StepTrace<'_>],
+    was_there: bool,
     told: &[NamedCell],
     table: &Name,
     row: u32,
     rows: &mut Vec<AttributeRow>,
 ) -> Result<(), AllocError>
-    requires laid_out { IsLaidOut (D.document tables.now) }
-    requires told { told.now ≡ told_of_row (map step_of steps.now) table.now row }
     ensures rows { OnOk result (map kept_row rows.new.items ≡ map kept_row rows.old.items
-        ++ cond (has (grid_back (map step_of steps.now) table.now
-        (grid_at (D.document tables.now) table.now)).rows row)
-        (row_of (grid_back (map step_of steps.now) table.now
-        (grid_at (D.document tables.now) table.now)) row ∷ []) []) }
+        ++ cond was_there (old_row told.now (grid_at (D.document tables.now) table.now) row ∷ [])
+        []) }
 {
-    let is_there = holds_row(rows_in(tables, table), row);
-    if !was_there(steps, table, row, is_there) {
+    if !was_there {
         return Ok(());
     }
     let cells = old_cells(alloc, tables, told, table, row)?;
@@ -117,28 +112,30 @@ fn add_old_row<D: DocReader>(
 
 /// Those of the rows that were there before the steps, as they were.
 ///
-/// Errors: out of memory. Cost: for each row its cells, and the rows that actions add and remove.
+/// Errors: out of memory. Cost: the steps' cells and the rows that their actions add and remove;
+/// for each row its cells, and the logarithm of the table's rows.
 pub(crate) fn old_rows<D: DocReader>(
     alloc: Global,
     tables: &D,
     steps: &[StepTrace<'_>],
-    told: &CellsByRow,
     table: &Name,
     touched: &[u32],
 ) -> Result<Vec<AttributeRow>, AllocError>
     requires laid_out { IsLaidOut (D.document tables.now) }
-    requires told { (r : ℕ) → cells_at told.now r
-        ≡ told_of_row (map step_of steps.now) table.now r }
     ensures { IfOk result (λ l. map kept_row l.items ≡ map
         (row_of (grid_back (map step_of steps.now) table.now
         (grid_at (D.document tables.now) table.now)))
         (filter (has (grid_back (map step_of steps.now) table.now
         (grid_at (D.document tables.now) table.now)).rows) touched.now)) }
 {
+    let told = told_cells(alloc, steps, table)?;
+    let before = there_before(alloc, steps, table)?;
     let mut rows = Vec::new(alloc);
     for row in touched {
-        let cells = cells_of(told, *row);
-        add_old_row(alloc, tables, steps, cells, table, *row, &mut rows)?;
+        let is_there = holds_row(rows_in(tables, table), *row);
+        let there = was_there(&before, *row, is_there);
+        let cells = cells_of(&told, *row);
+        add_old_row(alloc, tables, there, cells, table, *row, &mut rows)?;
     }
     Ok(rows)
 }

@@ -1,10 +1,10 @@
-//! The rows of a table that steps are about, and which of them were there before.
+//! The rows of a table that steps are about.
 
 ghost use Rattle.std.specs.Prelude.{◌≡◌, ◌++◌, ℕ, map, IfOk, OnOk};
 ghost use Rattle.doc_model.specs.Rows.{IsAscending, has};
 ghost use Rattle.doc_model.specs.Touched.{names_table};
 ghost use Rattle.action_censor.specs.Step.{step_of};
-ghost use Rattle.action_censor.specs.Touched.{cell_rows, rows_in, rows_named, rows_told, there_back, told_there};
+ghost use Rattle.action_censor.specs.Touched.{cell_rows, rows_in, rows_named, rows_told};
 
 use crate::steps::StepTrace;
 use cell_types::{CellOld, Name};
@@ -89,31 +89,4 @@ pub(crate) fn rows_touched(
     let told = rows_told(alloc, steps, id)?;
     let touched = once_in_order(told)?;
     Ok(touched)
-}
-
-// Whether a row was there before an action, where it adds or removes it.
-fn told_there(action: &DocAction, id: &Name, row: u32) -> Option<bool>
-    ensures { result ≡ told_there action.now id.now row }
-{
-    match action {
-        DocAction::BulkAdd { table, rows, .. }
-            if table.as_str() == id.as_str() && rows.as_slice().contains(&row) => { Some(false) }
-        DocAction::BulkRemove { table, rows }
-            if table.as_str() == id.as_str() && rows.as_slice().contains(&row) => { Some(true) }
-        _ => None,
-    }
-}
-
-/// Whether a row was there before the steps, by whether it is there after them.
-///
-/// Memory: none. Cost: the rows that actions add and remove.
-pub(crate) fn was_there(steps: &[StepTrace<'_>], id: &Name, row: u32, now: bool) -> bool
-    ensures { result ≡ there_back (map step_of steps.now) id.now row now }
-{
-    for step in steps {
-        if let Some(there) = told_there(step.action, id, row) {
-            return there;
-        }
-    }
-    now
 }

@@ -9,7 +9,6 @@ ghost use Rattle.action_censor.specs.Step.{are_records, is_table_of, step_of};
 ghost use Rattle.action_censor.specs.Touched.{tables_told, with_names};
 ghost use Rattle.action_censor.specs.TouchedTables.{AreTouchedTables, IsTouchedTable, touched_id};
 
-use crate::cells_by_row::told_cells;
 use crate::old_rows::old_rows;
 use crate::steps::StepTrace;
 use crate::table_names::named_tables;
@@ -45,8 +44,7 @@ fn touched_table<D: DocReader>(
         (λ t. IsTouchedTable (map step_of steps.now) (D.document tables.now) t) }
 {
     let touched = rows_touched(alloc, steps, id)?;
-    let told = told_cells(alloc, steps, id)?;
-    let before = old_rows(alloc, tables, steps, &told, id, touched.as_slice())?;
+    let before = old_rows(alloc, tables, steps, id, touched.as_slice())?;
     let after = rows_there(alloc, touched.as_slice(), rows_in(tables, id))?;
     let name = id.clone()?;
     Ok(TouchedTable {
@@ -107,8 +105,8 @@ fn tables_there<D: DocReader>(
 /// after it. Those whom it changed something for are told by `follow`.
 ///
 /// Errors: out of memory.
-/// Cost: the cells of the touched rows; each step's cells for each touched table; each touched row
-/// times the rows that actions add and remove.
+/// Cost: the cells of the touched rows, and sorting these; for each touched table the steps' cells
+/// and the rows that their actions name.
 pub fn touched_tables<D: DocReader>(
     alloc: Global,
     tables: &D,

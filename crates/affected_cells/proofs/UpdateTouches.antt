@@ -56,22 +56,22 @@ not_given t rows (k ∷ ks) d e h =
         third false b c p q h = absurd (false≢true p)
 
 module _ (id : List ℕ) (rows : List ℕ) (ks : List CellColumn) where
-  abbrev updated : Table → Table
+  abbrev pub updated : Table → Table
   updated t = cond (bytes_eq t.id id) (on_grid (update_rows column_id rows ks) t) t
 
-  abbrev after : Document → Document
+  abbrev pub after : Document → Document
   after s = with_table id (on_grid (update_rows column_id rows ks)) s
 
-  same_columns : (t : Table) → (updated t).grid.columns ≡ t.grid.columns
+  pub same_columns : (t : Table) → (updated t).grid.columns ≡ t.grid.columns
   same_columns t = elim (bytes_eq t.id id) as (λ b. (cond b (on_grid (update_rows column_id rows ks) t) t).grid.columns ≡ t.grid.columns) [ true ↦ refl | false ↦ refl ]
 
-  same_rows : (t : Table) → (updated t).grid.rows ≡ t.grid.rows
+  pub same_rows : (t : Table) → (updated t).grid.rows ≡ t.grid.rows
   same_rows t = elim (bytes_eq t.id id) as (λ b. (cond b (on_grid (update_rows column_id rows ks) t) t).grid.rows ≡ t.grid.rows) [ true ↦ refl | false ↦ refl ]
 
-  same_id : (t : Table) → (updated t).id ≡ t.id
+  pub same_id : (t : Table) → (updated t).id ≡ t.id
   same_id t = elim (bytes_eq t.id id) as (λ b. (cond b (on_grid (update_rows column_id rows ks) t) t).id ≡ t.id) [ true ↦ refl | false ↦ refl ]
 
-  find_updated : (c : List ℕ) (s : Document) → find_id table_id c (after s) ≡ option_map updated (find_id table_id c s)
+  pub find_updated : (c : List ℕ) (s : Document) → find_id table_id c (after s) ≡ option_map updated (find_id table_id c s)
   find_updated c [] = refl
   find_updated c (t ∷ s) =
       ap (λ n. cond (bytes_eq n c) (Some (updated t)) (find_id table_id c (after s))) (same_id t)
@@ -97,7 +97,7 @@ module _ (id : List ℕ) (rows : List ℕ) (ks : List CellColumn) where
   by_parts : CellId → List ColDef → List ℕ → Option (List ℕ)
   by_parts c ds rs = elim (find_id column_id c.column ds) as (λ _. Option (List ℕ)) [ None ↦ None | Some d ↦ cond (d.info.is_formula && has rs c.row) (Some d.info.formula) None ]
 
-  same_formula : (s : Document) (c : CellId) → formula_at (after s) c ≡ formula_at s c
+  pub same_formula : (s : Document) (c : CellId) → formula_at (after s) c ≡ formula_at s c
   unfolding by_parts
   same_formula s c =
       ap (λ (o : Option Table). elim o as (λ _. Option (List ℕ)) [ None ↦ None | Some u ↦ by_parts c u.grid.columns u.grid.rows ]) (find_updated c.table s)

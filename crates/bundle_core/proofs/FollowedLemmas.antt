@@ -7,7 +7,7 @@ use Rattle.doc_model.specs.Apply.{apply}
 use Rattle.doc_model.specs.Document.{Document}
 use Rattle.doc_model.proofs.Choices.{length_map}
 use Rattle.recalc.specs.Lost.{lost}
-use Rattle.recalc.specs.WayBack.{Changed}
+use Rattle.evaluated_doc.specs.WayBack.{Changed}
 use Rattle.action_censor.specs.Step.{Step, are_records, is_of_records}
 use Rattle.bundle_traces.specs.TraceLaws.{steps_done}
 use Rattle.bundle_judge.specs.Losses.{all_lost, cells_told}

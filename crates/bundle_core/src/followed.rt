@@ -8,7 +8,7 @@ ghost use Rattle.bundle_core.specs.Followed.{with_cells};
 
 use action_censor::StepTrace;
 use doc_model::{DocAction, DocTables};
-use recalc::{Doc, Trace};
+use evaluated_doc::{Doc, Trace};
 use std::alloc::{AllocError, Global};
 
 fn is_of_records(action: &DocAction) -> bool

@@ -14,7 +14,7 @@ use action_limits::Tally;
 use doc_keeper::{KeepFault, Keeper};
 use doc_model::laws::new_document_law;
 use doc_opening::{StartCause, open_records};
-use recalc::Doc;
+use evaluated_doc::Doc;
 use row_tables::RowTables;
 use std::alloc::{AllocError, Global};
 

@@ -21,7 +21,7 @@ use cell_types::Name;
 use censored_view::{Selection, part, whole_view};
 use context_changes::KnownContexts;
 use doc_model::{DocTables, User, UserAction, View};
-use recalc::Doc;
+use evaluated_doc::Doc;
 use std::alloc::{AllocError, Global};
 use std::marker::Model;
 use undo_bundles::BundleLog;

@@ -6,7 +6,7 @@ use Rattle.doc_model.specs.declared.action.DocAction.{DocAction}
 use Rattle.doc_model.specs.Apply.{apply}
 use Rattle.doc_model.specs.Document.{Document}
 use Rattle.recalc.specs.Lost.{lost}
-use Rattle.recalc.specs.WayBack.{Changed}
+use Rattle.evaluated_doc.specs.WayBack.{Changed}
 use Rattle.bundle_judge.specs.Losses.{all_lost, cells_told}
 use Rattle.bundle_judge.proofs.RollbackLemmas.{nothing_left}
 

@@ -5,7 +5,7 @@ use Rattle.doc_model.specs.declared.action.DocAction.{DocAction}
 use Rattle.doc_model.specs.Apply.{apply}
 use Rattle.doc_model.specs.Document.{Document}
 use Rattle.recalc.specs.Lost.{lost}
-use Rattle.recalc.specs.WayBack.{Changed}
+use Rattle.evaluated_doc.specs.WayBack.{Changed}
 
 -- what each action loses where those before it are done
 abbrev pub all_lost : Document → List DocAction → List (List CellOld)

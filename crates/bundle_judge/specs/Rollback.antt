@@ -1,7 +1,7 @@
 -- What takes back actions that were done one after another.
 use Rattle.std.specs.Prelude.{List, [], ◌∷◌, ⊤}
 use Rattle.doc_model.specs.Document.{Document}
-use Rattle.recalc.specs.WayBack.{Changed, IsWayBack}
+use Rattle.evaluated_doc.specs.WayBack.{Changed, IsWayBack}
 
 module _ {B : Type 0} (undone : B → Document → Document) (fits : B → Document → Type 0) where
   -- the document after all are taken back, the last one first

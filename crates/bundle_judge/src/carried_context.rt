@@ -8,7 +8,7 @@ ghost use Rattle.bundle_judge.specs.CarriedContexts.{asks_rename, carried_contex
 
 use acl_rules::{Ctx, carry};
 use doc_model::{DocAction, DocTables, Step, UserAction};
-use recalc::Doc;
+use evaluated_doc::Doc;
 use rule_contexts::context_of;
 use std::alloc::{AllocError, Global};
 

@@ -23,7 +23,7 @@ use acl_checks::laws::unchecked_law;
 use acl_checks::{after_step, are_unchecked, before_step};
 use acl_rules::{Ctx, RuleId, rule_ref};
 use doc_model::{DocTables, Step};
-use recalc::{Doc, Trace};
+use evaluated_doc::{Doc, Trace};
 use std::alloc::{AllocError, Global};
 use view_parts::ChangedRows;
 

@@ -31,7 +31,7 @@ use acl_reading::RuleReading;
 use acl_rules::Ctx;
 use action_limits::{Expansion, Tally, expand};
 use doc_model::{DocTables, LimitKind, MAX_ACTIONS, Refusal, StepList, UserAction};
-use recalc::{Doc, Trace};
+use evaluated_doc::{Doc, Trace};
 use rule_contexts::seen_law;
 use std::alloc::{AllocError, Global};
 use user_actions::refuse;

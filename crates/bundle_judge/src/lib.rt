@@ -1,9 +1,9 @@
 //! The judgement of bundles and undos: what stands against one, or what it does.
 //!
-//! Stands on `recalc` (a document with its formula cells evaluated), `user_actions` (refusals),
-//! `action_limits` (steps and limits), `rule_contexts` and `view_refusals` (what is in force for a
-//! user, and what it shows), `acl_checks` (which rule denies a step) and `undo_bundles` (inverses).
-//! Used by `bundle_core`.
+//! Stands on `evaluated_doc` (a document with its formula cells evaluated), `recalc` (what such a
+//! document is), `user_actions` (refusals), `action_limits` (steps and limits), `rule_contexts` and
+//! `view_refusals` (what is in force for a user, and what it shows), `acl_checks` (which rule
+//! denies a step) and `undo_bundles` (inverses). Used by `bundle_core`.
 //!
 //! Promises: `judge` and `judge_own_undo` answer what specs/Judgement.antt and specs/Undo.antt say
 //! for every document, over plain lists: the first fault of the first action that has one, or the

@@ -22,7 +22,7 @@ use acl_rules::Ctx;
 use action_limits::Tally;
 use doc_actions::is_valid;
 use doc_model::{DocAction, DocTables, Refusal, Step, StepList};
-use recalc::{Doc, Trace};
+use evaluated_doc::{Doc, Trace};
 use std::alloc::{AllocError, Global};
 use undo_bundles::{BundleLog, LogFault};
 

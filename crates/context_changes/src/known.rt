@@ -10,7 +10,7 @@ ghost use Rattle.context_changes.specs.Known.{AreKnown, IsPlaceOf, StandsAt, fou
 use crate::users::same_user;
 use acl_rules::Ctx;
 use doc_model::{DocTables, User};
-use recalc::Doc;
+use evaluated_doc::Doc;
 use rule_contexts::context_with;
 use std::alloc::{AllocError, Global};
 use user_attrs::{AttributeRule, AttributeRules, load_attributes};

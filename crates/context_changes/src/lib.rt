@@ -3,7 +3,8 @@
 //! Stands on `rule_contexts` (what is in force for a user), `acl_reading` (what a context lets be
 //! read), `user_attrs` and `acl_rules` (what contexts are made of), `censored_view`
 //! (what it shows of a document), `plain_view` (changes), `action_censor` and `bundle_traces` (what
-//! the steps of a bundle tell of the rows that they touched), `recalc` and `doc_model`.
+//! the steps of a bundle tell of the rows that they touched), `recalc`, `evaluated_doc` and
+//! `doc_model`.
 //!
 //! Promises: what a context is told are the changes from what it showed of the evaluated document
 //! to what the context in force afterwards shows (`told_of`). `see_all` and `tell_whole` make it of

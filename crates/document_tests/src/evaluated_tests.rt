@@ -17,7 +17,7 @@ use Kind::{Any, Int, Ref};
 use cell_types::CellOld;
 use doc_model::laws::new_document_law;
 use doc_model::{DocAction, DocActionList};
-use recalc::Doc;
+use evaluated_doc::Doc;
 use row_tables::RowTables;
 use std::alloc::{AllocError, Global};
 

@@ -2,9 +2,9 @@
 //! user actions, and evaluated documents.
 //!
 //! Stands on `cell_types`, `doc_model`, `name_rules`, `row_tables`, `action_inverse`,
-//! `doc_actions`, `recalc`, `user_actions`, `action_limits` and `view_parts`. Nothing stands on it;
-//! it is a crate of its own, so that no crate of the engine depends on a store that only its tests
-//! need.
+//! `doc_actions`, `evaluated_doc`, `user_actions`, `action_limits` and `view_parts`. Nothing stands
+//! on it; it is a crate of its own, so that no crate of the engine depends on a store that only its
+//! tests need.
 //!
 //! Promises: nothing. What is tested is what no clause says: that the definitions mean what is
 //! meant, against readings that were worked out by hand, and that calls succeed where there is

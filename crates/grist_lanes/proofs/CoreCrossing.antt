@@ -61,7 +61,7 @@ use Rattle.row_tables.specs.contracts.tables.RowTables as tables
 use Rattle.row_tables.specs.contracts.tables.RowTablesDocTables as doc-tables
 use Rattle.row_tables.specs.contracts.tables.RowBack as back
 use Rattle.row_tables.specs.contracts.tables.RowTablesDocReader as doc-reader
-use Rattle.recalc.specs.contracts.doc.Doc as doc
+use Rattle.evaluated_doc.specs.contracts.doc.Doc as doc
 use Rattle.bundle_core.specs.contracts.ruled_document.RuledDocument as ruled
 use Rattle.bundle_core.specs.contracts.ruled_document.RuledDocument.TheInside as ruled-inside
 use Rattle.bundle_core.specs.contracts.history_core.Core as core

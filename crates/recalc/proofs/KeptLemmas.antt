@@ -80,23 +80,23 @@ places_of rows d e same is =
     ap (λ (x : ColumnShape). x.size) same ∙ ap (λ b. length (cond b (map none_each rows) [])) is ∙ length-map rows none_each
 
 -- a value put keeps the shape
-column_put : (old new : KeptColumn) (p : ℕ) (v : CellValue) → IsPutInColumn old new p v → column_kept new ≡ column_kept old
-column_put old new p v h = λ i. record { id = h.named i; ty = h.ty i; is_formula = h.kind i; tree = h.tree i; size = (ap length h.values ∙ length-set old.values.items p (Some v)) i }
+column_put : (old new : KeptColumn) (p : ℕ) (v w : Option CellValue) → IsPutInColumn old new p v w → column_kept new ≡ column_kept old
+column_put old new p v w h = λ i. record { id = h.named i; ty = h.ty i; is_formula = h.kind i; tree = h.tree i; size = (ap length h.values ∙ length-set old.values.items p v) i }
 
-table_put : (old new : KeptTable) (j p : ℕ) (v : CellValue) → IsPutInTable old new j p v → shape_kept new ≡ shape_kept old
-table_put old new j p v h = λ i. record { id = h.named i; columns = columns i }
+table_put : (old new : KeptTable) (j p : ℕ) (v w : Option CellValue) → IsPutInTable old new j p v w → shape_kept new ≡ shape_kept old
+table_put old new j p v w h = λ i. record { id = h.named i; columns = columns i }
   where
     same : column_kept h.is ≡ column_kept (get_or old.columns.items j h.was)
-    same = column_put h.was h.is p v h.put ∙ ap column_kept (sym (get_or_from_slice_get old.columns.items j h.was h.was h.here))
+    same = column_put h.was h.is p v w h.put ∙ ap column_kept (sym (get_or_from_slice_get old.columns.items j h.was h.was h.here))
 
     columns : map column_shape (map column_part new.columns.items) ≡ map column_shape (map column_part old.columns.items)
     columns = map-map column_shape column_part new.columns.items ∙ ap (map column_kept) h.columns ∙ map-set_same column_kept old.columns.items j h.is h.was same
         ∙ sym (map-map column_shape column_part old.columns.items)
 
-pub tables_put : (s : Document) (old new : List KeptTable) (i j p : ℕ) (v : CellValue) → IsPutInTables old new i j p v → IsKeptOf s old → IsKeptOf s new
-tables_put s old new i j p v h kept =
+pub tables_put : (s : Document) (old new : List KeptTable) (i j p : ℕ) (v w : Option CellValue) → IsPutInTables old new i j p v w → IsKeptOf s old → IsKeptOf s new
+tables_put s old new i j p v w h kept =
     ap (map shape_kept) h.tables
-    ∙ map-set_same shape_kept old i h.is h.was (table_put h.was h.is j p v h.put ∙ ap shape_kept (sym (get_or_from_slice_get old i h.was h.was h.here)))
+    ∙ map-set_same shape_kept old i h.is h.was (table_put h.was h.is j p v w h.put ∙ ap shape_kept (sym (get_or_from_slice_get old i h.was h.was h.here)))
     ∙ kept
 
 -- of a document of which nothing is known

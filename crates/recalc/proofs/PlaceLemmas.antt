@@ -36,8 +36,8 @@ other_lengths a b other = by_test (bytes_eq a b) refl
     by_test false e = refl
 
 -- in one column
-pub held-set : (rows : List ℕ) (vs : List (Option CellValue)) (p r : ℕ) (v : CellValue) (q : ℕ) → IsAscending rows → slice_get rows p ≡ Some r → p < length vs
-    → held_in rows (set vs p (Some v)) q ≡ cond (nat_eq r q) (Some v) (held_in rows vs q)
+pub held-set : (rows : List ℕ) (vs : List (Option CellValue)) (p r : ℕ) (v : Option CellValue) (q : ℕ) → IsAscending rows → slice_get rows p ≡ Some r → p < length vs
+    → held_in rows (set vs p v) q ≡ cond (nat_eq r q) v (held_in rows vs q)
 held-set [] vs p r v q a at lt = absurd (no_row p at)
   where
     no_row : (p : ℕ) → slice_get {X = ℕ} [] p ≡ Some r → ⊥
@@ -46,15 +46,15 @@ held-set [] vs p r v q a at lt = absurd (no_row p at)
 held-set (x ∷ rows) [] p r v q a at lt = absurd (omega arith)
 held-set (x ∷ rows) (w ∷ vs) zero r v q a at lt =
     let same : x ≡ r = cc in
-    ap (λ y. cond (nat_eq y q) (Some v) (held_in rows vs q)) same ∙ hidden (nat_eq r q) (nat_eq x q) (ap (λ y. nat_eq y q) (sym same))
+    ap (λ y. cond (nat_eq y q) v (held_in rows vs q)) same ∙ hidden (nat_eq r q) (nat_eq x q) (ap (λ y. nat_eq y q) (sym same))
   where
-    hidden : (b d : Bool) → b ≡ d → cond b (Some v) (held_in rows vs q) ≡ cond b (Some v) (cond d w (held_in rows vs q))
+    hidden : (b d : Bool) → b ≡ d → cond b v (held_in rows vs q) ≡ cond b v (cond d w (held_in rows vs q))
     hidden true d e = refl
     hidden false true e = absurd (false≢true e)
     hidden false false e = refl
 held-set (x ∷ rows) (w ∷ vs) (suc p) r v q a at lt =
-    elim (nat_eq x q) as (λ b. nat_eq x q ≡ b → cond b w (held_in rows (set vs p (Some v)) q) ≡ cond (nat_eq r q) (Some v) (cond b w (held_in rows vs q))) [
-      | true ↦ λ e. sym (cond_false (nat_eq r q) (Some v) w (apart (eqb-true x q e) (below rows p a.0 at)))
+    elim (nat_eq x q) as (λ b. nat_eq x q ≡ b → cond b w (held_in rows (set vs p v) q) ≡ cond (nat_eq r q) v (cond b w (held_in rows vs q))) [
+      | true ↦ λ e. sym (cond_false (nat_eq r q) v w (apart (eqb-true x q e) (below rows p a.0 at)))
       | false ↦ λ e. held-set rows vs p r v q a.1 at (omega (arith, lt))
     ] refl
   where
@@ -132,38 +132,38 @@ and_false true = refl
 and_false false = refl
 
 -- a write at the place of a table, of a column and of a row is a write at the cell
-module _ (s : Document) (ks : List KeptTable) (cell : CellId) (v : CellValue)
+module _ (s : Document) (ks : List KeptTable) (cell : CellId) (v : Option CellValue)
     (i : ℕ) (k : KeptTable) (at_table : IsFirst kept_table_id cell.table ks i) (here_table : slice_get ks i ≡ Some k)
     (j : ℕ) (e : KeptColumn) (at_column : IsFirst kept_column_id cell.column k.columns.items j) (here_column : slice_get k.columns.items j ≡ Some e)
     (p : ℕ) (at_row : slice_get (grid_at s cell.table).rows p ≡ Some cell.row) (within : p < length e.values.items) (ascending : IsAscending (grid_at s cell.table).rows)
     (l : KeptTable) (f : KeptColumn) (named_table : l.id ≡ cell.table) (named_column : f.id ≡ cell.column)
-    (columns : l.columns.items ≡ set k.columns.items j f) (values : f.values.items ≡ set e.values.items p (Some v)) where
-  pub held-put : (d : CellId) → held_at s (set ks i l) d ≡ cond (same_cell cell d) (Some v) (held_at s ks d)
+    (columns : l.columns.items ≡ set k.columns.items j f) (values : f.values.items ≡ set e.values.items p v) where
+  pub held-put : (d : CellId) → held_at s (set ks i l) d ≡ cond (same_cell cell d) v (held_at s ks d)
   held-put d =
       ap (held_table (grid_at s d.table).rows d.column d.row) (find-set kept_table_id ks cell.table i l d.table at_table named_table)
       ∙ by_table (bytes_eq cell.table d.table) refl
     where
-      by_row : cell.table ≡ d.table → cell.column ≡ d.column → held_in (grid_at s d.table).rows f.values.items d.row ≡ cond (nat_eq cell.row d.row) (Some v) (held_in (grid_at s d.table).rows e.values.items d.row)
+      by_row : cell.table ≡ d.table → cell.column ≡ d.column → held_in (grid_at s d.table).rows f.values.items d.row ≡ cond (nat_eq cell.row d.row) v (held_in (grid_at s d.table).rows e.values.items d.row)
       by_row t c =
           ap (λ x. held_in (grid_at s d.table).rows x d.row) values
           ∙ held-set (grid_at s d.table).rows e.values.items p cell.row v d.row (subst (λ x. IsAscending (grid_at s x).rows) t ascending) (subst (λ x. slice_get (grid_at s x).rows p ≡ Some cell.row) t at_row) within
 
       by_column : cell.table ≡ d.table → (b : Bool) → bytes_eq cell.column d.column ≡ b
-          → held_column (grid_at s d.table).rows d.row (cond b (Some f) (find_id kept_column_id d.column k.columns.items)) ≡ cond (b && nat_eq cell.row d.row) (Some v) (held_column (grid_at s d.table).rows d.row (find_id kept_column_id d.column k.columns.items))
+          → held_column (grid_at s d.table).rows d.row (cond b (Some f) (find_id kept_column_id d.column k.columns.items)) ≡ cond (b && nat_eq cell.row d.row) v (held_column (grid_at s d.table).rows d.row (find_id kept_column_id d.column k.columns.items))
       by_column t true c =
           let name : cell.column ≡ d.column = (bytes_eq-Decides cell.column d.column).0 c in
           by_row t name
-          ∙ ap (λ x. cond (nat_eq cell.row d.row) (Some v) (held_column (grid_at s d.table).rows d.row x)) (sym (ap (λ x. find_id kept_column_id x k.columns.items) (sym name) ∙ (find-first kept_column_id k.columns.items cell.column j e at_column here_column).0))
+          ∙ ap (λ x. cond (nat_eq cell.row d.row) v (held_column (grid_at s d.table).rows d.row x)) (sym (ap (λ x. find_id kept_column_id x k.columns.items) (sym name) ∙ (find-first kept_column_id k.columns.items cell.column j e at_column here_column).0))
       by_column t false c = refl
 
       by_table : (b : Bool) → bytes_eq cell.table d.table ≡ b
-          → held_table (grid_at s d.table).rows d.column d.row (cond b (Some l) (find_id kept_table_id d.table ks)) ≡ cond (b && bytes_eq cell.column d.column && nat_eq cell.row d.row) (Some v) (held_at s ks d)
+          → held_table (grid_at s d.table).rows d.column d.row (cond b (Some l) (find_id kept_table_id d.table ks)) ≡ cond (b && bytes_eq cell.column d.column && nat_eq cell.row d.row) v (held_at s ks d)
       by_table true t =
           let name : cell.table ≡ d.table = (bytes_eq-Decides cell.table d.table).0 t in
           ap (λ x. held_column (grid_at s d.table).rows d.row (find_id kept_column_id d.column x)) columns
           ∙ ap (held_column (grid_at s d.table).rows d.row) (find-set kept_column_id k.columns.items cell.column j f d.column at_column named_column)
           ∙ by_column name (bytes_eq cell.column d.column) refl
-          ∙ ap (λ x. cond (bytes_eq cell.column d.column && nat_eq cell.row d.row) (Some v) (held_table (grid_at s d.table).rows d.column d.row x)) (sym (ap (λ x. find_id kept_table_id x ks) (sym name) ∙ (find-first kept_table_id ks cell.table i k at_table here_table).0))
+          ∙ ap (λ x. cond (bytes_eq cell.column d.column && nat_eq cell.row d.row) v (held_table (grid_at s d.table).rows d.column d.row x)) (sym (ap (λ x. find_id kept_table_id x ks) (sym name) ∙ (find-first kept_table_id ks cell.table i k at_table here_table).0))
       by_table false t = refl
 
 -- what stands at the place of a row is held for it
@@ -207,12 +207,12 @@ same_item o x y e f = some_same (sym e ∙ f)
     some_same : Some x ≡ Some y → x ≡ y
     some_same h = cc
 
-pub put_done : (s : Document) (ks new : List KeptTable) (cell : CellId) (v : CellValue) (i j p : ℕ) → IsPutInTables ks new i j p v → IsFirst kept_table_id cell.table ks i
+pub put_done : (s : Document) (ks new : List KeptTable) (cell : CellId) (v w : Option CellValue) (i j p : ℕ) → IsPutInTables ks new i j p v w → IsFirst kept_table_id cell.table ks i
     → ((k : KeptTable) → slice_get ks i ≡ Some k → IsFirst kept_column_id cell.column k.columns.items j)
     → (rows : List ℕ) → rows ≡ (grid_at s cell.table).rows → IsAscending rows → slice_get rows p ≡ Some cell.row
     → ((k : KeptTable) (e : KeptColumn) → slice_get ks i ≡ Some k → slice_get k.columns.items j ≡ Some e → p < length e.values.items)
-    → (d : CellId) → held_at s new d ≡ cond (same_cell cell d) (Some v) (held_at s ks d)
-put_done s ks new cell v i j p done first_table first_column rows is ascending at within d =
+    → (d : CellId) → held_at s new d ≡ cond (same_cell cell d) v (held_at s ks d)
+put_done s ks new cell v w i j p done first_table first_column rows is ascending at within d =
     let k = done.was in
     let e = done.put.was in
     ap (λ l. held_at s l d) done.tables

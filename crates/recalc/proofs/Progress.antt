@@ -99,7 +99,7 @@ known_in k c (d ∷ ds) a (inr i) = known_in k c ds a.1 i
 
 -- what is settled with all values known is evaluated
 module _ (s : Document) (ks : List KeptTable) (settled : IsSettled s ks) where
-  known_value : (c : CellId) → is_some (held_at s ks c) ≡ true → held_at s ks c ≡ Some (value_of s c.table c.column c.row)
+  pub known_value : (c : CellId) → is_some (held_at s ks c) ≡ true → held_at s ks c ≡ Some (value_of s c.table c.column c.row)
   unfolding value_of
   known_value c h = by_value (held_at s ks c) refl h
     where

@@ -1,5 +1,5 @@
 -- The turns of whole evaluation.
-use Rattle.std.proofs.Common.{ℕ, ◌<◌, true, false, cond, not, ◌&&◌, List, [], ◌∷◌, ◌++◌, ◌≡◌, refl, sym, ap, ◌∙◌, subst, Option, Some, None, Result, Ok, Err as Fails, OnOk}
+use Rattle.std.proofs.Common.{ℕ, ◌<◌, true, false, cond, not, ◌&&◌, List, [], ◌∷◌, ◌++◌, ◌≡◌, refl, sym, ap, ◌∙◌, subst, Option, Some, None, Result, Ok, Err as Fails, OnErr, OnOk}
 use Rattle.std.proofs.lemmas.Bool.{true≢false}
 use Rattle.std.specs.Option.{is_some}
 use Rattle.cell_types.specs.declared.cell.CellId.{CellId}
@@ -64,6 +64,14 @@ module _ (s : Sheet) (sheet : IsSheet s) (k : Values) (stack front : List CellId
 pub on_ok : {A E : Type 0} (P Q : Type 0) (r : Result A E) → (P → Q) → OnOk r P → OnOk r Q
 on_ok P Q (Ok x) h p = h p
 on_ok P Q (Fails e) h p = tt
+
+-- what is known stays known
+pub put_stays : (k j : Values) (c : CellId) (v : CellValue) → ((d : CellId) → j d ≡ cond (same_cell c d) (Some v) (k d)) → StaysKnown k j
+put_stays k j c v puts d h = ap is_some (puts d) ∙ elim (same_cell c d) as (λ b. is_some (cond b (Some v) (k d)) ≡ true) [ true ↦ refl | false ↦ h ]
+
+pub on_err : {A E : Type 0} {P : Type 0} (r : Result A E) → P → OnErr r P
+on_err (Ok x) p = tt
+on_err (Fails e) p = p
 
 fresh_none : (k : Values) (c : CellId) → is_fresh k [] c ≡ false → is_some (k c) ≡ true
 fresh_none k c e = parts (k c) e

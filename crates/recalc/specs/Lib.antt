@@ -11,7 +11,6 @@ pub mod Current
 pub mod Put
 pub mod Seen
 pub mod Indexes
-pub mod WayBack
 pub mod FilledLaws
 pub mod Watched
 pub mod MayLose

@@ -14,7 +14,7 @@ use doc_readers::cell_in;
 use std::alloc::AllocError;
 
 /// The cell of these names and this row.
-pub(crate) fn cell_id(table: &Name, column: &Name, row: u32) -> Result<CellId, AllocError>
+pub fn cell_id(table: &Name, column: &Name, row: u32) -> Result<CellId, AllocError>
     ensures { IfOk result (λ c. c ≡ cell_of table.now column.now row) }
 {
     Ok(CellId {
@@ -42,7 +42,7 @@ fn cell_old<R: DocReader>(
 }
 
 /// The cells of a column in these rows.
-pub(crate) fn push_cells<R: DocReader>(
+pub fn push_cells<R: DocReader>(
     doc: &R,
     table: &Name,
     column: &Name,
@@ -103,7 +103,7 @@ fn is_lost<R: DocReader>(doc: &R, action: &DocAction, cell: &CellOld) -> bool
 }
 
 /// Keeps of the cells before an action those that differ after it or are gone.
-pub(crate) fn keep_lost<R: DocReader>(doc: &R, action: &DocAction, cells: &mut Vec<CellOld>)
+pub fn keep_lost<R: DocReader>(doc: &R, action: &DocAction, cells: &mut Vec<CellOld>)
     ensures { cells.new.items ≡ filter (is_lost (R.document doc.now) action.now) cells.old.items }
 {
     cells.retain(|cell| is_lost(doc, action, cell));

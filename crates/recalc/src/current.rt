@@ -15,7 +15,7 @@ use std::alloc::{AllocError, Global};
 /// Whether a column of the table has a formula.
 ///
 /// Memory: none. Cost: linear in the columns.
-pub(crate) fn has_formula<R: DocReader>(doc: &R, table: &Name) -> bool
+pub fn has_formula<R: DocReader>(doc: &R, table: &Name) -> bool
     ensures { result ≡ has_formula (grid_at (R.document doc.now) table.now).columns }
 {
     let mut index = 0;
@@ -67,7 +67,7 @@ pub fn brings_formula(action: &DocAction) -> bool
 ///
 /// Memory: none without formula columns, else as to `evaluate`.
 /// Cost: a look at each column, and the evaluation.
-pub(crate) fn keep_values<D: DocTables>(
+pub fn keep_values<D: DocTables>(
     alloc: Global,
     tables: &D,
 ) -> Result<Option<Vec<KeptTable>>, AllocError>
@@ -84,7 +84,7 @@ pub(crate) fn keep_values<D: DocTables>(
 /// The same after an action, which the caller may know to have left no formula column.
 ///
 /// Memory and cost: none there, else as to `keep_values`.
-pub(crate) fn keep_values_after<D: DocTables>(
+pub fn keep_values_after<D: DocTables>(
     alloc: Global,
     tables: &D,
     is_plain: bool,

@@ -1,6 +1,6 @@
 //! Whole evaluation.
 
-ghost use Rattle.std.specs.Prelude.{◌≡◌, true, None, Some, IfOk, OnOk, length, map};
+ghost use Rattle.std.specs.Prelude.{◌≡◌, true, None, Some, IfOk, OnErr, OnOk, length, map};
 ghost use Rattle.std.specs.Option.{is_some};
 ghost use Rattle.doc_model.specs.ByIds.{find_id};
 ghost use Rattle.doc_model.specs.Column.{column_id};
@@ -142,8 +142,11 @@ fn is_known<D: DocTables>(
     }
 }
 
-// Makes the value of a formula cell known.
-fn make_known<D: DocTables>(
+/// Makes the value of a formula cell known.
+///
+/// Errors: out of memory; what was known is then known still, and what is known is right.
+/// Memory and cost: none where it is known, else as to settle.
+pub fn make_known<D: DocTables>(
     alloc: Global,
     tables: &D,
     kept: &mut Vec<KeptTable>,
@@ -157,6 +160,8 @@ fn make_known<D: DocTables>(
     requires indexed { AreIndexes (sheet_of (D.document tables.now)) indexes.old.items }
     requires there { is_some (formula_at (D.document tables.now) cell.now) ≡ true }
     ensures further { OnOk result
+        (IsFurther (D.document tables.now) kept.old.items kept.new.items) }
+    ensures err { OnErr result
         (IsFurther (D.document tables.now) kept.old.items kept.new.items) }
     ensures known { OnOk result
         (is_some (held_at (D.document tables.now) kept.new.items cell.now) ≡ true) }

@@ -1,28 +1,25 @@
-//! Evaluated cells: a document over any store, with the values of its formula cells.
+//! Evaluated cells of a document over any store: what they are, and how they are found.
 //!
 //! Stands on `cell_types` (values, names and conversion), `doc_model` (documents and actions),
 //! `formula_parse` and `formula_eval` (one attempt at a formula), `lookup_index` (which rows hold a
 //! value), `doc_readers` (what a store tells) and `doc_actions` (a valid action done). Used by
-//! `bundle_core`.
+//! `evaluated_doc`, which keeps the values, and by the laws of `affected_cells`, `affected_search`
+//! and `bundle_traces`.
 //!
-//! Promises: `Doc` holds the evaluated cells of its document, after its start, any change and any
-//! way back, and is read as the document with them in place; a trace has exactly the cells that a
-//! change lost, under the names before it; a change that fails leaves the document as it was, and
-//! the way back takes no memory. laws.rt: more fuel changes no value, as much fuel as there are
+//! Promises: `keep_values` finds the value of each formula cell, and `settle` of one cell from any
+//! values that are right; `watched_cells` tells the cells that an action may lose, and `keep_lost`
+//! leaves those that it lost. laws.rt: more fuel changes no value, as much fuel as there are
 //! formula cells is enough, a cell is circular exactly where no fuel gives it a value, and a whole
 //! document with its values in place is laid out as views need it.
-//! Not promised: speed. Where a column has a formula, a change evaluates the whole document again.
-//! Where none has, nothing is kept, and a record action looks at what it writes or removes alone. A
-//! lookup by `id` and data columns looks at the rows of one key's value, once there is an index; by
-//! formula columns at every row. Attempts are not counted.
-//! Read first: specs/Sheet.antt, specs/Evaluated.antt and specs/Lost.antt, then doc.rt; for what a
-//! change looks at specs/MayLose.antt, then watched.rt.
+//! Not promised: speed. A lookup by `id` and data columns looks at the rows of one key's value,
+//! once there is an index; by formula columns at every row. Attempts are not counted.
+//! Read first: specs/Sheet.antt, specs/Evaluated.antt and specs/Lost.antt, then settling.rt; for
+//! what a change looks at specs/MayLose.antt, then watched.rt.
 #![tactic(auto)]
 
 mod candidates;
 mod cells;
 mod current;
-mod doc;
 mod evaluating;
 mod indexes;
 mod kept;
@@ -33,9 +30,17 @@ mod reading;
 mod rows;
 mod settling;
 mod touched;
-mod trace;
 mod watched;
 
-pub use current::brings_formula;
-pub use doc::{ChangeFault, Doc};
-pub use trace::Trace;
+pub use cells::{cell_id, keep_lost, push_cells};
+pub use current::{brings_formula, has_formula, keep_values, keep_values_after};
+pub use evaluating::make_known;
+pub use indexes::ColumnIndex;
+pub use kept::{KeptColumn, KeptTable};
+pub use names::sorted;
+pub use places::{column_at, exchange_value};
+pub use reading::{KnownReader, cell_told};
+pub use rows::rows_among;
+pub use settling::{row_of, settle};
+pub use touched::rows_of_table;
+pub use watched::watched_cells;

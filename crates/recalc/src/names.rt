@@ -34,7 +34,7 @@ fn put(names: &mut Vec<Name>, name: Name) -> Result<(), AllocError>
 }
 
 /// The names in order.
-pub(crate) fn sorted(alloc: Global, names: &[Name]) -> Result<Vec<Name>, AllocError>
+pub fn sorted(alloc: Global, names: &[Name]) -> Result<Vec<Name>, AllocError>
     ensures { IfOk result (λ v. v.items ≡ in_order names.now) }
 {
     let mut sorted = Vec::with_capacity(alloc, names.len())?;

@@ -77,7 +77,7 @@ fn base_told<'a, D: DocTables>(tables: &'a D, table: &Name, column: &Name, row: 
 /// What is told of a cell.
 ///
 /// Memory: none.
-pub(crate) fn cell_told<'a, D: DocTables>(
+pub fn cell_told<'a, D: DocTables>(
     tables: &'a D,
     kept: &'a [KeptTable],
     table: &Name,

@@ -34,11 +34,7 @@ fn rows_there(alloc: Global, named: &[u32], rows: &[u32]) -> Result<Vec<u32>, Al
 /// The rows of a table that are named, in ascending order.
 ///
 /// Errors: out of memory. Cost: sorting the named rows, and for each the logarithm of the rows.
-pub(crate) fn rows_among(
-    alloc: Global,
-    named: Vec<u32>,
-    rows: &[u32],
-) -> Result<Vec<u32>, AllocError>
+pub fn rows_among(alloc: Global, named: Vec<u32>, rows: &[u32]) -> Result<Vec<u32>, AllocError>
     requires { IsAscending rows.now }
     ensures { IfOk result (λ l. l.items ≡ filter (has named.items) rows.now) }
 {

@@ -1,6 +1,6 @@
 //! One cell evaluated, with a stack in memory.
 
-ghost use Rattle.std.specs.Prelude.{◌≡◌, ◌<◌, ◌++◌, ◌∷◌, [], true, IfOk, OnOk, vec_len};
+ghost use Rattle.std.specs.Prelude.{◌≡◌, ◌<◌, ◌++◌, ◌∷◌, [], true, IfOk, OnErr, OnOk, vec_len};
 ghost use Rattle.std.specs.Option.{is_some, option_copied};
 ghost use Rattle.doc_model.specs.DocumentLaws.{IsWhole};
 ghost use Rattle.recalc.specs.Evaluated.{sheet_of};
@@ -12,7 +12,7 @@ ghost use Rattle.recalc.specs.Kept.{IsFurther, IsKeptOf, IsSettled, held_at};
 ghost use Rattle.recalc.specs.Sheet.{row_of};
 ghost use Rattle.recalc.specs.Cells.{same_cell};
 ghost use Rattle.recalc.specs.Stack.{IsOpen, IsWorking, on};
-ghost use Rattle.recalc.specs.Turn.{Follows, IsFound, IsTurn};
+ghost use Rattle.recalc.specs.Turn.{Follows, IsFound, IsTurn, StaysKnown};
 
 use crate::cells::cell_id;
 use crate::indexes::{ColumnIndex, index_lookups};
@@ -107,7 +107,7 @@ fn attempt_tree<R: CellReader>(
 }
 
 /// The row in which a cell stands.
-pub(crate) fn row_of(cell: &CellId) -> Result<RowRef, AllocError>
+pub fn row_of(cell: &CellId) -> Result<RowRef, AllocError>
     ensures { IfOk result (λ at. at ≡ row_of cell.now) }
 {
     Ok(RowRef {
@@ -166,6 +166,9 @@ fn turn<D: DocTables>(
     ensures of_document { OnOk result (IsKeptOf (D.document tables.now) kept.new.items) }
     ensures indexed { OnOk result
         (AreIndexes (sheet_of (D.document tables.now)) indexes.new.items) }
+    ensures err { OnErr result (kept.new ≡ kept.old) }
+    ensures stays { StaysKnown (held_at (D.document tables.now) kept.old.items)
+        (held_at (D.document tables.now) kept.new.items) }
     ensures turn { OnOk result (IsTurn (sheet_of (D.document tables.now))
         (held_at (D.document tables.now) kept.old.items) stack.old.items
         (held_at (D.document tables.now) kept.new.items) stack.new.items) }
@@ -203,6 +206,8 @@ fn settle_chain<D: DocTables>(
         (held_at (D.document tables.now) kept.old.items) cell }
     ensures further { OnOk result
         (IsFurther (D.document tables.now) kept.old.items kept.new.items) }
+    ensures err { OnErr result
+        (IsFurther (D.document tables.now) kept.old.items kept.new.items) }
     ensures known { OnOk result
         (is_some (held_at (D.document tables.now) kept.new.items cell) ≡ true) }
     ensures indexed { OnOk result
@@ -218,8 +223,9 @@ fn settle_chain<D: DocTables>(
 
 /// Evaluates one cell whose value is not known.
 ///
+/// Errors: out of memory; what was known is then known still, and what is known is right.
 /// Memory: a stack as deep as the chain of cells that it needs; none where it needs no other.
-pub(crate) fn settle<D: DocTables>(
+pub fn settle<D: DocTables>(
     alloc: Global,
     tables: &D,
     kept: &mut Vec<KeptTable>,
@@ -234,6 +240,8 @@ pub(crate) fn settle<D: DocTables>(
     requires opened { IsOpen (sheet_of (D.document tables.now))
         (held_at (D.document tables.now) kept.old.items) cell.now }
     ensures further { OnOk result
+        (IsFurther (D.document tables.now) kept.old.items kept.new.items) }
+    ensures err { OnErr result
         (IsFurther (D.document tables.now) kept.old.items kept.new.items) }
     ensures known { OnOk result
         (is_some (held_at (D.document tables.now) kept.new.items cell.now) ≡ true) }

@@ -220,7 +220,7 @@ fn rows_to_lose<R: DocReader>(
 ///
 /// Cost: sorting the rows that are named, and for each the logarithm of the rows; linear in the
 /// rows where all may be lost.
-pub(crate) fn rows_of_table<R: DocReader>(
+pub fn rows_of_table<R: DocReader>(
     alloc: Global,
     doc: &R,
     action: &DocAction,

@@ -168,7 +168,7 @@ fn push_table<R: DocReader>(
 ///
 /// Cost: a look at each table but there; in each that is named or has formula columns, comparing
 /// its column ids in pairs; sorting the rows that are named; and the cells.
-pub(crate) fn watched_cells<R: DocReader>(
+pub fn watched_cells<R: DocReader>(
     alloc: Global,
     doc: &R,
     action: &DocAction,

@@ -6,7 +6,7 @@ ghost use Rattle.rule_contexts.specs.Context.{context};
 
 use acl_rules::{Ctx, load};
 use doc_model::{DocTables, User};
-use recalc::Doc;
+use evaluated_doc::Doc;
 use std::alloc::{AllocError, Global};
 use user_attrs::{AttributeRule, load_attributes, user_info};
 

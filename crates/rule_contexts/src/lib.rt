@@ -1,9 +1,9 @@
 //! What is in force for a user in a document, and what that lets the user see.
 //!
 //! Stands on `acl_rules` and `user_attrs` (the rules of a document, and what they know of a user),
-//! `recalc` (evaluated documents), `acl_reading` and `censored_view` (what rules let see),
-//! `view_refusals` (refusals by what is seen), `action_censor` and `bundle_traces` (steps of
-//! bundles).
+//! `evaluated_doc` and `recalc` (evaluated documents), `acl_reading` and `censored_view` (what
+//! rules let see), `view_refusals` (refusals by what is seen), `action_censor` and `bundle_traces`
+//! (steps of bundles).
 //!
 //! Promises: `context_of` has the rules of a document, and the attributes of a user by its
 //! evaluated cells. `hidden_schema_law`, `seen_law`: what a context shows of a whole document is a

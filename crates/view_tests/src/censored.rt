@@ -19,9 +19,9 @@ use action_censor::{StepTrace, follow, touched_tables};
 use censored_view::whole_view;
 use doc_model::laws::new_document_law;
 use doc_model::{DocAction, DocActionList, View, ViewActionList};
+use evaluated_doc::{Doc, Trace};
 use plain_view::changes;
 use recalc::laws::laid_out_law;
-use recalc::{Doc, Trace};
 use row_tables::RowTables;
 use std::alloc::{AllocError, Global};
 

@@ -1,6 +1,6 @@
 use Rattle.std.proofs.Common.{◌∷◌, [], ◌≤◌, map, length, sym, ◌∙◌, arith}
 use Rattle.recalc.specs.Evaluated.{filled}
-use Rattle.recalc.specs.WayBack.{IsWayBack}
+use Rattle.evaluated_doc.specs.WayBack.{IsWayBack}
 use Rattle.doc_model.proofs.Choices.{length_map}
 use Rattle.user_actions.specs.StepLaws.{action_of}
 use Rattle.bundle_judge.specs.CarriedContexts.{carried_context, renames}

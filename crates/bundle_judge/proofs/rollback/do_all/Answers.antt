@@ -1,6 +1,6 @@
 use Rattle.std.proofs.Common.{◌∷◌, [], map}
 use Rattle.recalc.specs.Evaluated.{filled}
-use Rattle.recalc.specs.WayBack.{IsWayBack}
+use Rattle.evaluated_doc.specs.WayBack.{IsWayBack}
 use Rattle.user_actions.specs.StepLaws.{action_of}
 use Rattle.bundle_judge.specs.Rollback.{led_back}
 use Rattle.bundle_judge.proofs.ChangedLemmas.{outside_then, within_itself}

@@ -2,7 +2,7 @@ use Rattle.std.proofs.Common.{map}
 use Rattle.doc_model.specs.DocumentLaws.{IsWhole}
 use Rattle.user_actions.specs.StepLaws.{action_of}
 use Rattle.recalc.specs.Evaluated.{filled}
-use Rattle.recalc.specs.WayBack.{IsWayBack}
+use Rattle.evaluated_doc.specs.WayBack.{IsWayBack}
 use Rattle.view_parts.specs.PartLaws.{AreSameOutside}
 use Rattle.bundle_judge.specs.ChangedCells.{StayNoted}
 use Rattle.bundle_judge.specs.Rollback.{led_back}

@@ -3,7 +3,7 @@ use Rattle.doc_model.specs.declared.action.DocAction.{DocAction}
 use Rattle.doc_model.specs.declared.action.Step.{Step}
 use Rattle.doc_model.specs.Inverse.{inverse}
 use Rattle.doc_model.proofs.Choices.{length_map}
-use Rattle.recalc.specs.WayBack.{IsWayBack}
+use Rattle.evaluated_doc.specs.WayBack.{IsWayBack}
 use Rattle.user_actions.specs.StepLaws.{action_of}
 use Rattle.undo_bundles.specs.InverseSteps.{marked}
 use Rattle.bundle_judge.specs.Losses.{cells_told}

@@ -1,6 +1,6 @@
 use Rattle.std.proofs.Common.{◌≡◌, ◌++◌, map, drop}
 use Rattle.doc_model.specs.DocumentLaws.{IsWhole}
-use Rattle.recalc.specs.WayBack.{IsWayBack}
+use Rattle.evaluated_doc.specs.WayBack.{IsWayBack}
 use Rattle.user_actions.specs.StepLaws.{action_of}
 use Rattle.bundle_judge.specs.Losses.{all_lost, cells_told}
 use Rattle.bundle_judge.specs.Rollback.{led_back}

@@ -2,7 +2,7 @@ use Rattle.std.proofs.Common.{List, [], ◌∷◌, ◌++◌, sym, ap, subst, ◌
 use Rattle.std.proofs.lemmas.Result.{on_ok_weaker}
 use Rattle.cell_types.specs.declared.cell.CellOld.{CellOld}
 use Rattle.doc_model.specs.Document.{Document}
-use Rattle.recalc.specs.WayBack.{Changed, IsWayBack}
+use Rattle.evaluated_doc.specs.WayBack.{Changed, IsWayBack}
 use Rattle.bundle_judge.specs.ChangedCells.{AreNoted}
 use Rattle.bundle_judge.specs.Rollback.{AllLeadBack, gone_back, led_back}
 use Rattle.bundle_judge.proofs.ChangedLemmas.{outside_one}

@@ -1,4 +1,4 @@
-use Rattle.recalc.specs.WayBack.{IsWayBack}
+use Rattle.evaluated_doc.specs.WayBack.{IsWayBack}
 use Rattle.bundle_judge.specs.Rollback.{led_back}
 use Rattle.bundle_judge.proofs.RollbackLemmas.{IsUndoing}
 use Rattle.bundle_judge.proofs.rollback.go_back_all.Given as goal

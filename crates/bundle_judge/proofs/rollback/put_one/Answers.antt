@@ -1,7 +1,7 @@
 use Rattle.std.proofs.Common.{List, [], ◌∷◌, ◌++◌, sym, ap, subst, ◌∙◌}
 use Rattle.doc_model.specs.Apply.{apply}
 use Rattle.doc_model.specs.Document.{Document}
-use Rattle.recalc.specs.WayBack.{Changed, IsWayBack}
+use Rattle.evaluated_doc.specs.WayBack.{Changed, IsWayBack}
 use Rattle.bundle_judge.specs.Rollback.{AllLeadBack, gone_back, led_back}
 use Rattle.bundle_judge.proofs.RollbackLemmas.{AllFit-last, rolled_back-last}
 use Rattle.recalc.specs.Lost.{lost}

@@ -9,6 +9,6 @@ returns c = record {
   was = c.requires.0;
   is = c.put_in_column.new.column;
   here = c.requires.1;
-  put = subst (λ x. IsPutInColumn x c.put_in_column.new.column c.args.row c.args.value) (c.index_mut.ensures.value ∙ get_or_from_slice_get c.args.table.now.columns.items c.args.column c.requires.0 _ c.requires.1) c.put_in_column.ensures;
+  put = subst (λ x. IsPutInColumn x c.put_in_column.new.column c.args.row c.args.value c.put_in_column.result) (c.index_mut.ensures.value ∙ get_or_from_slice_get c.args.table.now.columns.items c.args.column c.requires.0 _ c.requires.1) c.put_in_column.ensures;
   columns = search rules;
 }

@@ -12,6 +12,6 @@ returns c = record {
   was = c.requires.0;
   is = c.put_in_table.new.table;
   here = c.requires.1;
-  put = subst (λ x. IsPutInTable x c.put_in_table.new.table c.args.column c.args.row c.args.value) (c.index_mut.ensures.value ∙ get_or_from_slice_get c.args.tables.now.items c.args.table c.requires.0 _ c.requires.1) c.put_in_table.ensures;
+  put = subst (λ x. IsPutInTable x c.put_in_table.new.table c.args.column c.args.row c.args.value c.put_in_table.result) (c.index_mut.ensures.value ∙ get_or_from_slice_get c.args.tables.now.items c.args.table c.requires.0 _ c.requires.1) c.put_in_table.ensures;
   tables = search rules;
 }

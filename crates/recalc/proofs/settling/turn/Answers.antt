@@ -1,9 +1,11 @@
 use Rattle.std.proofs.Common.{sym, ◌∙◌, subst}
+use Rattle.cell_types.specs.declared.value.CellValue.TheVariants.{Err}
+use Rattle.cell_types.specs.declared.value.ErrKind.TheVariants.{Circular}
 use Rattle.recalc.specs.Evaluated.{sheet_of}
 use Rattle.recalc.specs.Kept.{held_at}
 use Rattle.recalc.specs.Stack.{IsOpen}
 use Rattle.recalc.specs.Turn.{IsFound}
-use Rattle.recalc.proofs.Turns.{turn_open, turn_value, turn_circular, turn_push}
+use Rattle.recalc.proofs.Turns.{put_stays, turn_open, turn_value, turn_circular, turn_push}
 use Rattle.recalc.proofs.SheetLemmas.{is_sheet}
 use Rattle.recalc.proofs.settling.turn.Goals as goal
 
@@ -45,3 +47,13 @@ returns-in_ok-push-in-Need-2-clause-turn g c =
     turn_push (sheet_of s) (is_sheet s) (held_at s c.args.kept.now.items) c.args.stack.now.items c.pop.new.self.items c.in-Some.top c.in-Some.ensures.items c.requires.working
     c.in-Need.cell c.push.new.self.items c.push-in-Need.new.self.items (rw c.in-Need.is at found).0 (rw c.in-Need.is at found).1
     (sym (rw c.deref-in-Need.ensures.value at c.is_on.ensures) ∙ c.if-is_on.false) c.in_ok-push-in-Need.ensures.items c.in_ok-push-in-Need-2.ensures.items
+
+pub returns-then-is_on-clause-stays : goal.returns-then-is_on-clause-stays
+returns-then-is_on-clause-stays g c =
+    let s = g.D.DocReader.document c.args.tables.now in
+    put_stays (held_at s c.args.kept.now.items) (held_at s c.put_value-then-is_on.new.kept.items) c.in-Some.top (Err Circular) c.put_value-then-is_on.ensures.put
+
+pub returns-in-Value-clause-stays : goal.returns-in-Value-clause-stays
+returns-in-Value-clause-stays g c =
+    let s = g.D.DocReader.document c.args.tables.now in
+    put_stays (held_at s c.args.kept.now.items) (held_at s c.put_value.new.kept.items) c.in-Some.top c.in-Value.value c.put_value.ensures.put

@@ -4,7 +4,7 @@ use Rattle.recalc.specs.Evaluated.{value_of}
 use Rattle.recalc.specs.Kept.{held_at}
 use Rattle.recalc.specs.Seen.{value_told}
 use Rattle.recalc.proofs.FilledCells.{copied_match, filled_told}
-use Rattle.recalc.proofs.doc.value_in.Goals as goal
+use Rattle.evaluated_doc.proofs.doc.value_in.Goals as goal
 
 pub returns : goal.returns
 returns g c =

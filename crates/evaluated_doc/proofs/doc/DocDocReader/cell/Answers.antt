@@ -4,7 +4,7 @@ use Rattle.doc_model.specs.Readers.{cell_at}
 use Rattle.recalc.specs.Current.{has_formulas}
 use Rattle.recalc.specs.Evaluated.{filled, value_of}
 use Rattle.recalc.proofs.PlainLemmas.{cell_plain}
-use Rattle.recalc.proofs.doc.DocDocReader.cell.Goals as goal
+use Rattle.evaluated_doc.proofs.doc.DocDocReader.cell.Goals as goal
 
 pub returns-in-None : goal.returns-in-None
 returns-in-None g c =

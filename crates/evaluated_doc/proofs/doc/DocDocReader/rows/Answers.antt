@@ -3,7 +3,7 @@ use Rattle.std.specs.Option.{MatchOption}
 use Rattle.doc_model.specs.Readers.{rows_at}
 use Rattle.recalc.specs.Evaluated.{value_of}
 use Rattle.recalc.proofs.FilledLemmas.{rows_filled}
-use Rattle.recalc.proofs.doc.DocDocReader.rows.Goals as goal
+use Rattle.evaluated_doc.proofs.doc.DocDocReader.rows.Goals as goal
 
 pub returns-clause-told : goal.returns-clause-told
 returns-clause-told g c =

@@ -2,9 +2,9 @@
 
 ghost use Rattle.std.specs.Prelude.{◌≡◌};
 
-use crate::kept::KeptTable;
 use cell_types::CellOld;
 use doc_model::DocTables;
+use recalc::KeptTable;
 use std::marker::Model;
 
 /// The cells that a change lost, and the way back.
@@ -17,7 +17,7 @@ pub struct Trace<D: DocTables> {
 
 impl<D: DocTables> Model for Trace<D> {
     ghost use Rattle.formula_parse.specs.contracts.tree.Formula as formula;
-    ghost use Rattle.recalc.specs.WayBack.{Changed};
+    ghost use Rattle.evaluated_doc.specs.WayBack.{Changed};
     ghost use Rattle.std.specs.Coded.{codes};
     ghost use Rattle.std.specs.Option.{option_map};
 

@@ -12,21 +12,19 @@ ghost use Rattle.recalc.specs.Evaluated.{filled};
 ghost use Rattle.recalc.specs.Kept.{IsEvaluated};
 ghost use Rattle.recalc.specs.Lost.{lost};
 ghost use Rattle.recalc.specs.Seen.{value_told};
-ghost use Rattle.recalc.specs.WayBack.{IsWayBack};
-ghost use Rattle.recalc.specs.declared.doc.ChangeFault.TheVariants.{Invalid};
+ghost use Rattle.evaluated_doc.specs.WayBack.{IsWayBack};
+ghost use Rattle.evaluated_doc.specs.declared.doc.ChangeFault.TheVariants.{Invalid};
 
-use crate::cells::keep_lost;
-use crate::current::{brings_formula, keep_values, keep_values_after};
-use crate::kept::KeptTable;
-use crate::laws::{may_lose_law, stays_plain_law};
-use crate::reading::cell_told;
 use crate::trace::Trace;
-use crate::watched::watched_cells;
 use cell_types::{CellValue, Name};
 use doc_actions::is_valid;
 use doc_model::laws::kept_law;
 use doc_model::{ColDef, DocAction, DocReader, DocTables};
 use formula_eval::Reading;
+use recalc::laws::{may_lose_law, stays_plain_law};
+use recalc::{
+    KeptTable, brings_formula, cell_told, keep_lost, keep_values, keep_values_after, watched_cells,
+};
 use std::alloc::{AllocError, Global};
 use std::marker::Model;
 use std::mem;

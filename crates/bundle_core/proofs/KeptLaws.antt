@@ -18,7 +18,7 @@ use Rattle.bundle_core.specs.Core.{IsCore, IsStep, entry_of, state_after}
 use Rattle.bundle_core.specs.KeptBundles.{bundle_actions, not_kept, record_at, records_of, with_record}
 use Rattle.bundle_core.specs.KeptCore.{HasRecords, IsKeeping, IsKeptFrom, IsTaken, Keeps, KeepsOn, KeptCore}
 use Rattle.bundle_core.specs.SessionState.{SessionState}
-use Rattle.bundle_core.specs.State.{State, opening, run, step, verdicts}
+use Rattle.bundle_core.specs.State.{State, Verdicts, one_if_bundle, opening, records_kept, run, step, verdicts}
 use Rattle.bundle_core.proofs.CoreLaws.{gone_none}
 
 -- ---- histories with one entry more
@@ -55,6 +55,30 @@ not_kept-append (x ∷ es) e =
       | true ↦ h
       | false ↦ one_more (not_kept (es ++ e ∷ [])) (not_kept es) (missed e.kept) h
     ]
+
+pub records_kept-append : (users : List User) (st : State) (es : List Entry) (e : Entry)
+    → records_kept users st (es ++ e ∷ []) ≡ records_kept users st es + one_if_bundle (verdicts users (run users st es) e)
+records_kept-append users st [] e = elim (verdicts users st e).is_bundle as (λ b. (if b then 0 + 1 else 0) ≡ 0 + (if b then 1 else 0)) [
+  | true ↦ refl
+  | false ↦ refl
+]
+records_kept-append users st (x ∷ es) e =
+    let next = step users st x in
+    let h = records_kept-append users next es e in
+    let a = records_kept users next (es ++ e ∷ []) in
+    let b = records_kept users next es in
+    let m = one_if_bundle (verdicts users (run users next es) e) in
+    elim (verdicts users st x).is_bundle as (λ is. (if is then a + 1 else a) ≡ (if is then b + 1 else b) + m) [
+      | true ↦ one_more a b m h
+      | false ↦ h
+    ]
+
+-- what an entry adds to the number of records
+pub no_count : (n : ℕ) (v : Verdicts) → v.is_bundle ≡ false → n ≡ n + one_if_bundle v
+no_count n v none = let z : n ≡ n + 0 = omega arith in z ∙ ap (λ b. n + (if b then 1 else 0)) (sym none)
+
+pub one_count : (n : ℕ) (v : Verdicts) → v.is_bundle ≡ true → n + 1 ≡ n + one_if_bundle v
+one_count n v is = ap (λ b. n + (if b then 1 else 0)) (sym is)
 
 counted_same : (b n m f g : ℕ) → m ≡ n + 0 → min (b + n) (2 ^ 64 - 1) ≤ f → f ≤ g → min (b + m) (2 ^ 64 - 1) ≤ g
 counted_same b n m f g e h le = omega (arith, e, h, le)
@@ -108,6 +132,7 @@ module _ (users : List User) (start : Document) (es : List Entry) (number before
           | true ↦ λ is. counted_same before (not_kept es) (not_kept (es ++ e ∷ [])) old.faults new.faults (count ∙ ap (λ b. not_kept es + missed b) is) k.counted growing
           | false ↦ λ is. counted_more before (not_kept es) (not_kept (es ++ e ∷ [])) old.faults new.faults (count ∙ ap (λ b. not_kept es + missed b) is) k.counted (keeps.failed is)
         ] refl;
+        count = omega (arith, keeps.count, k.count, records_kept-append users (opening start) es e);
       }
 
   same_told : (told : Option (List (List ℕ))) → IfSome told (HasRecords users start es number) → option_map (take number) (with_record users st e told) ≡ option_map (take number) told
@@ -128,9 +153,9 @@ module _ (users : List User) (start : Document) (es : List Entry) (number before
     would = keeps.would;
   }
 
-pub kept_same : (users : List User) (start : Document) (es : List Entry) (number before : ℕ) (old new : Ledger) (s s' : Document) → new.told ≡ old.told → s' ≡ s → old.faults ≤ new.faults → IsKeptFrom users start es number before old s
+pub kept_same : (users : List User) (start : Document) (es : List Entry) (number before : ℕ) (old new : Ledger) (s s' : Document) → new.told ≡ old.told → new.count ≡ old.count → s' ≡ s → old.faults ≤ new.faults → IsKeptFrom users start es number before old s
     → IsKeptFrom users start es number before new s'
-kept_same users start es number before old new s s' told same growing k =
+kept_same users start es number before old new s s' told count same growing k =
     let P : Option (List (List ℕ)) → Type 0 = λ t. IfSome t (HasRecords users start es number) in
     let Q : Option (List (List ℕ)) → Type 0 = λ t. OpensTo t s' in
     let R : Document → Type 0 = λ d. OpensTo old.told d in
@@ -138,6 +163,7 @@ kept_same users start es number before old new s s' told same growing k =
       told = subst P (sym told) k.told;
       reopens = subst Q (sym told) (subst R (sym same) k.reopens);
       counted = omega (arith, k.counted, growing);
+      count = count ∙ k.count;
     }
 
 -- ---- the end of a connection
@@ -146,6 +172,7 @@ kept_same users start es number before old new s s' told same growing k =
 pub gone_keeps : (users : List User) (st : State) (name : List ℕ) (size : ℕ) (l : Ledger) → Keeps users st (entry_of name request.Gone size true) l l
 gone_keeps users st name size l = record {
   told = no_more users st (entry_of name request.Gone size true) l.told (gone_none users st (entry_of name request.Gone size true) refl);
+  count = no_count l.count (verdicts users st (entry_of name request.Gone size true)) (gone_none users st (entry_of name request.Gone size true) refl);
   failed = λ f. absurd (false≢true (sym f));
   would = λ f. absurd (false≢true (sym f));
 }
@@ -192,11 +219,12 @@ least : (b : ℕ) → min (b + 0) (2 ^ 64 - 1) ≤ b
 least b = omega arith
 
 pub first_kept : (users : List User) (told : Option (List (List ℕ))) (faults : ℕ) (start : Document) (number : ℕ) → Opens told new_document start number
-    → IsKeptFrom users start [] number faults (record { told = told; faults = faults }) start
+    → IsKeptFrom users start [] number faults (record { told = told; faults = faults; count = number }) start
 first_kept users told faults start number o = record {
   told = first_told users told start number o;
   reopens = first_opens told start number o;
   counted = least faults;
+  count = omega arith;
 }
 
 pub next_number : (told : Option (List (List ℕ))) (start : Document) (number : ℕ) → Opens told new_document start number → IsNext told number

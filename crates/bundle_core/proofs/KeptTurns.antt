@@ -34,7 +34,7 @@ use Rattle.bundle_core.specs.SessionState.{SessionState, open_of}
 use Rattle.bundle_core.specs.State.{Open, State, Verdicts, answered, bundle_of, from_closed, from_lagging, from_open, refusal, session_bound, session_name, session_of, user_of, verdicts}
 use Rattle.bundle_core.specs.Turns.{IsDone, IsTurn, IsUnkept}
 use Rattle.bundle_core.proofs.Answering.{opens, opens-append, opens_above, opens_below}
-use Rattle.bundle_core.proofs.KeptLaws.{no_more}
+use Rattle.bundle_core.proofs.KeptLaws.{no_count, no_more, one_count}
 use Rattle.bundle_core.proofs.OpenLemmas.{around, comes_open, find_bundle, find_refused, find_unkept}
 use Rattle.bundle_core.proofs.Spots.{find_absent_at, find_at}
 
@@ -68,6 +68,7 @@ quiet_kept users s xs ys l e lines kept none a = record {
   answers = a;
   keeps = record {
     told = no_more users (state_of s xs) e l.told none;
+    count = no_count l.count (verdicts users (state_of s xs) e) none;
     failed = λ f. absurd (false≢true (sym f ∙ kept));
     would = λ f. absurd (false≢true (sym f ∙ kept));
   };
@@ -192,6 +193,7 @@ module _ (users : List User) (s : Document) (xs : List SessionState) (p : ℕ) (
           answers = find_bundle users s after xs p e f d w whole undone j q.steps q.created.items told ys lines asks kept quick plan.judged (λ user. refl) (subst B plan.undoes done.sessions);
           keeps = record {
             told = one_more users (state_of s xs) e was.told now.told actions done.line done.next done.adds (is_bundle kept) same;
+            count = done.count ∙ one_count was.count (verdicts users (state_of s xs) e) (is_bundle kept);
             failed = λ h. absurd (false≢true (sym h ∙ kept));
             would = λ h. absurd (false≢true (sym h ∙ kept));
           };
@@ -208,6 +210,7 @@ module _ (users : List User) (s : Document) (xs : List SessionState) (p : ℕ) (
           answers = find_unkept users s after xs p e f d undone j q.steps q.created.items ys lines w asks kept quick plan.judged u.sessions;
           keeps = record {
             told = u.told ∙ no_more users (state_of s xs) e was.told none;
+            count = u.count ∙ no_count was.count (verdicts users (state_of s xs) e) none;
             failed = λ _. u.failed;
             would = λ _. would;
           };

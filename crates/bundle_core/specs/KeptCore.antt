@@ -10,7 +10,7 @@ use Rattle.doc_opening.specs.Opening.{Opens, opened, opens}
 use Rattle.bundle_records.specs.Ledger.{Ledger, OpensTo}
 use Rattle.bundle_core.specs.Core.{CoreState, IsStep, entry_of, marked, state_after}
 use Rattle.bundle_core.specs.KeptBundles.{not_kept, records_of, with_record}
-use Rattle.bundle_core.specs.State.{State, opening, verdicts}
+use Rattle.bundle_core.specs.State.{State, one_if_bundle, opening, records_kept, verdicts}
 
 -- the records of a keeper as its core was started, and how often it had failed then; those now, and
 -- how often it has failed now
@@ -48,6 +48,7 @@ would_be_kept users st e = (verdicts users st (marked e true)).is_bundle ≡ tru
 -- kept; it is not kept only where the keeper failed
 pub record Keeps (users : List User) (st : State) (e : Entry) (old new : Ledger) : Type 0 where
   pub told : new.told ≡ with_record users st e old.told
+  pub count : new.count ≡ old.count + one_if_bundle (verdicts users st e)
   pub failed : e.kept ≡ false → Rose old.faults new.faults
   pub would : e.kept ≡ false → would_be_kept users st e
 
@@ -103,3 +104,4 @@ pub record IsKeptFrom (users : List User) (start : Document) (es : List Entry) (
   pub told : IfSome l.told (HasRecords users start es number)
   pub reopens : OpensTo l.told s
   pub counted : min (before + not_kept es) (2 ^ 64 - 1) ≤ l.faults
+  pub count : l.count ≡ number + records_kept users (opening start) es

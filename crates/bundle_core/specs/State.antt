@@ -222,6 +222,10 @@ abbrev pub run : List User → State → List Entry → State
 run users st [] = st
 run users st (e ∷ es) = run users (step users st e) es
 
+-- a bundle counts where it was accepted
+abbrev pub one_if_bundle : Verdicts → ℕ
+one_if_bundle v = if v.is_bundle then 1 else 0
+
 -- how many bundles of a history were accepted, each of which is kept as a record
 abbrev pub records_kept : List User → State → List Entry → ℕ
 records_kept users st [] = 0

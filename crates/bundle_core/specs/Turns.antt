@@ -1,5 +1,5 @@
 -- How an entry is answered, with what is told of the keeper.
-use Rattle.std.specs.Prelude.{ℕ, ◌≡◌, List, map}
+use Rattle.std.specs.Prelude.{ℕ, ◌+◌, ◌≡◌, List, map}
 use Rattle.io_edges.specs.Causes.{Rose}
 use Rattle.doc_model.specs.declared.entry.Entry.{Entry}
 use Rattle.doc_model.specs.declared.refusal.Refusal.TheVariants.{StoreFault}
@@ -42,6 +42,7 @@ pub record IsDone (s s' : Document) (old new : List SessionState) (was now : Led
   pub line : List ℕ
   pub next : IsNextRecord was.told (map action_of p.steps) line
   pub adds : AddsNext was.told now.told line
+  pub count : now.count ≡ was.count + 1
 
 -- an accepted bundle is not done, since the keeper failed
 pub record IsUnkept (s s' : Document) (old new : List SessionState) (was now : Ledger) (index : ℕ)
@@ -49,6 +50,7 @@ pub record IsUnkept (s s' : Document) (old new : List SessionState) (was now : L
   pub document : s' ≡ s
   pub sessions : Refuses old new index (reply_of (refusal StoreFault)) lines
   pub told : now.told ≡ was.told
+  pub count : now.count ≡ was.count
   pub failed : Rose was.faults now.faults
 
 -- what becomes of an accepted bundle

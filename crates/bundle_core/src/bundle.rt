@@ -106,6 +106,7 @@ pub(crate) fn accept<D: DocTables, K: Keeper>(
     ensures err_document { OnErr result (D.document doc.new ≡ D.document doc.old) }
     ensures err { OnErr result (AreSame sessions.old.items sessions.new.items) }
     ensures err_told { OnErr result (records.new.told ≡ records.old.told) }
+    ensures err_count { OnErr result (records.new.count ≡ records.old.count) }
 {
     let known = &mut doc.known;
     known.keep_at_most(sessions.len());
@@ -156,6 +157,7 @@ fn accept_known<D: DocTables, K: Keeper>(
     ensures err_document { OnErr result (D.document doc.new ≡ D.document doc.old) }
     ensures err { OnErr result (AreSame sessions.old.items sessions.new.items) }
     ensures err_told { OnErr result (records.new.told ≡ records.old.told) }
+    ensures err_count { OnErr result (records.new.count ≡ records.old.count) }
     ensures known { AreKnown (D.document doc.new) known.new }
 {
     let mut traces = Vec::new(alloc);

@@ -133,6 +133,7 @@ pub(crate) fn answer<D: DocTables, K: Keeper>(
     ensures err_document { OnErr result (D.document doc.new ≡ D.document doc.old) }
     ensures err { OnErr result (AreSame sessions.old.items sessions.new.items) }
     ensures err_told { OnErr result (records.new.told ≡ records.old.told) }
+    ensures err_count { OnErr result (records.new.count ≡ records.old.count) }
     ensures later { records.old.faults ≤ records.new.faults }
 {
     match index_of(sessions, &entry.session) {
@@ -281,6 +282,7 @@ fn answer_open<D: DocTables, K: Keeper>(
     ensures err_document { OnErr result (D.document doc.new ≡ D.document doc.old) }
     ensures err { OnErr result (AreSame sessions.old.items sessions.new.items) }
     ensures err_told { OnErr result (records.new.told ≡ records.old.told) }
+    ensures err_count { OnErr result (records.new.count ≡ records.old.count) }
     ensures later { records.old.faults ≤ records.new.faults }
 {
     if sessions[index].is_lagging() {
@@ -380,6 +382,7 @@ fn answer_bundle<D: DocTables, K: Keeper>(
     ensures err_document { OnErr result (D.document doc.new ≡ D.document doc.old) }
     ensures err { OnErr result (AreSame sessions.old.items sessions.new.items) }
     ensures err_told { OnErr result (records.new.told ≡ records.old.told) }
+    ensures err_count { OnErr result (records.new.count ≡ records.old.count) }
     ensures later { records.old.faults ≤ records.new.faults }
 {
     let judged = doc.judge(alloc, *tally, sessions[index].user(), actions.as_slice())?;
@@ -417,6 +420,7 @@ fn answer_undo<D: DocTables, K: Keeper>(
     ensures err_document { OnErr result (D.document doc.new ≡ D.document doc.old) }
     ensures err { OnErr result (AreSame sessions.old.items sessions.new.items) }
     ensures err_told { OnErr result (records.new.told ≡ records.old.told) }
+    ensures err_count { OnErr result (records.new.count ≡ records.old.count) }
     ensures later { records.old.faults ≤ records.new.faults }
 {
     let session = &sessions[index];
@@ -455,6 +459,7 @@ fn answer_judged<D: DocTables, K: Keeper>(
     ensures err_document { OnErr result (D.document doc.new ≡ D.document doc.old) }
     ensures err { OnErr result (AreSame sessions.old.items sessions.new.items) }
     ensures err_told { OnErr result (records.new.told ≡ records.old.told) }
+    ensures err_count { OnErr result (records.new.count ≡ records.old.count) }
     ensures later { records.old.faults ≤ records.new.faults }
 {
     match judged {

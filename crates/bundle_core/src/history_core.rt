@@ -10,6 +10,7 @@ ghost use Rattle.doc_opening.specs.declared.opening.StartCause.TheVariants.{BadS
 ghost use Rattle.bundle_core.specs.Core.{bytes_left, entry_of, history_bound, is_full, is_gone, is_open_in, marked, size_bound};
 ghost use Rattle.bundle_core.specs.KeptCore.{IsKeeping, IsStarted, IsTaken, IsUnchanged};
 ghost use Rattle.bundle_core.specs.Loading.{IsLoaded};
+ghost use Rattle.bundle_core.specs.State.{opening, records_kept};
 ghost use Rattle.bundle_core.specs.Steps.{IsAnswer};
 
 use crate::dispatch::{Turn, answer};
@@ -237,6 +238,16 @@ impl<K: Keeper> Core<K> {
         ensures keeping { IsKeeping self.now }
     {
         self.entries.as_slice()
+    }
+
+    /// How many bundles of the history were accepted.
+    ///
+    /// Memory: none.
+    pub fn bundles(&self) -> u64
+        ensures { result ≡ records_kept self.now.state.users (opening self.now.state.start)
+            self.now.state.history }
+    {
+        self.records.count() - self.opened as u64
     }
 
     /// Ends the core, and gives its history, and its keeper as it is.

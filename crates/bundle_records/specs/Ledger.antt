@@ -8,10 +8,12 @@ use Rattle.doc_opening.specs.Opening.{opened, opens}
 use Rattle.record_lines.specs.Printed.{kept, record_text}
 use Rattle.record_lines.specs.Records.{SpellsRecord}
 
--- the records of a keeper, where it tells them, and how often it has failed
+-- the records of a keeper, where it tells them, how often it has failed, and how many records it
+-- has
 pub record Ledger : Type 0 where
   pub told : Option (List (List ℕ))
   pub faults : ℕ
+  pub count : ℕ
 
 -- the line is the record of these actions behind the told ones, and spells it
 pub record IsNextRecord (told : Option (List (List ℕ))) (actions : List DocAction)

@@ -1,5 +1,5 @@
 //! A keeper, with the count of its records.
-ghost use Rattle.std.specs.Prelude.{◌≡◌, IfOk, OnOk, OnErr};
+ghost use Rattle.std.specs.Prelude.{◌≡◌, ◌+◌, IfOk, OnOk, OnErr};
 ghost use Rattle.doc_keeper.specs.Keeping.{HasCause, IsNext};
 ghost use Rattle.doc_model.specs.declared.action.DocAction.{DocAction};
 ghost use Rattle.bundle_records.specs.Ledger.{Ledger, AddsNext, IsNextRecord};
@@ -15,8 +15,8 @@ use std::marker::Model;
 /// How many records are kept at most: a record with this number is never read.
 const MAX_RECORDS: u64 = 4_294_967_295;
 
-/// A keeper, and how many records it has. It is seen as the records that it tells and the count of
-/// its faults.
+/// A keeper, and how many records it has. It is seen as the records that it tells, the count of its
+/// faults and that number.
 #[derive(Drop)]
 pub struct RecordLedger<K: Keeper> {
     keeper: K,
@@ -29,7 +29,11 @@ impl<K: Keeper> Model for RecordLedger<K> {
 
     ghost Value = { Ledger };
 
-    ghost view = { λ l. record { told = K.records l.keeper; faults = K.failures l.keeper } };
+    ghost view = { λ l. record {
+      told = K.records l.keeper;
+      faults = K.failures l.keeper;
+      count = l.count;
+    } };
 
     ghost invariant = { λ l. IsNext (K.records l.keeper) l.count };
 }
@@ -40,7 +44,11 @@ impl<K: Keeper> RecordLedger<K> {
     /// Memory: none.
     pub fn new(keeper: K, count: u64) -> Self
         requires { IsNext (K.records keeper) count }
-        ensures { result ≡ record { told = K.records keeper; faults = K.failures keeper } }
+        ensures { result ≡ record {
+          told = K.records keeper;
+          faults = K.failures keeper;
+          count = count;
+        } }
     {
         RecordLedger { keeper, count }
     }
@@ -64,6 +72,8 @@ impl<K: Keeper> RecordLedger<K> {
     pub fn keep(&mut self, record: &Line) -> Result<(), KeepFault>
         ensures ok { OnOk result (AddsNext self.old.told self.new.told record.now) }
         ensures err { OnErr result (self.new.told ≡ self.old.told) }
+        ensures counted { OnOk result (self.new.count ≡ self.old.count + 1) }
+        ensures uncounted { OnErr result (self.new.count ≡ self.old.count) }
         ensures cause { HasCause self.old.faults self.new.faults result }
     {
         if self.count >= MAX_RECORDS {
@@ -72,6 +82,15 @@ impl<K: Keeper> RecordLedger<K> {
         self.keeper.keep(self.count, record.as_str().as_bytes())?;
         self.count += 1;
         Ok(())
+    }
+
+    /// How many records the keeper has.
+    ///
+    /// Memory: none.
+    pub fn count(&self) -> u64
+        ensures { result ≡ self.now.count }
+    {
+        self.count
     }
 
     /// How often the keeper has failed.

@@ -8,4 +8,5 @@ mod ReversedLemmas
 mod WholeLemmas
 mod ServedLemmas
 mod GateLemmas
+mod EndLemmas
 mod CoreCrossing

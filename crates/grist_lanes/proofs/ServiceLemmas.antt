@@ -1,11 +1,13 @@
 -- Connections that a lane serves, one more at a time.
-use Rattle.std.proofs.Common.{◌≡◌, ℕ, suc, ◌+◌, ◌≤◌, false, List, [], ◌∷◌, ◌++◌, length, map, Option, Some, None, option_map, refl, sym, ap, ◌∙◌, inl, inr, subst, arith, append_assoc, append-nil, length-append}
+use Rattle.std.proofs.Common.{◌≡◌, ℕ, suc, ◌+◌, ◌≤◌, Bool, true, false, List, [], ◌∷◌, ◌++◌, length, map, Option, Some, None, option_map, refl, sym, ap, ◌∙◌, inl, inr, subst, arith, append_assoc, append-nil, length-append}
 use Rattle.std.proofs.lemmas.List.{map-append}
 use Rattle.io_edges.specs.Ports.{HandsOut, PortState, TakesBack, handed_bound}
 use Rattle.io_edges.specs.declared.port.Returned.{Returned}
 use Rattle.grist_serve.specs.Turns.{CorePass}
 use Rattle.grist_lanes.specs.SessionNames.{session_name}
-use Rattle.grist_lanes.specs.Services.{AreServed, HasServed, HasStopped, IsServed, Service, ServesLane, ServesNone, ServesOne, ServesSome, Telling, before_of, returned_of}
+use Rattle.grist_lanes.specs.Services.{AreServed, HasServed, HasStopped, IsServed, Service, ServesLane, ServesNone, ServesOne, ServesSome, StopsBy, Telling, before_of, returned_of}
+use Rattle.grist_lanes.specs.LaneEnds.{EndsLane}
+use Rattle.grist_lanes.specs.declared.lanes.LaneEnd.{LaneEnd}
 
 module _ {Conn : Type 0} where
   -- a connection that was handed out and came back
@@ -98,13 +100,26 @@ module _ {Conn : Type 0} where
     serves_none p pass home = record { served = []; passes = refl; port = served_none p home; next = refl }
 
     -- the port stopped behind these connections
-    pub serves_all : (p q r : PortState Conn) (old mid new : CorePass) (number : ℕ) → ServesSome t lane p q old mid number → ServesNone t lane q r mid new → ServesLane t lane p r old new
-    serves_all p q r old mid new number some none = record {
+    pub serves_all : (p q r : PortState Conn) (old mid new : CorePass) (number : ℕ) (said : Bool) → ServesSome t lane p q old mid number → ServesNone t lane q r mid new said → ServesLane t lane p r old new
+    serves_all p q r old mid new number said some none = record {
       served = some.served;
       passes = subst (AreServed t lane 1 old some.served) (sym none.same) some.passes;
       port = stopped_behind p q r some.served some.port none.none;
-      stopped = stops none.stopped;
+      stopped = stops said none.stopped;
     } where
-      stops : HasStopped q r → HasStopped p r
-      stops (inl ended) = inl ended
-      stops (inr rose) = inr (omega (arith, rose, some.port.later))
+      stops : (b : Bool) → StopsBy b q r → HasStopped p r
+      stops true ended = inl ended
+      stops false rose = inr (omega (arith, rose, some.port.later))
+
+    -- and what the lane tells of it
+    pub ends_all : (p q r : PortState Conn) (old mid new : CorePass) (end : LaneEnd) → ServesSome t lane p q old mid (suc end.connections) → ServesNone t lane q r mid new end.has_ended → EndsLane end p r
+    ends_all p q r old mid new end some none =
+        let count : end.connections ≡ length some.served = omega (arith, some.next) in
+        record {
+          handed = omega (arith, none.none.handed, some.port.handed, count);
+          few = omega (arith, some.port.few, count);
+          stops = stops end.has_ended none.stopped;
+        } where
+          stops : (b : Bool) → StopsBy b q r → StopsBy b p r
+          stops true ended = ended
+          stops false rose = omega (arith, rose, some.port.later)

@@ -1,5 +1,7 @@
 pub mod SessionNames
 pub mod Sessions
 pub mod Services
+pub mod LaneEnds
+pub mod Handed
 pub mod InHistory
 pub mod Places

@@ -1,7 +1,8 @@
 -- The connections that a lane serves, one after the other.
-use Rattle.std.specs.Prelude.{ℕ, suc, ◌+◌, ◌≡◌, ◌≤◌, ◌⊎◌, Bool, true, false, List, [], ◌∷◌, ◌++◌, length, map, Option, IfSome, option_map}
+use Rattle.std.specs.Prelude.{ℕ, suc, ◌+◌, ◌≡◌, ◌≤◌, ◌⊎◌, Bool, true, false, List, [], ◌∷◌, ◌++◌, length, map, Option, IfSome, option_map, Result, Ok, Err}
 use Rattle.io_edges.specs.Causes.{Rose}
 use Rattle.io_edges.specs.Ports.{PortState, handed_bound}
+use Rattle.io_edges.specs.declared.Failed.{Failed}
 use Rattle.io_edges.specs.declared.port.Returned.{Returned}
 use Rattle.io_edges.specs.declared.session_end.SessionEnd.{SessionEnd}
 use Rattle.io_edges.specs.declared.session_end.SessionEnd.TheVariants.{ReadFault, WriteFault}
@@ -73,10 +74,14 @@ module _ {Conn : Type 0} where
     pub home : new.lent ≡ false
     pub later : old.faults ≤ new.faults
 
+  -- no connection will come, where the port said so, and else the port failed
+  abbrev pub StopsBy : Bool → PortState Conn → PortState Conn → Type 0
+  StopsBy true old new = (new.ended ≡ true) × IfSome new.left (λ conns. conns ≡ [])
+  StopsBy false old new = Rose old.faults new.faults
+
   -- no connection will come, or the port failed
   abbrev pub HasStopped : PortState Conn → PortState Conn → Type 0
-  HasStopped old new = ((new.ended ≡ true) × IfSome new.left (λ conns. conns ≡ []))
-      ⊎ Rose old.faults new.faults
+  HasStopped old new = StopsBy true old new ⊎ StopsBy false old new
 
 module _ {Conn : Type 0} (t : Telling Conn) (lane : ℕ) (port_old port_new : PortState Conn)
     (old new : CorePass) where
@@ -103,13 +108,14 @@ module _ {Conn : Type 0} (t : Telling Conn) (lane : ℕ) (port_old port_new : Po
     pub port : HasServed port_old port_new (service ∷ [])
     pub few : port_new.handed ≤ handed_bound
 
-  -- none came
-  pub record ServesNone : Type 0 where
+  -- none came, since none will or since the port failed
+  pub record ServesNone (said : Bool) : Type 0 where
     pub none : HasServed port_old port_new []
-    pub stopped : HasStopped port_old port_new
+    pub stopped : StopsBy said port_old port_new
     pub same : new ≡ old
 
   -- whether the next connection was served
-  abbrev pub ServesNext : Bool → ℕ → Type 0
-  ServesNext true number = ServesOne number
-  ServesNext false number = ServesNone
+  abbrev pub ServesNext : Result Bool Failed → ℕ → Type 0
+  ServesNext (Ok true) number = ServesOne number
+  ServesNext (Ok false) number = ServesNone true
+  ServesNext (Err failed) number = ServesNone false

@@ -4,12 +4,14 @@ ghost use Rattle.io_edges.specs.Ports.{PortState};
 ghost use Rattle.session_gate.specs.Gate.{IsPassOf};
 ghost use Rattle.grist_lanes.specs.SessionNames.{session_name};
 ghost use Rattle.grist_lanes.specs.Services.{IsServed, ServesLane, ServesNext, telling};
+ghost use Rattle.grist_lanes.specs.LaneEnds.{EndsLane};
 
+use crate::lanes::LaneEnd;
 use crate::session_names::session_name;
 use bundle_core::Core;
 use doc_keeper::Keeper;
 use grist_serve::serve_link;
-use io_edges::{Link, Port, SessionEnd, Sink, Source};
+use io_edges::{Failed, Link, Port, SessionEnd, Sink, Source};
 use session_gate::{Gate, Pass};
 use std::alloc::Global;
 use std::sync::Wait;
@@ -53,7 +55,7 @@ fn serve_next<R: Threads + Wait + Sync, K: Keeper, P: Port>(
     pass: &mut Pass<Core<K>>,
     lane: u32,
     number: u64,
-) -> bool
+) -> Result<bool, Failed>
     requires pass { IsPassOf gate.now pass.old }
     requires home { (P.state port.old).lent ≡ false }
     ensures own { IsPassOf gate.now pass.new }
@@ -61,12 +63,16 @@ fn serve_next<R: Threads + Wait + Sync, K: Keeper, P: Port>(
         (telling P.Conn.left P.Conn.written P.Conn.Source.faults P.Conn.Sink.faults)
         lane (P.state port.old) (P.state port.new) pass.old pass.new result number }
 {
-    let Ok(Some(mut conn)) = port.next() else {
-        return false;
-    };
-    let end = serve_connection(rt, alloc, gate, pass, lane, number, &mut conn);
-    port.done(conn, end);
-    true
+    match port.next() {
+        Ok(Some(conn)) => {
+            let mut conn = conn;
+            let end = serve_connection(rt, alloc, gate, pass, lane, number, &mut conn);
+            port.done(conn, end);
+            Ok(true)
+        }
+        Ok(None) => Ok(false),
+        Err(fault) => Err(fault),
+    }
 }
 
 /// Serves the connections of a port, one after the other, until none will come or the port fails.
@@ -80,19 +86,31 @@ pub(crate) fn serve_port<R: Threads + Wait + Sync, K: Keeper, P: Port>(
     port: &mut P,
     pass: &mut Pass<Core<K>>,
     lane: u32,
-)
+) -> LaneEnd
     requires pass { IsPassOf gate.now pass.old }
     requires home { (P.state port.old).lent ≡ false }
     ensures own { IsPassOf gate.now pass.new }
     ensures serves { ServesLane
         (telling P.Conn.left P.Conn.written P.Conn.Source.faults P.Conn.Sink.faults)
         lane (P.state port.old) (P.state port.new) pass.old pass.new }
+    ensures ends { EndsLane result (P.state port.old) (P.state port.new) }
 {
     let mut number = 1;
     loop {
-        if !serve_next(rt, alloc, gate, port, pass, lane, number) {
-            return;
+        match serve_next(rt, alloc, gate, port, pass, lane, number) {
+            Ok(true) => number += 1,
+            Ok(false) => {
+                return LaneEnd {
+                    connections: number - 1,
+                    has_ended: true,
+                };
+            }
+            Err(_) => {
+                return LaneEnd {
+                    connections: number - 1,
+                    has_ended: false,
+                };
+            }
         }
-        number += 1;
     }
 }

@@ -1,21 +1,35 @@
 //! Lanes: a port and a pass each, put together and taken apart.
-ghost use Rattle.std.specs.Prelude.{◌≡◌, ◌≤◌, [], map, vec_capacity, vec_len};
+ghost use Rattle.std.specs.Prelude.{◌≡◌, ◌≤◌, [], length, map, sum_by, vec_capacity, vec_len};
+ghost use Rattle.std.specs.List.{AllByRecursion, list_all};
+ghost use Rattle.io_edges.specs.Ports.{handed_bound};
 
 use bundle_core::Core;
 use doc_keeper::Keeper;
 use io_edges::Port;
 use session_gate::Pass;
 
-/// A port, and the pass by which its connections are served.
+/// How many connections a lane served, and whether its port said that no more will come.
+#[derive(Clone, Copy)]
+pub(crate) struct LaneEnd {
+    pub connections: u64,
+    pub has_ended: bool,
+}
+
+/// A port, the pass by which its connections are served, and what came of it.
 pub(crate) struct Lane<P, K: Keeper> {
     pub port: P,
     pub pass: Pass<Core<K>>,
+    pub end: LaneEnd,
 }
 
 // By hand, since a derive would ask it of the pass.
 impl<P: Drop, K: Keeper> Drop for Lane<P, K> {
     fn drop(self) {
-        let Lane { port: _, pass: _ } = self;
+        let Lane {
+            port: _,
+            pass: _,
+            end: _,
+        } = self;
     }
 }
 
@@ -23,7 +37,7 @@ impl<P, K: Keeper> Lane<P, K> {
     fn into_parts(self) -> (P, Pass<Core<K>>)
         ensures { (result.0 ≡ self.port) × (result.1 ≡ self.pass) }
     {
-        let Lane { port, pass } = self;
+        let Lane { port, pass, end: _ } = self;
         (port, pass)
     }
 }
@@ -49,7 +63,14 @@ pub(crate) fn join_lanes<P: Port, K: Keeper>(
         let Some(pass) = passes.pop() else {
             unreachable!()
         };
-        lanes.push_reserved(Lane { port, pass });
+        lanes.push_reserved(Lane {
+            port,
+            pass,
+            end: LaneEnd {
+                connections: 0,
+                has_ended: false,
+            },
+        });
     }
     lanes.reverse();
 }
@@ -75,4 +96,24 @@ pub(crate) fn part_lanes<P: Port, K: Keeper>(
         ports.push_reserved(port);
         passes.push_reserved(pass);
     }
+}
+
+/// How many connections the lanes served together.
+pub(crate) fn connections_of<P: Port, K: Keeper>(lanes: &[Lane<P, K>]) -> u64
+    requires few { length lanes.now ≤ 64 }
+    requires each { AllByRecursion (λ l. l.end.connections ≤ handed_bound) lanes.now }
+    ensures { result ≡ sum_by (λ l. l.end.connections) lanes.now }
+{
+    let mut connections = 0;
+    for lane in lanes {
+        connections += lane.end.connections;
+    }
+    connections
+}
+
+/// Whether the port of each lane said that no more connections will come.
+pub(crate) fn have_all_ended<P: Port, K: Keeper>(lanes: &[Lane<P, K>]) -> bool
+    ensures { result ≡ list_all (λ l. l.end.has_ended) lanes.now }
+{
+    lanes.iter().all(|lane| lane.end.has_ended)
 }

@@ -10,7 +10,9 @@
 //! these lanes alone. The entries of the session of each connection are those that `serve_link`
 //! tells of it, and what was written to it is what that history gives its session: all of it, or a
 //! front where writing failed (specs/InHistory.antt). `lane_names_law`: no two connections have
-//! one session. Where there is no memory for lanes, no port was asked.
+//! one session. It counts the connections that the ports handed out, and `serve_ports` also tells
+//! whether each port said that no more will come, or one failed (specs/Handed.antt). Where there is
+//! no memory for lanes, no port was asked.
 //! Not promised: that lanes run at the same time, that a turn or a connection comes, that memory
 //! is there; the ports that fail say so by their counts.
 //! Read first: specs/Services.antt, specs/InHistory.antt, then serving.rt, lane.rt and lanes.rt.
@@ -23,5 +25,5 @@ mod serving;
 mod session_names;
 
 pub use laws::lane_names_law;
-pub use serving::{NoServe, Served, serve_lanes};
+pub use serving::{NoServe, Served, ServedPorts, serve_lanes, serve_ports};
 pub use session_names::session_name;

@@ -1,15 +1,17 @@
 //! All lanes of a core, served at the same time.
-ghost use Rattle.std.specs.Prelude.{◌≡◌, ◌≤◌, ◌<◌, suc, All, IfErr, IfOk, false, length, map, vec_len};
+ghost use Rattle.std.specs.Prelude.{◌≡◌, ◌≤◌, ◌<◌, ◌+◌, suc, All, IfErr, IfOk, false, length, map, vec_len};
 ghost use Rattle.std.specs.Thread.{IsSend, IsSync};
 ghost use Rattle.session_gate.specs.Gate.{IsPassOf};
 ghost use Rattle.bundle_core.specs.Machine.{opening_of};
+ghost use Rattle.grist_lanes.specs.Handed.{EndedBy, all_handed};
 ghost use Rattle.grist_lanes.specs.InHistory.{ServesLanes};
+ghost use Rattle.grist_lanes.specs.LaneEnds.{EndsLane};
 ghost use Rattle.grist_lanes.specs.Places.{AtEach};
 ghost use Rattle.grist_lanes.specs.Services.{ServesLane, telling};
 ghost use Rattle.grist_lanes.specs.Sessions.{AreOfNoLane};
 
 use crate::lane::serve_port;
-use crate::lanes::{Lane, join_lanes, part_lanes};
+use crate::lanes::{Lane, connections_of, have_all_ended, join_lanes, part_lanes};
 use bundle_core::Core;
 use doc_keeper::Keeper;
 use io_edges::{Link, Port, Sink, Source};
@@ -21,7 +23,7 @@ use std::thread;
 use std::thread::Threads;
 
 // Serves the ports of all lanes, each in a thread of its own where one can be made.
-fn serve_ports<R: Threads + Wait + Sync, K: Keeper + Send, P: Port + Send>(
+fn serve_all<R: Threads + Wait + Sync, K: Keeper + Send, P: Port + Send>(
     rt: &R,
     alloc: Global,
     gate: &Gate<Core<K>>,
@@ -36,6 +38,9 @@ fn serve_ports<R: Threads + Wait + Sync, K: Keeper + Send, P: Port + Send>(
         ServesLane (telling P.Conn.left P.Conn.written P.Conn.Source.faults P.Conn.Sink.faults)
         (suc place) (P.state old.port) (P.state new.port) old.pass new.pass)
         lanes.old.items lanes.new.items }
+    ensures ends { AtEach (λ place old new.
+        EndsLane new.end (P.state old.port) (P.state new.port))
+        lanes.old.items lanes.new.items }
 {
     let many = lanes.len().max(1);
     thread::for_each_mut(
@@ -49,24 +54,33 @@ fn serve_ports<R: Threads + Wait + Sync, K: Keeper + Send, P: Port + Send>(
                 × ServesLane
                 (telling P.Conn.left P.Conn.written P.Conn.Source.faults P.Conn.Sink.faults)
                 (suc place) (P.state lane.old.port) (P.state lane.new.port) lane.old.pass
-                lane.new.pass }
+                lane.new.pass
+                × EndsLane lane.new.end (P.state lane.old.port) (P.state lane.new.port) }
         {
-            serve_port(
+            lane.end = serve_port(
                 rt,
                 alloc,
                 gate,
                 &mut lane.port,
                 &mut lane.pass,
                 place as u32 + 1,
-            )
+            );
         },
     );
 }
 
-/// The ports were served, and the core comes back.
+/// The ports were served, and the core comes back; and how many connections they handed out.
 #[derive(Drop)]
 pub struct Served<K: Keeper> {
     pub core: Core<K>,
+    pub connections: u64,
+}
+
+/// The ports were served; and whether each of them said that no more connections will come.
+#[derive(Drop)]
+pub struct ServedPorts<K: Keeper> {
+    pub served: Served<K>,
+    pub have_ended: bool,
 }
 
 /// There was no memory for lanes. The core comes back as it was, and no port was asked.
@@ -75,8 +89,59 @@ pub struct NoServe<K: Keeper> {
     pub core: Core<K>,
 }
 
-/// Serves the connections of all ports, a lane each, until none will come to a port or it fails.
-/// The session of the k-th connection of the i-th port is `session_name i k`.
+/// Serves the connections of all ports, a lane each, until none will come to a port or it fails,
+/// and tells whether none failed. The session of the k-th connection of the i-th port is
+/// `session_name i k`.
+///
+/// It may wait, for connections and for turns.
+/// Errors: `NoServe`, which is out of memory.
+pub fn serve_ports<R: Threads + Wait + Sync, K: Keeper + Send, P: Port + Send>(
+    rt: &R,
+    alloc: Global,
+    core: Core<K>,
+    ports: &mut Vec<P>,
+) -> Result<ServedPorts<K>, NoServe<K>>
+    requires count { (0 < vec_len ports.old) × (vec_len ports.old ≤ 64) }
+    requires home { All (λ p. (P.state p).lent ≡ false) ports.old.items }
+    requires none { AreOfNoLane core.state.history }
+    ensures opening { IfOk result (λ s. opening_of s.served.core ≡ opening_of core) }
+    ensures serves { IfOk result (λ s. ServesLanes
+        (telling P.Conn.left P.Conn.written P.Conn.Source.faults P.Conn.Sink.faults)
+        (opening_of core) core.state.history s.served.core.state.history
+        (map P.state ports.old.items) (map P.state ports.new.items)) }
+    ensures connections { IfOk result (λ s. all_handed (map P.state ports.new.items)
+        ≡ all_handed (map P.state ports.old.items) + s.served.connections) }
+    ensures ended { IfOk result (λ s. EndedBy s.have_ended
+        (map P.state ports.old.items) (map P.state ports.new.items)) }
+    ensures err { IfErr result (λ n. (n.core ≡ core) × (ports.new.items ≡ ports.old.items)) }
+{
+    let Ok(mut lanes) = Vec::with_capacity(alloc, ports.len()) else {
+        return Err(NoServe { core });
+    };
+    let (gate, passes) = match Gate::new(alloc, core, ports.len() as u32) {
+        Ok(made) => made,
+        Err(NoGate { machine }) => {
+            lanes.destroy_empty();
+            return Err(NoServe { core: machine });
+        }
+    };
+    let mut passes = passes.into_vec();
+    join_lanes(ports, &mut passes, &mut lanes);
+    serve_all(rt, alloc, &gate, &mut lanes);
+    let connections = connections_of(lanes.as_slice());
+    let have_ended = have_all_ended(lanes.as_slice());
+    part_lanes(ports, &mut passes, &mut lanes);
+    lanes.destroy_empty();
+    let Ok(core) = gate.close(PassList::from(passes)) else {
+        unreachable!()
+    };
+    Ok(ServedPorts {
+        served: Served { core, connections },
+        have_ended,
+    })
+}
+
+/// Serves the connections of all ports as `serve_ports` does.
 ///
 /// It may wait, for connections and for turns.
 /// Errors: `NoServe`, which is out of memory.
@@ -94,25 +159,17 @@ pub fn serve_lanes<R: Threads + Wait + Sync, K: Keeper + Send, P: Port + Send>(
         (telling P.Conn.left P.Conn.written P.Conn.Source.faults P.Conn.Sink.faults)
         (opening_of core) core.state.history s.core.state.history
         (map P.state ports.old.items) (map P.state ports.new.items)) }
+    ensures connections { IfOk result (λ s. all_handed (map P.state ports.new.items)
+        ≡ all_handed (map P.state ports.old.items) + s.connections) }
     ensures err { IfErr result (λ n. (n.core ≡ core) × (ports.new.items ≡ ports.old.items)) }
 {
-    let Ok(mut lanes) = Vec::with_capacity(alloc, ports.len()) else {
-        return Err(NoServe { core });
-    };
-    let (gate, passes) = match Gate::new(alloc, core, ports.len() as u32) {
-        Ok(made) => made,
-        Err(NoGate { machine }) => {
-            lanes.destroy_empty();
-            return Err(NoServe { core: machine });
-        }
-    };
-    let mut passes = passes.into_vec();
-    join_lanes(ports, &mut passes, &mut lanes);
-    serve_ports(rt, alloc, &gate, &mut lanes);
-    part_lanes(ports, &mut passes, &mut lanes);
-    lanes.destroy_empty();
-    let Ok(core) = gate.close(PassList::from(passes)) else {
-        unreachable!()
-    };
-    Ok(Served { core })
+    match serve_ports(rt, alloc, core, ports) {
+        Ok(
+            ServedPorts {
+                served,
+                have_ended: _,
+            },
+        ) => Ok(served),
+        Err(none) => Err(none),
+    }
 }

@@ -13,7 +13,7 @@ use Rattle.io_edges.specs.declared.line_reader.NextLine.{NextLine}
 use Rattle.io_edges.specs.declared.line_reader.NextLine.TheVariants.{Line, Last, End}
 use Rattle.io_edges.proofs.SendingLemmas.{appends_none}
 use Rattle.grist_run.specs.declared.status.Status.{Status}
-use Rattle.grist_run.specs.declared.status.Status.TheVariants.{Done, Usage, BadUsers, ReadFault, WriteFault, StoreFault, NoMemory, BadStore, TurnsSpent, HistoryFull}
+use Rattle.grist_run.specs.declared.status.Status.TheVariants.{Done, Usage, BadUsers, ReadFault, WriteFault, StoreFault, NoMemory, BadStore, TurnsSpent, PortFault, HistoryFull}
 use Rattle.grist_run.specs.Admission.{all_asked}
 use Rattle.grist_run.specs.Hearing.{IsAt, Nothing, EndsHearing}
 use Rattle.grist_run.specs.Run.{CameFirst, Runs, IsRun, StopsReading, StopsShort, StopsUnopened}
@@ -38,6 +38,7 @@ module _ {W F V G : List ℕ → Type 0} (whole : (b : List ℕ) → W b → V b
   runs_map (BadStore number) r = record { lines = r.lines; requests = r.requests; came = r.came; said = r.said; none = r.none; written = whole _ r.written }
   runs_map NoMemory r = record { lines = r.lines; requests = r.requests; more = r.more; came = r.came; said = r.said; entries = r.entries; written = front _ r.written }
   runs_map TurnsSpent r = record { lines = r.lines; rest = r.rest; came = r.came; one_line = r.one_line; serves = r.serves; written = whole _ r.written }
+  runs_map PortFault r = absurd r
   runs_map HistoryFull r = record { lines = r.lines; requests = r.requests; came = r.came; said = r.said; stopped = r.stopped; written = whole _ r.written }
 
 module _ (users : List User) (start : Document) (l m x w z : Option (List ℕ)) (h : List Entry) (v : List ℕ) where
@@ -55,6 +56,7 @@ module _ (users : List User) (start : Document) (l m x w z : Option (List ℕ)) 
   run_flushed WriteFault more r = flushed WriteFault more r
   run_flushed NoMemory more r = flushed NoMemory more r
   run_flushed TurnsSpent more r = flushed TurnsSpent more r
+  run_flushed PortFault more r = absurd r
   run_flushed HistoryFull more r = flushed HistoryFull more r
 
   module _ (t : SendsFront v w z) where
@@ -91,6 +93,7 @@ module _ (users : List User) (start : Document) (l m x w z : Option (List ℕ)) 
     run_cut WriteFault r = record { lines = r.lines; requests = r.requests; more = r.more; came = r.came; said = r.said; entries = r.entries; written = part_front v z r.written t }
     run_cut NoMemory r = record { lines = r.lines; requests = r.requests; more = r.more; came = r.came; said = r.said; entries = r.entries; written = part_front v z r.written t }
     run_cut TurnsSpent r = reading_lost 4294967296 r
+    run_cut PortFault r = absurd r
     run_cut HistoryFull r =
         let before = admitted-front [] (all_asked h) (entries_of r.requests) r.stopped in
         record { lines = r.lines; requests = r.requests; more = before.0; came = r.came; said = r.said; entries = before.1; written = part_sent _ r.written }
@@ -120,6 +123,7 @@ module _ (l m w : Option (List ℕ)) where
   run_heard NoMemory r = (r.0, heard r.0 NoMemory r.1)
   run_heard (BadStore number) r = absurd r
   run_heard TurnsSpent r = (r.0, heard r.0 TurnsSpent r.1)
+  run_heard PortFault r = absurd r
   run_heard HistoryFull r = (r.0, heard r.0 HistoryFull r.1)
 
 -- out of memory before anything was read

@@ -6,9 +6,9 @@ use Rattle.io_edges.specs.NextLine.{Reads}
 use Rattle.io_edges.specs.Reading.{LineState}
 use Rattle.io_edges.specs.declared.line_reader.NextLine.TheVariants.{Line, Last, End}
 use Rattle.grist_run.specs.declared.status.Status.{Status}
-use Rattle.grist_run.specs.declared.status.Status.TheVariants.{Done, Usage, BadUsers, ReadFault, WriteFault, StoreFault, NoMemory, BadStore, TurnsSpent, HistoryFull}
+use Rattle.grist_run.specs.declared.status.Status.TheVariants.{Done, Usage, BadUsers, ReadFault, WriteFault, StoreFault, NoMemory, BadStore, TurnsSpent, PortFault, HistoryFull}
 use Rattle.grist_run.specs.declared.user_lines.Heard.TheVariants as heard
-use Rattle.grist_run.specs.Hearing.{IsHeard, IsAtLine, IsAtLast, IsAtEndOf, HeardSoFar, EndsHearing}
+use Rattle.grist_run.specs.Hearing.{IsHeard, IsAtLine, IsAtLast, IsAtEndOf, HeardSoFar, EndsHearing, EndsUsers}
 use Rattle.grist_run.specs.Reading.{ReadsNext}
 use Rattle.grist_run.specs.Run.{Came, CameFirst, Serves}
 use Rattle.grist_run.specs.UserLines.{Saying, passes, adds, fails, ends, saying, script, bad_user, script_of}
@@ -54,6 +54,7 @@ module _ (l m n : Option (List ℕ)) (users : List User) (old new : LineState) (
   heard_stops WriteFault r = absurd r
   heard_stops StoreFault r = absurd r
   heard_stops (BadStore k) r = absurd r
+  heard_stops PortFault r = absurd r
   heard_stops HistoryFull r = absurd r
 
   -- the end of the input was read
@@ -105,6 +106,16 @@ module _ (l m n : Option (List ℕ)) (users : List User) (old new : LineState) (
         said = said_request users h.lines r.text h.said (said_kept r.text line ends kept_line says.0) ∙ ap (λ v. script v (r.text ∷ [])) (sym says.1);
       }
 
+      pub heard_request_at : IsHeard heard.Request (saying users line) users users' → EndsUsers l n users' number
+      unfolding heard_request
+      heard_request_at says = record {
+        lines = h.lines ++ r.text ∷ [];
+        text = r.text;
+        came = inl (_, _, came_line l m n h.lines old new h.came r);
+        said = (heard_request says).said;
+        count = omega (arith, h.numbered, length-append h.lines (r.text ∷ []));
+      }
+
       pub heard_nothing_of_line : EndsHearing NoMemory l n
       heard_nothing_of_line = short h.lines users (inl (_, _, came_part l m n h.lines old new h.came r)) h.said
 
@@ -135,6 +146,16 @@ module _ (l m n : Option (List ℕ)) (users : List User) (old new : LineState) (
         kept = r.answer.1;
         came = came_last l m n h.lines old new h.came r;
         said = said_request users h.lines r.text h.said (said_kept r.text line ends kept_last says.0) ∙ ap (λ v. script v (r.text ∷ [])) (sym says.1);
+      }
+
+      pub heard_last_request_at : IsHeard heard.Request (saying users line) users users' → EndsUsers l n users' number
+      unfolding heard_last_request
+      heard_last_request_at says = record {
+        lines = h.lines ++ r.text ∷ [];
+        text = r.text;
+        came = inr (came_last l m n h.lines old new h.came r);
+        said = (heard_last_request says).said;
+        count = omega (arith, h.numbered, length-append h.lines (r.text ∷ []));
       }
 
       pub heard_nothing_of_last : EndsHearing NoMemory l n

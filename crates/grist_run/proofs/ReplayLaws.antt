@@ -10,7 +10,7 @@ use Rattle.io_edges.specs.Causes.{Rose}
 use Rattle.bundle_core.specs.KeptBundles.{not_kept}
 use Rattle.bundle_core.specs.KeptCore.{IsKeeping, IsStarted, KeptCore}
 use Rattle.grist_run.specs.declared.status.Status.{Status}
-use Rattle.grist_run.specs.declared.status.Status.TheVariants.{Done, Usage, BadUsers, ReadFault, WriteFault, StoreFault, NoMemory, BadStore, TurnsSpent, HistoryFull}
+use Rattle.grist_run.specs.declared.status.Status.TheVariants.{Done, Usage, BadUsers, ReadFault, WriteFault, StoreFault, NoMemory, BadStore, TurnsSpent, PortFault, HistoryFull}
 use Rattle.grist_run.specs.Hearing.{EndsHearing}
 use Rattle.grist_run.specs.Replay.{KeepsRecords, Replays, failed_calls, is_opened}
 use Rattle.grist_run.specs.Run.{IsRun}
@@ -39,6 +39,21 @@ kept_nothing : (told : Option (List (List ℕ))) → told ≡ option_map (λ rs.
 kept_nothing None = refl
 kept_nothing (Some rs) = ap Some (sym (append-nil rs))
 
+-- what is told of a keeper whose records opened no document
+module _ (told now : Option (List (List ℕ))) (same : now ≡ told) (before after : ℕ) where
+  unopened_keeps : (users : List User) (status : Status) → is_opened status [] ≡ false → min (before + failed_calls status []) last ≤ after → KeepsRecords users new_document status [] told now before after
+  unopened_keeps users status none faults = record {
+    records = same ∙ kept_nothing told;
+    begins = λ is. let e : false ≡ true = sym none ∙ is in let never : ⊥ = cc e in absurd never;
+    reopens = λ is. let e : false ≡ true = sym none ∙ is in let never : ⊥ = cc e in absurd never;
+    faults = faults;
+  }
+
+  pub start_keeps : (users : List User) (c : StartCause) → before ≤ after → (c ≡ cause.StoreFault → Rose before after) → KeepsRecords users new_document (start_status c) [] told now before after
+  start_keeps users cause.StoreFault le rose = unopened_keeps users StoreFault refl (rose refl)
+  start_keeps users (cause.BadStore number) le rose = unopened_keeps users (BadStore number) refl (least (before + 0) last after (omega (arith, le)))
+  start_keeps users cause.NoMemory le rose = unopened_keeps users NoMemory refl (least (before + 0) last after (omega (arith, le)))
+
 module _ (l m w : Option (List ℕ)) (told now : Option (List (List ℕ))) (same : now ≡ told) (before after : ℕ) where
   unopened : (users : List User) (status : Status) → is_opened status [] ≡ false → IsRun users new_document status l m [] w w → min (before + failed_calls status []) last ≤ after → Replays status l m [] w w told now before after
   unopened users status none run faults = record {
@@ -46,12 +61,7 @@ module _ (l m w : Option (List ℕ)) (told now : Option (List (List ℕ))) (same
     start = new_document;
     run = run;
     input = run_follows users new_document status l m w w [] run;
-    keeper = record {
-      records = same ∙ kept_nothing told;
-      begins = λ is. let e : false ≡ true = sym none ∙ is in let never : ⊥ = cc e in absurd never;
-      reopens = λ is. let e : false ≡ true = sym none ∙ is in let never : ⊥ = cc e in absurd never;
-      faults = faults;
-    };
+    keeper = unopened_keeps told now same before after users status none faults;
   }
 
   -- the users were not heard to their end
@@ -65,6 +75,7 @@ module _ (l m w : Option (List ℕ)) (told now : Option (List (List ℕ))) (same
   heard_replays NoMemory e le = let r = run_heard l m w NoMemory e in unopened r.0 NoMemory refl r.1 (least (before + 0) last after (omega (arith, le)))
   heard_replays (BadStore number) e le = absurd e
   heard_replays TurnsSpent e le = let r = run_heard l m w TurnsSpent e in unopened r.0 TurnsSpent refl r.1 (least (before + 0) last after (omega (arith, le)))
+  heard_replays PortFault e le = absurd e
   heard_replays HistoryFull e le = let r = run_heard l m w HistoryFull e in unopened r.0 HistoryFull refl r.1 (least (before + 0) last after (omega (arith, le)))
 
   -- the core did not start
@@ -93,6 +104,7 @@ late_calls StoreFault h late = let never : ⊥ = cc late in absurd never
 late_calls NoMemory h late = refl
 late_calls (BadStore number) h late = refl
 late_calls TurnsSpent h late = refl
+late_calls PortFault h late = refl
 late_calls HistoryFull h late = refl
 
 -- what a core that ended says of its keeper
@@ -116,18 +128,23 @@ module _ (core : KeptCore) (k : IsKeeping core) (status : Status) (late : is_ear
       let i = subst (λ r. KeepsRecords old.state.users old.state.start status h old.kept.opening r old.kept.before core.kept.faults) (sym records) f in
       subst (λ n. KeepsRecords old.state.users old.state.start status h old.kept.opening now old.kept.before n) (sym faults) i
 
+-- what is told of a keeper since it was handed in
+pub opened_keeps : (core : KeptCore) (users : List User) (told : Option (List (List ℕ))) (before : ℕ) → IsStarted users told before core → (status : Status) (h : List Entry) (now : Option (List (List ℕ))) (after : ℕ)
+    → KeepsRecords core.state.users core.state.start status h core.kept.opening now core.kept.before after → KeepsRecords core.state.users core.state.start status h told now before after
+opened_keeps core users told before s status h now after k =
+    let d = subst (λ o. KeepsRecords core.state.users core.state.start status h o now core.kept.before after) s.opening k in
+    record { records = d.records; begins = d.begins; reopens = d.reopens; faults = lower before core.kept.before (failed_calls status h) last after s.later d.faults }
+
 -- the whole run
 pub opened_replays : (core : KeptCore) (users : List User) (told : Option (List (List ℕ))) (before : ℕ) → IsStarted users told before core → (status : Status) (l m : Option (List ℕ)) (h : List Entry) (w z : Option (List ℕ)) (now : Option (List (List ℕ))) (after : ℕ)
     → IsRun core.state.users core.state.start status l m h w z → KeepsRecords core.state.users core.state.start status h core.kept.opening now core.kept.before after → Replays status l m h w z told now before after
-opened_replays core users told before s status l m h w z now after run k =
-    let d = subst (λ o. KeepsRecords core.state.users core.state.start status h o now core.kept.before after) s.opening k in
-    record {
-      users = core.state.users;
-      start = core.state.start;
-      run = run;
-      input = run_follows core.state.users core.state.start status l m w z h run;
-      keeper = record { records = d.records; begins = d.begins; reopens = d.reopens; faults = lower before core.kept.before (failed_calls status h) last after s.later d.faults };
-    }
+opened_replays core users told before s status l m h w z now after run k = record {
+  users = core.state.users;
+  start = core.state.start;
+  run = run;
+  input = run_follows core.state.users core.state.start status l m w z h run;
+  keeper = opened_keeps core users told before s status h now after k;
+}
 
 -- the same run, told by an outcome
 module _ {l m w z : Option (List ℕ)} {told : Option (List (List ℕ))} {before : ℕ} where

@@ -12,7 +12,7 @@ use Rattle.io_edges.specs.declared.line_reader.NextLine.{NextLine}
 use Rattle.io_edges.specs.declared.line_reader.NextLine.TheVariants.{Line, Last, End}
 use Rattle.bundle_core.specs.Core.{CoreState}
 use Rattle.grist_run.specs.declared.status.Status.{Status}
-use Rattle.grist_run.specs.declared.status.Status.TheVariants.{Done, Usage, BadUsers, ReadFault, WriteFault, StoreFault, NoMemory, BadStore, TurnsSpent, HistoryFull}
+use Rattle.grist_run.specs.declared.status.Status.TheVariants.{Done, Usage, BadUsers, ReadFault, WriteFault, StoreFault, NoMemory, BadStore, TurnsSpent, PortFault, HistoryFull}
 use Rattle.grist_run.specs.Admission.{admitted, all_asked, takes_all, stops_at}
 use Rattle.grist_run.specs.Answering.{Answers, AnswersAll, AnswersPart, FindsFull}
 use Rattle.grist_run.specs.Hearing.{IsAt, IsAtLine, IsAtLast, IsAtEndOf}
@@ -78,6 +78,7 @@ module _ (users : List User) (start : Document) (h k : List Entry) (v v' : List 
   ends_answer lines came said StoreFault a = absurd a
   ends_answer lines came said (BadStore n) a = absurd a
   ends_answer lines came said TurnsSpent a = absurd a
+  ends_answer lines came said PortFault a = absurd a
 
 -- a line, and the reading behind it
 module _ (core core' : CoreState) (v v' : List ℕ) (x w w' l m n : Option (List ℕ)) (old new : LineState) (users : core'.users ≡ core.users) (start : core'.start ≡ core.start) (line : List ℕ) (is : line ≡ old.line) where
@@ -146,6 +147,7 @@ module _ (core core' : CoreState) (v v' : List ℕ) (x w w' l m n : Option (List
       turn_ends WriteFault r = absurd r
       turn_ends StoreFault r = absurd r
       turn_ends (BadStore number) r = absurd r
+      turn_ends PortFault r = absurd r
       turn_ends HistoryFull r = absurd r
 
       -- the next one was read or was not

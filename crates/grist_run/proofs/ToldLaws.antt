@@ -8,7 +8,7 @@ use Rattle.io_edges.specs.Lines.{lines_of}
 use Rattle.io_edges.specs.Sending.{SendsFront}
 use Rattle.io_edges.proofs.LineLemmas.{lines_of-stream_of}
 use Rattle.grist_run.specs.declared.status.Status.{Status}
-use Rattle.grist_run.specs.declared.status.Status.TheVariants.{Done, Usage, BadUsers, ReadFault, WriteFault, StoreFault, NoMemory, BadStore, TurnsSpent, HistoryFull}
+use Rattle.grist_run.specs.declared.status.Status.TheVariants.{Done, Usage, BadUsers, ReadFault, WriteFault, StoreFault, NoMemory, BadStore, TurnsSpent, PortFault, HistoryFull}
 use Rattle.grist_run.specs.Admission.{admitted, all_asked, takes_all, stops_at}
 use Rattle.grist_run.specs.Run.{Came, CameAll, CameFirst, IsRun}
 use Rattle.grist_run.specs.Script.{line_entries, entries_of}
@@ -112,6 +112,7 @@ module _ (start : Document) (input : List ℕ) (m w z : Option (List ℕ)) (h : 
   told users (BadStore number) r = record { none = r.none; written = r.written }
   told users NoMemory r = short_told r.lines users r.requests r.more r.came r.said r.entries r.written
   told users TurnsSpent r = front_told r.lines users r.serves.requests (inl (r.rest, 4294967296, r.came)) r.serves.said r.serves.took r.written
+  told users PortFault r = absurd r
   told users HistoryFull r =
       let first = came_first input m r.lines r.came in
       record {

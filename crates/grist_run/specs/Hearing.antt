@@ -7,11 +7,11 @@ use Rattle.io_edges.specs.Reading.{LineState}
 use Rattle.io_edges.specs.declared.line_reader.NextLine.{NextLine}
 use Rattle.io_edges.specs.declared.line_reader.NextLine.TheVariants as next
 use Rattle.grist_run.specs.declared.status.Status.{Status}
-use Rattle.grist_run.specs.declared.status.Status.TheVariants.{Done, Usage, WriteFault, StoreFault, BadStore}
+use Rattle.grist_run.specs.declared.status.Status.TheVariants.{Done, Usage, WriteFault, StoreFault, BadStore, PortFault}
 use Rattle.grist_run.specs.declared.user_lines.Heard.{Heard}
 use Rattle.grist_run.specs.declared.user_lines.Heard.TheVariants as heard
 use Rattle.grist_run.specs.declared.user_lines.Front.{Front}
-use Rattle.grist_run.specs.Run.{Came, CameAll, Runs}
+use Rattle.grist_run.specs.Run.{Came, CameAll, CameFirst, Runs}
 use Rattle.grist_run.specs.UserLines.{Saying, passes, adds, fails, ends, script, script_of}
 
 -- what was heard is what the line says, and a user that was said was added
@@ -53,6 +53,21 @@ IsAt next.Line l l' users requests reader = IsAtLine l l' users requests reader
 IsAt next.Last l l' users requests reader = IsAtLast l l' users requests reader
 IsAt next.End l l' users requests reader = IsAtEndOf l l' users requests
 
+-- the users ended before the last line that came, which asks for something and has this number
+pub record EndsUsers (left_old left_new : Option (List ℕ)) (users : List User) (number : ℕ)
+    : Type 0 where
+  pub lines : List (List ℕ)
+  pub text : List ℕ
+  pub came : CameFirst left_old left_new lines
+  pub said : script_of lines ≡ script users (text ∷ [])
+  pub count : number ≡ length lines
+
+-- the number of the line at which the users ended, where there is one
+abbrev pub EndsUsersAt : NextLine → Option (List ℕ) → Option (List ℕ) → List User → ℕ → Type 0
+EndsUsersAt next.Line l l' users number = EndsUsers l l' users number
+EndsUsersAt next.Last l l' users number = EndsUsers l l' users number
+EndsUsersAt next.End l l' users number = Unit {0}
+
 -- all lines so far said these users, and the next line has this number
 pub record HeardSoFar (left_old left_new : Option (List ℕ)) (users : List User) (reader : LineState)
     (number : ℕ) : Type 0 where
@@ -72,6 +87,7 @@ EndsHearing Usage l l' = ⊥
 EndsHearing WriteFault l l' = ⊥
 EndsHearing StoreFault l l' = ⊥
 EndsHearing (BadStore number) l l' = ⊥
+EndsHearing PortFault l l' = ⊥
 EndsHearing status l l' =
     (users : List User) × Runs Nothing Nothing users new_document status l l' []
 
@@ -79,10 +95,12 @@ EndsHearing status l l' =
 abbrev pub HearsLine : Result (Option NextLine) Status → Option (List ℕ) → Option (List ℕ)
     → List User → LineState → ℕ → Type 0
 HearsLine (Ok None) l l' users reader number = HeardSoFar l l' users reader (number + 1)
-HearsLine (Ok (Some n)) l l' users reader number = IsAt n l l' users [] reader
+HearsLine (Ok (Some n)) l l' users reader number =
+    IsAt n l l' users [] reader × EndsUsersAt n l l' users number
 HearsLine (Err status) l l' users reader number = EndsHearing status l l'
 
 -- the users were heard, or the run ended
 abbrev pub HearsUsers : Result Front Status → Option (List ℕ) → Option (List ℕ) → LineState → Type 0
-HearsUsers (Ok f) l l' reader = IsAt f.next l l' f.users [] reader
+HearsUsers (Ok f) l l' reader =
+    IsAt f.next l l' f.users [] reader × EndsUsersAt f.next l l' f.users f.number
 HearsUsers (Err status) l l' reader = EndsHearing status l l'

@@ -7,7 +7,7 @@ use Rattle.doc_model.specs.declared.user.User.{User}
 use Rattle.io_edges.specs.Sending.{SendsFront}
 use Rattle.io_edges.specs.Lines.{IsOneLine, AreLines, lines_of, stream_of}
 use Rattle.grist_run.specs.declared.status.Status.{Status}
-use Rattle.grist_run.specs.declared.status.Status.TheVariants.{Done, Usage, BadUsers, ReadFault, WriteFault, StoreFault, NoMemory, BadStore, TurnsSpent, HistoryFull}
+use Rattle.grist_run.specs.declared.status.Status.TheVariants.{Done, Usage, BadUsers, ReadFault, WriteFault, StoreFault, NoMemory, BadStore, TurnsSpent, PortFault, HistoryFull}
 use Rattle.grist_run.specs.Admission.{admitted, all_asked, takes_all, stops_at}
 use Rattle.grist_run.specs.Script.{entries_of}
 use Rattle.grist_run.specs.Sending.{frames_of}
@@ -116,6 +116,7 @@ Runs w f users start StoreFault l l' h = StopsUnopened w f users start l l' h
 Runs w f users start NoMemory l l' h = StopsShort w f users start l l' h
 Runs w f users start (BadStore number) l l' h = StopsUnopened w f users start l l' h
 Runs w f users start TurnsSpent l l' h = StopsReading w f users start l l' h 4294967296
+Runs w f users start PortFault l l' h = ⊥
 Runs w f users start HistoryFull l l' h = StopsFull w f users start l l' h
 
 -- what a run did with a sink that held these bytes before it and holds those after it

@@ -7,7 +7,7 @@ use Rattle.doc_model.specs.declared.user.User.{User}
 use Rattle.io_edges.specs.Lines.{lines_of}
 use Rattle.io_edges.specs.Sending.{SendsFront}
 use Rattle.grist_run.specs.declared.status.Status.{Status}
-use Rattle.grist_run.specs.declared.status.Status.TheVariants.{Done, Usage, BadUsers, ReadFault, WriteFault, StoreFault, NoMemory, BadStore, TurnsSpent, HistoryFull}
+use Rattle.grist_run.specs.declared.status.Status.TheVariants.{Done, Usage, BadUsers, ReadFault, WriteFault, StoreFault, NoMemory, BadStore, TurnsSpent, PortFault, HistoryFull}
 use Rattle.grist_run.specs.Admission.{admitted, all_asked, takes_all, stops_at}
 use Rattle.grist_run.specs.Script.{entries_of}
 use Rattle.grist_run.specs.Sending.{frames_of}
@@ -75,4 +75,5 @@ Follows start StoreFault input left h w w' = OpensNothing start input h w w'
 Follows start NoMemory input left h w w' = WritesFront start input h w w'
 Follows start (BadStore number) input left h w w' = OpensNothing start input h w w'
 Follows start TurnsSpent input left h w w' = AnswersFront start input h w w'
+Follows start PortFault input left h w w' = ⊥
 Follows start HistoryFull input left h w w' = FillsHistory start input h w w'

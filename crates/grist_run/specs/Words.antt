@@ -1,7 +1,7 @@
 -- The statuses of the program.
 use Rattle.std.specs.Prelude.{ℕ, Bool, true, false}
 use Rattle.grist_run.specs.declared.status.Status.{Status}
-use Rattle.grist_run.specs.declared.status.Status.TheVariants.{Done, Usage, BadUsers, ReadFault, WriteFault, StoreFault, NoMemory, BadStore, TurnsSpent, HistoryFull}
+use Rattle.grist_run.specs.declared.status.Status.TheVariants.{Done, Usage, BadUsers, ReadFault, WriteFault, StoreFault, NoMemory, BadStore, TurnsSpent, PortFault, HistoryFull}
 
 -- the status with which the program ends
 abbrev pub status_code : Status → ℕ
@@ -14,6 +14,7 @@ status_code StoreFault = 6
 status_code NoMemory = 7
 status_code (BadStore number) = 8
 status_code TurnsSpent = 9
+status_code PortFault = 10
 status_code HistoryFull = 11
 
 -- where the run ended: at a user line, from 1, or a record, from 0; else 0

@@ -5,10 +5,11 @@
 //! JSON), `io_edges` (sources, sinks and lines) and `doc_keeper` (what keeps records). The program
 //! hands in standard input and output, and a keeper.
 //!
-//! Promises: `run` says what is written for what was read, in whatever pieces it came, and which
-//! event each status stands for; a fault is told only where the count of faults of the source, the
-//! sink or the keeper rose. The keeper comes back with its records and one for each bundle that was
-//! accepted and kept. Not promised: that memory is there.
+//! Promises: `run_alone`, and `run` where its words ask for a replay, say what is written for what
+//! was read, in whatever pieces it came, and which event each status stands for; a fault is told
+//! only where the count of faults of the source, the sink or the keeper rose. The keeper comes back
+//! with its records and one for each bundle that was accepted and kept. Not promised: that memory
+//! is there.
 //! Read first: running.rt, then specs/Replay.antt, specs/Run.antt and specs/UserLines.antt.
 #![tactic(auto)]
 
@@ -21,5 +22,6 @@ mod serving;
 mod status;
 mod user_lines;
 
-pub use running::run;
+pub use running::{run, run_alone, start_status, without_history};
 pub use status::{Outcome, Status};
+pub use user_lines::{Front, read_users};

@@ -25,14 +25,9 @@ use io_edges::{LineReader, NextLine, Outbox, Sink, Source};
 use run_words::asks_for_replay;
 use std::alloc::Global;
 
-/// Does what the words ask for: a replay of the input's lines over the document that the keeper's
-/// records lead to.
+/// Does what the words ask for, where that is a replay, by `run_alone`.
 ///
-/// The input is lines: users first, one a line, and then requests in frames. What sessions are
-/// given is written to `out`, each line in a frame, in the order of the requests. The keeper keeps
-/// each bundle that is accepted before it takes effect, and is handed back.
-/// Errors: the status says which event came first; what waits is written before it is told, and
-/// where that fails it is `WriteFault`.
+/// Errors: those of a replay; `Usage`, exactly where the words ask for something else.
 /// Source: docs/PROTOCOL.md, "the program".
 pub fn run<S: Source, O: Sink, K: Keeper>(
     alloc: Global,
@@ -57,14 +52,16 @@ pub fn run<S: Source, O: Sink, K: Keeper>(
         → Rose (K.failures keeper) (K.failures result.keeper) }
 {
     if asks_for_replay(words) {
-        replay(alloc, input, out, keeper)
+        run_alone(alloc, input, out, keeper)
     } else {
         without_history(alloc, Status::Usage, keeper)
     }
 }
 
-// A run that ended before anything was asked for.
-fn without_history<K: Keeper>(alloc: Global, status: Status, keeper: K) -> Outcome<K>
+/// A run that ended before anything was asked for.
+///
+/// Memory: none.
+pub fn without_history<K: Keeper>(alloc: Global, status: Status, keeper: K) -> Outcome<K>
     ensures status { result.status ≡ status }
     ensures at { result.at ≡ place_of status }
     ensures history { result.history ≡ [] }
@@ -79,14 +76,23 @@ fn without_history<K: Keeper>(alloc: Global, status: Status, keeper: K) -> Outco
     }
 }
 
-// Hears the users, opens the document, and answers the lines behind the users.
-fn replay<S: Source, O: Sink, K: Keeper>(
+/// A replay: hears the users, opens the document that the keeper's records lead to, and answers the
+/// lines behind the users.
+///
+/// The input is lines: users first, one a line, and then requests in frames. What sessions are
+/// given is written to `out`, each line in a frame, in the order of the requests. The keeper keeps
+/// each bundle that is accepted before it takes effect, and is handed back. It waits for nobody.
+/// Errors: the status says which event came first; what waits is written before it is told, and
+/// where that fails it is `WriteFault`. It is never `Usage` nor `PortFault`.
+/// Source: docs/PROTOCOL.md, "the program".
+pub fn run_alone<S: Source, O: Sink, K: Keeper>(
     alloc: Global,
     input: &mut S,
     out: &mut O,
     keeper: K,
 ) -> Outcome<K>
     ensures usage { result.status ≡ Status.Usage → ⊥ }
+    ensures port_fault { result.status ≡ Status.PortFault → ⊥ }
     ensures at { result.at ≡ place_of result.status }
     ensures replay { Replays result.status (S.left input.old) (S.left input.new) result.history
         (O.written out.old) (O.written out.new) (K.records keeper) (K.records result.keeper)
@@ -106,18 +112,22 @@ fn replay<S: Source, O: Sink, K: Keeper>(
     let Ok(mut outbox) = Outbox::new(alloc) else {
         return without_history(alloc, Status::NoMemory, keeper);
     };
-    let Front { users, next } = match read_users(alloc, &mut reader, input) {
+    let Front {
+        users,
+        next,
+        number: _,
+    } = match read_users(alloc, &mut reader, input) {
         Ok(front) => front,
         Err(status) => return without_history(alloc, status, keeper),
     };
     match Core::start(alloc, users, keeper) {
         Ok(core) => replay_from(alloc, core, next, &mut outbox, &mut reader, input, out),
-        Err(StartFault { cause, keeper }) => without_history(alloc, status_of(cause), keeper),
+        Err(StartFault { cause, keeper }) => without_history(alloc, start_status(cause), keeper),
     }
 }
 
-// How a run ends that opened no document.
-fn status_of(cause: StartCause) -> Status
+/// How a run ends that opened no document.
+pub fn start_status(cause: StartCause) -> Status
     ensures { result ≡ start_status cause }
 {
     match cause {

@@ -27,6 +27,8 @@ pub enum Status {
     BadStore { number: u64 },
     /// As many reads as a run makes each took a byte.
     TurnsSpent,
+    /// A port failed. No replay ends so.
+    PortFault,
     /// The history has no room for a request.
     HistoryFull,
 }
@@ -51,12 +53,13 @@ impl Status {
             Status::NoMemory => 7,
             Status::BadStore { .. } => 8,
             Status::TurnsSpent => 9,
+            Status::PortFault => 10,
             Status::HistoryFull => 11,
         }
     }
 
     /// The number of the bad user line, or of the bad record; else 0.
-    pub(crate) fn place(self) -> u64
+    pub fn place(self) -> u64
         ensures { result ≡ place_of self }
     {
         match self {

@@ -27,12 +27,15 @@ enum Heard {
     Request,
 }
 
-/// The users of a run, and what the reader gave behind them: a line that asks for something, or the
-/// end of the input.
+/// The users of a run, what the reader gave behind them, which is a line that asks for something or
+/// the end of the input, and the number of that line.
+///
+/// Units: lines are numbered from 1.
 #[derive(Drop)]
-pub(crate) struct Front {
+pub struct Front {
     pub users: UserList,
     pub next: NextLine,
+    pub number: u64,
 }
 
 fn has_token(users: &[User], token: &str) -> bool
@@ -108,7 +111,7 @@ fn hear_next<S: Source>(
 /// Reads the users at the front of the input.
 ///
 /// Cost: each token is compared with those before it.
-pub(crate) fn read_users<S: Source>(
+pub fn read_users<S: Source>(
     alloc: Global,
     reader: &mut LineReader,
     input: &mut S,
@@ -127,7 +130,11 @@ pub(crate) fn read_users<S: Source>(
             Ok(None) => number += 1,
             Ok(Some(next)) => {
                 let users = UserList::from(users);
-                return Ok(Front { users, next });
+                return Ok(Front {
+                    users,
+                    next,
+                    number,
+                });
             }
             Err(status) => return Err(status),
         }

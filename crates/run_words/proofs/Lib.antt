@@ -1,3 +1,4 @@
 pub mod ClapLemmas
 mod ServeLemmas
 pub mod ReplayLemmas
+mod LaneLemmas

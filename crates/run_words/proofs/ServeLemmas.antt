@@ -19,7 +19,7 @@ module _ {S : Type 0} (bytes : S → List ℕ) where
   abbrev pub behind_first : List S → List S
   behind_first ws = take (length ws - 1) (drop 1 ws)
 
-  first_is : (ws : List S) (word : S) → 1 ≤ length ws → word ≡ get_or ws 0 word → ws ≡ word ∷ behind_first ws
+  pub first_is : (ws : List S) (word : S) → 1 ≤ length ws → word ≡ get_or ws 0 word → ws ≡ word ∷ behind_first ws
   first_is ws word some is = first_rest ws word some ∙ ap (λ w. w ∷ behind_first ws) (sym is)
 
   pub words_joined : (f g : Found) (ws : List S) (word : S) → 1 ≤ length ws → word ≡ get_or ws 0 word → with_joined f (bytes word) ≡ Some g → options_in f (map bytes ws) ≡ options_in g (map bytes (behind_first ws))

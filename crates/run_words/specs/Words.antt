@@ -53,3 +53,10 @@ is_replay None = false
 is_replay (Some (Replay doc watch)) = true
 is_replay (Some (Serve lanes port conns doc watch)) = false
 is_replay (Some (Gen n)) = false
+
+-- how many lanes of a server are asked for, where one is
+abbrev pub lanes_of : Option Plan → Option ℕ
+lanes_of None = None
+lanes_of (Some (Replay doc watch)) = None
+lanes_of (Some (Serve lanes port conns doc watch)) = Some lanes
+lanes_of (Some (Gen n)) = None

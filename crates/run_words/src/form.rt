@@ -1,7 +1,9 @@
 //! Which words are of a form. No memory is taken.
-ghost use Rattle.std.specs.Prelude.{◌≡◌, codes, is_some, map, option_map, string_bytes};
-ghost use Rattle.run_words.specs.Words.{behind, doc_text, is_replay, plan_of, replay_in, replay_of};
+ghost use Rattle.std.specs.Prelude.{◌≡◌, ◌<◌, ◌≤◌, IfSome, codes, is_some, map, option_map, string_bytes};
+ghost use Rattle.run_words.specs.ServeWords.{serve_of};
+ghost use Rattle.run_words.specs.Words.{behind, doc_text, is_replay, lanes_of, plan_of, replay_in, replay_of};
 
+use crate::serve_form::serve_words;
 use name_rules::is_name;
 
 // What stands behind `--doc=`.
@@ -51,4 +53,28 @@ pub fn asks_for_replay(words: &[String]) -> bool
     ensures { result ≡ is_replay (plan_of (map string_bytes words.now)) }
 {
     is_replay_form(words)
+}
+
+// How many lanes are asked for by the words behind `serve`.
+fn lanes_behind(options: &[String]) -> Option<u32>
+    ensures lanes { result ≡ lanes_of (serve_of (map string_bytes options.now)) }
+    ensures few { IfSome result (λ n. (0 < n) × (n ≤ 64)) }
+{
+    match serve_words(options) {
+        Some(words) => Some(words.lanes),
+        None => None,
+    }
+}
+
+/// How many lanes of a server the words ask for, where they ask for one.
+///
+/// Memory: none.
+pub fn lanes_asked(words: &[String]) -> Option<u32>
+    ensures lanes { result ≡ lanes_of (plan_of (map string_bytes words.now)) }
+    ensures few { IfSome result (λ n. (0 < n) × (n ≤ 64)) }
+{
+    match words {
+        [word, options @ ..] if word.as_str() == "serve" => lanes_behind(options),
+        _ => None,
+    }
 }

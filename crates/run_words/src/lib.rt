@@ -17,6 +17,6 @@ mod reading;
 mod serve_form;
 mod serve_options;
 
-pub use form::asks_for_replay;
+pub use form::{asks_for_replay, lanes_asked};
 pub use plans::{Plan, PlanFault};
 pub use reading::plan;

@@ -46,7 +46,7 @@ fn was_served(port: &MemPort<MemLink>, want: &[u8]) -> bool {
     }
 }
 
-// Whether both connections were served, and how many entries the history has.
+// Whether both connections were served and counted, and how many entries the history has.
 fn lanes_over<R: Threads + Wait + Sync>(
     rt: &R,
     alloc: Global,
@@ -56,8 +56,8 @@ fn lanes_over<R: Threads + Wait + Sync>(
     let second = coming(alloc, CASES[0].script)?;
     let mut ports = two_ports(alloc, first, second)?;
     match serve_lanes(rt, alloc, new_core(alloc)?, &mut ports) {
-        Ok(Served { core }) => Ok((
-            ports.iter().all(|port| was_served(port, want.as_slice())),
+        Ok(Served { core, connections }) => Ok((
+            connections == 2 && ports.iter().all(|port| was_served(port, want.as_slice())),
             core.history().len(),
         )),
         Err(NoServe { core: _ }) => Err(AllocError),

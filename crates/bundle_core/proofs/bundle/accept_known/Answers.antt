@@ -42,6 +42,7 @@ returns-in-Ok-keep-clause-ok g c =
       line = c.in-Ok.ready.record;
       next = c.in-Ok.ensures.record;
       adds = c.in-Ok-keep.ensures.ok;
+      count = c.in-Ok-keep.ensures.counted;
     }
 
 pub returns-in-Err-Failed-clause-ok : goal.returns-in-Err-Failed-clause-ok
@@ -56,5 +57,6 @@ returns-in-Err-Failed-clause-ok g c =
         stays = subst P c.in-Ok.ensures.refusal c.stay_ready.ensures;
       };
       told = c.in-Err-Failed.ensures.err;
+      count = c.in-Err-Failed.ensures.uncounted;
       failed = c.in-Err-Failed.ensures.cause.failed (ap (λ k. Err k) c.in-Err-Failed.field-0-is);
     }

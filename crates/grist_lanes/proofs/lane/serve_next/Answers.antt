@@ -4,8 +4,8 @@ use Rattle.grist_lanes.specs.Services.{Service}
 use Rattle.grist_lanes.proofs.ServiceLemmas.{few_one, served_one}
 use Rattle.grist_lanes.proofs.lane.serve_next.Goals as goal
 
-pub returns-clause-next : goal.returns-clause-next
-returns-clause-next g c =
+pub returns-in-Ok-Some-clause-next : goal.returns-in-Ok-Some-clause-next
+returns-in-Ok-Some-clause-next g c =
     let one : Service g.row.P-Conn.Denot = record {
       before = c.in-Ok-Some.conn;
       after = c.serve_connection-end.new.conn;

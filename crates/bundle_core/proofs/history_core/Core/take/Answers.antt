@@ -29,7 +29,7 @@ invariant_of-self-in_err-turn g c =
           (core_same kept.users (document_of kept.opening) kept.entries.items kept.doc c.answer.new.doc kept.tally c.answer.new.tally kept.sessions.items c.answer.new.sessions.items kept.bytes_left c.in_err-turn.ensures.err_document c.in_err-turn.ensures.tally c.in_err-turn.ensures.err c.self.invariant.0),
       omega (arith, same_length kept.sessions.items c.answer.new.sessions.items c.in_err-turn.ensures.err, c.in_ok-reserve.ensures.len, c.in_ok-reserve.ensures.capacity, c.self.invariant.1),
       subst K (sym c.in_ok-reserve.ensures.items)
-          (kept_same kept.users (document_of kept.opening) kept.entries.items kept.opened kept.before kept.records c.answer.new.records kept.doc c.answer.new.doc c.in_err-turn.ensures.err_told c.in_err-turn.ensures.err_document c.in_err-turn.ensures.later c.self.invariant.2),
+          (kept_same kept.users (document_of kept.opening) kept.entries.items kept.opened kept.before kept.records c.answer.new.records kept.doc c.answer.new.doc c.in_err-turn.ensures.err_told c.in_err-turn.ensures.err_count c.in_err-turn.ensures.err_document c.in_err-turn.ensures.later c.self.invariant.2),
     )
 
 pub invariant_of-self-2 : goal.invariant_of-self-2

@@ -1,0 +1,22 @@
+use Rattle.std.proofs.Crossing.{crosses}
+use denote.Param.Send.{sendable, param_sync, given_sync}
+use Rattle.std.proofs.Crossing.{sync as heap-sync}
+use Rattle.session_gate.proofs.pass.Pass.TheSendSync.{the_send as pass-send}
+use mathlib.Core.List.{[]}
+use mir.Syntax.{static}
+use Rattle.bundle_core.specs.contracts.machine.Event as event
+use Rattle.bundle_core.specs.contracts.machine.Given as given
+use Rattle.bundle_core.specs.contracts.machine.CoreOpening as opening
+use Rattle.bundle_core.specs.contracts.machine.CoreMachine as core-machine
+use Rattle.doc_model.specs.contracts.entry.Entry as entry
+use Rattle.std.specs.contracts.alloc.Global as global
+use Rattle.grist_lanes.proofs.CoreCrossing.{core-send, core-gate-sync, lent-sync}
+use Rattle.grist_lanes.specs.contracts.serving.serve_all.{K-row}
+use Rattle.grist_lanes.proofs.serving.serve_all.Lts as lts
+use Rattle.grist_lanes.proofs.serving.serve_all.Goals as goal
+
+pub for_each_mut-requires-send-T : goal.for_each_mut-requires-send-T
+for_each_mut-requires-send-T g c κs within = search (sendable, pass-send, core-send, crosses) depth 60
+
+pub for_each_mut-requires-sync-F : goal.for_each_mut-requires-sync-F
+for_each_mut-requires-sync-F g c κs within = param_sync 2 (lts.arg-3-2 g.row.R g.row.K g.row.P g.row.P-Conn g.R.laws g.K.laws g.P.laws g.P.Conn.laws g.R.Threads g.R.Threads-dict g.R.Wait g.R.Wait-dict g.K.Keeper g.K.Keeper-dict g.P.Port g.P.Port-dict g.P.Conn.Link g.P.Conn.Link-dict g.P.Conn.Source g.P.Conn.Source-dict g.P.Conn.Sink g.P.Conn.Sink-dict g.K.Destruct-dict g.P.Destruct-dict g.P.Conn.Destruct-dict κs) (record { shared = λ d b o. (lent-sync [] static static static _ κs.0 _ g.row.R global.the_row _ (given_sync _ g.row.R c.type_bounds.sync-R) heap-sync (core-gate-sync _ event.the_row entry.the_row given.the_row opening.the_row _ (core-machine.TheImpl.ghosts (K-row g.row.R g.row.K g.row.P g.row.P-Conn) g.K.Keeper g.K.Keeper-dict g.K.Destruct-dict) c.type_bounds.send-K)).shared d b o })

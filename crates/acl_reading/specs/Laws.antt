@@ -1,13 +1,13 @@
 -- What is let read of the document's own tables, where there are no rules, and of what is hidden.
-use Rattle.std.specs.Prelude.{◌≡◌, ℕ, true, false, List, [], Some, None}
+use Rattle.std.specs.Prelude.{◌≡◌, ℕ, true, false, List, [], Some, None, unwrap_or}
 use Rattle.doc_model.specs.MetadataIds.{is_schema_id}
 use Rattle.acl_formula.specs.declared.permissions.Perm.TheVariants as perm
 use Rattle.acl_formula.specs.RuleRow.{RuleRow}
 use Rattle.acl_rules.specs.declared.decision.Ctx.{Ctx}
 use Rattle.acl_rules.specs.Decided.{is_allowed_so}
-use Rattle.censored_view.specs.Readable.{by_rules, hidden, whole}
-use Rattle.acl_reading.specs.RulesLet.{is_owner, rules_let}
-use Rattle.acl_reading.specs.Shown.{is_bare_shown, is_cell_shown, is_column_shown}
+use Rattle.censored_view.specs.Readable.{IsAsRow, by_rules, hidden, whole}
+use Rattle.acl_reading.specs.RulesLet.{is_owner, rules_let, shown_of}
+use Rattle.acl_reading.specs.Shown.{has_own_rules, is_bare_shown, is_cell_shown, is_column_shown, own_answer}
 
 -- the schema tables are hidden from everybody
 abbrev pub SchemaLaw : Type 0
@@ -27,3 +27,14 @@ HiddenLaw = (x : Ctx) (table column : List ℕ) (row : RuleRow)
 abbrev pub BareLaw : Type 0
 BareLaw = (x : Ctx) (table : List ℕ) (row : RuleRow)
     → is_bare_shown x table ≡ false → is_cell_shown x table None row ≡ false
+
+-- where the rules that list a column decide nothing of a cell, it is read as its row alone is
+abbrev pub OwnAnswerLaw : Type 0
+OwnAnswerLaw = (x : Ctx) (table column : List ℕ) (row : RuleRow)
+    → is_cell_shown x table (Some column) row
+    ≡ unwrap_or (own_answer x table column row) (is_cell_shown x table None row)
+
+-- where no rule about reading lists a column, its cells are read as their rows alone are
+abbrev pub OwnLaw : Type 0
+OwnLaw = (x : Ctx) (table column : List ℕ)
+    → has_own_rules x table column ≡ false → IsAsRow (shown_of x table) column

@@ -1,6 +1,8 @@
-//! Which rules end the walk of a chain.
+//! Which rules end the walk of a chain, and which are about reading.
 
 ghost use Rattle.std.specs.Prelude.{◌≡◌};
+ghost use Rattle.acl_formula.specs.declared.permissions.Perm.TheVariants as perm;
+ghost use Rattle.acl_rules.specs.Decided.{mentions};
 ghost use Rattle.acl_reading.specs.Walk.{allows_reading, asks_row, built_in_shows, ends_walk};
 
 use acl_formula::{AttributeRow, Perm, UserInfo};
@@ -22,6 +24,13 @@ pub(crate) fn allows_reading(rule: &Rule) -> bool
     ensures { result ≡ allows_reading rule.now }
 {
     rule.permissions.allowed.has(Perm::R)
+}
+
+/// Whether the rule says something of reading.
+pub(crate) fn tells_of_reading(rule: &Rule) -> bool
+    ensures { result ≡ mentions perm.R rule.now.permissions }
+{
+    allows_reading(rule) || rule.permissions.denied.has(Perm::R)
 }
 
 /// Whether the rule ends the walk of a chain.

@@ -3,7 +3,9 @@
 ghost use Rattle.std.specs.Prelude.{◌≡◌};
 ghost use Rattle.acl_reading.specs.RulesLet.{is_owner, reach_of};
 
-use crate::shown::{is_bare_shown, is_cell_shown, is_column_shown, is_formula_shown};
+use crate::shown::{
+    has_own_rules, is_bare_shown, is_cell_shown, is_column_shown, is_formula_shown, own_answer,
+};
 use acl_formula::RowReader;
 use acl_rules::Ctx;
 use cell_types::Name;
@@ -79,6 +81,20 @@ impl Lets for RuleReading<'_> {
             Reach::Hidden => false,
             Reach::Whole => true,
             Reach::ByRules => is_formula_shown(self.ctx, table, column),
+        }
+    }
+
+    fn has_own_rules(&self, table: &Name, column: &Name) -> bool {
+        match reach_of(self.ctx, table) {
+            Reach::Hidden | Reach::Whole => false,
+            Reach::ByRules => has_own_rules(self.ctx, table, column),
+        }
+    }
+
+    fn own_answer<W: RowReader>(&self, table: &Name, column: &Name, row: &W) -> Option<bool> {
+        match reach_of(self.ctx, table) {
+            Reach::Hidden | Reach::Whole => None,
+            Reach::ByRules => own_answer(self.ctx, table, column, row),
         }
     }
 

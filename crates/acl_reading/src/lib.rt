@@ -7,7 +7,8 @@
 //! Promises: each question has the one answer of specs/Shown.antt, for each book of rules and each
 //! user, and takes no memory. A column is shown by the walk of its chain over the rules about
 //! reading: the first that ends the walk answers, and a rule that uses the row ends it only where
-//! it allows reading. A row's cell is read as `decide` says of the row. `RuleReading` is what all
+//! it allows reading. A row's cell is read as `decide` says of the row; where `has_own_rules` says
+//! no, as the row alone is. `RuleReading` is what all
 //! of it lets the user read of each table (specs/RulesLet.antt): nothing of the schema tables, and
 //! of the tables of the access rules everything if the user is an owner, else nothing.
 //! `reading_law`: what the walk does not show can be read in no row, and without rules owners and
@@ -16,6 +17,7 @@
 //! Read first: specs/Walk.antt and specs/Shown.antt, then walking.rt, shown.rt and letting.rt.
 #![tactic(auto)]
 
+mod cells;
 mod ending;
 mod laws;
 mod letting;
@@ -24,4 +26,6 @@ mod walking;
 
 pub use laws::reading_law;
 pub use letting::RuleReading;
-pub use shown::{is_bare_shown, is_cell_shown, is_column_shown, is_formula_shown};
+pub use shown::{
+    has_own_rules, is_bare_shown, is_cell_shown, is_column_shown, is_formula_shown, own_answer,
+};

@@ -1,10 +1,11 @@
 //! What a user may read under the rules in force.
 
-ghost use Rattle.std.specs.Prelude.{◌≡◌, None, option_map};
+ghost use Rattle.std.specs.Prelude.{◌≡◌, option_map};
 ghost use Rattle.acl_reading.specs.Walk.{allows};
-ghost use Rattle.acl_reading.specs.Shown.{is_bare_shown, is_cell_shown, is_column_shown, is_formula_shown};
+ghost use Rattle.acl_reading.specs.Shown.{has_own_rules, is_bare_shown, is_cell_shown, is_column_shown, is_formula_shown, own_answer};
 
-use crate::walking::{column_shows, table_shows};
+use crate::cells::{column_lets, column_reads, table_lets};
+use crate::walking::{column_shows, column_tells, table_shows};
 use acl_formula::{AttributeRow, Perm, RowReader};
 use acl_rules::{Ctx, Decision, decide};
 use cell_types::Name;
@@ -45,11 +46,25 @@ pub fn is_formula_shown(ctx: &Ctx, table: &Name, column: &Name) -> bool
     allows(decide::<AttributeRow>(ctx, Perm::S, Some(table), Some(column), None, None))
 }
 
-// No row, where one of this kind may be given.
-fn no_row<'a, W>(_row: &'a W) -> Option<&'a W>
-    ensures { result ≡ None }
+/// Whether a rule about reading lists the column. Where none does, its cells are read as their rows
+/// alone are (`reading_law`).
+///
+/// Memory: none. Cost: the rules that are about the table.
+pub fn has_own_rules(ctx: &Ctx, table: &Name, column: &Name) -> bool
+    ensures { result ≡ has_own_rules ctx.now table.now column.now }
 {
-    None
+    column_tells(&ctx.book, table.as_str(), column.as_str())
+}
+
+/// What the rules that list the column decide of its cell in the row. Where they decide nothing, it
+/// is read as the row alone is (`reading_law`).
+///
+/// Memory: none. Cost: the rules that are about the table; a formula is asked where its rule lists
+/// the column and says something of reading.
+pub fn own_answer<W: RowReader>(ctx: &Ctx, table: &Name, column: &Name, row: &W) -> Option<bool>
+    ensures { result ≡ own_answer ctx.now table.now column.now (W.told row.now) }
+{
+    column_reads(&ctx.book, table.as_str(), column.as_str(), &ctx.user, row)
 }
 
 /// Whether the rules let a row be read in a column, or in a table that has none.
@@ -59,5 +74,8 @@ pub fn is_cell_shown<W: RowReader>(ctx: &Ctx, table: &Name, column: Option<&Name
     ensures { result ≡ is_cell_shown ctx.now table.now
         (option_map (λ c. c.now) column.entry) (W.told row.now) }
 {
-    allows(decide(ctx, Perm::R, Some(table), column, Some(row), no_row(row)))
+    match column {
+        Some(column) => { column_lets(&ctx.book, table.as_str(), column.as_str(), &ctx.user, row) }
+        None => table_lets(&ctx.book, table.as_str(), &ctx.user, row),
+    }
 }

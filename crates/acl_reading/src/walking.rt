@@ -1,11 +1,13 @@
-//! The walk of a chain, part by part.
+//! The walk of a chain, part by part, and which columns rules about reading list.
 
 ghost use Rattle.std.specs.Prelude.{◌≡◌, Option, Some, None};
+ghost use Rattle.std.specs.List.{list_any};
 ghost use Rattle.acl_rules.specs.Chain.{chain_of, of_column, of_document, of_table, part_in, rules_of};
+ghost use Rattle.acl_reading.specs.Shown.{tells_of_reading};
 ghost use Rattle.acl_reading.specs.Walk.{first_end, is_shown_by};
-ghost use Rattle.acl_reading.specs.Walking.{end_among, end_at};
+ghost use Rattle.acl_reading.specs.Walking.{end_among, end_at, tells_at};
 
-use crate::ending::{allows_reading, built_in_shows, ends_walk};
+use crate::ending::{allows_reading, built_in_shows, ends_walk, tells_of_reading};
 use acl_formula::UserInfo;
 use acl_rules::{Part, RuleBook, is_of};
 
@@ -89,4 +91,33 @@ pub(crate) fn column_shows(book: &RuleBook, table: &str, column: &str, user: &Us
         Some(shows) => shows,
         None => table_shows(book, table, user),
     }
+}
+
+// Whether the rule at a place is of the part and says something of reading.
+fn tells_at(book: &RuleBook, place: usize, part: Part<'_>) -> bool
+    ensures { result ≡ tells_at (part_in part.entry) book.now place }
+{
+    let Some((rule, resource)) = book.rule_at(place) else {
+        return false;
+    };
+    is_of(part, resource) && tells_of_reading(rule)
+}
+
+fn tells_among(book: &RuleBook, places: &[usize], part: Part<'_>) -> bool
+    ensures { result ≡ list_any (tells_at (part_in part.entry) book.now) places.now }
+{
+    for place in places {
+        if tells_at(book, *place, part) {
+            return true;
+        }
+    }
+    false
+}
+
+/// Whether a rule about reading lists the column.
+pub(crate) fn column_tells(book: &RuleBook, table: &str, column: &str) -> bool
+    ensures { result
+        ≡ list_any tells_of_reading (rules_of (of_column table.now column.now) book.now) }
+{
+    tells_among(book, book.places_on(table), Part::Column(table, column))
 }

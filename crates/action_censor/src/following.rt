@@ -113,8 +113,8 @@ fn all_parts<X: Lets, D: DocReader>(
 /// it is. The touched tables are those of the bundle, the document is that after it.
 ///
 /// Errors: out of memory.
-/// Cost: a decision and a copy for each cell of the touched rows, before and after, and the squares
-/// of the touched tables and of each one's columns.
+/// Cost: that of `shown_rows` for the touched rows, before and after, and the squares of the
+/// touched tables and of each one's columns.
 pub fn follow<X: Lets, D: DocReader>(
     alloc: Global,
     ctx: &X,

@@ -10,8 +10,8 @@
 //! was before them. `told_law`: cells of other rows may hold anything.
 //! Not here: bundles that change the schema, or what a context lets be read.
 //! Costs: `touched_tables` the cells of the touched rows, and for each touched table the steps'
-//! cells and the rows that their actions name; `follow` a decision and a copy for each cell of the
-//! touched rows.
+//! cells and the rows that their actions name; `follow` what `shown_rows` of `censored_view` takes
+//! for the touched rows.
 //! Read first: specs/Back.antt, specs/TouchedTables.antt, touched_table.rt and following.rt.
 #![tactic(auto)]
 

@@ -1,5 +1,5 @@
 -- What a context lets a user read of one table.
-use Rattle.std.specs.Prelude.{ℕ, Bool, true, false, cond, ◌&&◌, List, Option, Some, None}
+use Rattle.std.specs.Prelude.{ℕ, Bool, true, false, cond, ◌&&◌, List, Option, Some, None, ◌≡◌}
 use Rattle.doc_model.specs.declared.column.ColDef.{ColDef}
 use Rattle.doc_model.specs.ByIds.{has_id}
 use Rattle.doc_model.specs.Column.{column_id}
@@ -23,6 +23,10 @@ pub record Readable : Type 0 where
   pub column : List ℕ → Bool
   pub formula : List ℕ → Bool
   pub cell : Option (List ℕ) → RuleRow → Bool
+
+-- whether each cell of a column is decided as its row alone
+abbrev pub IsAsRow : Readable → List ℕ → Type 0
+IsAsRow x column = (row : RuleRow) → x.cell (Some column) row ≡ x.cell None row
 
 -- all of it
 abbrev pub whole : Readable

@@ -11,9 +11,10 @@
 //! the same tell all changes of the views, also where the context changed for these tables. All
 //! rows go through `shown_rows`, and it alone censors cells.
 //! Not promised: what a context lets be read.
-//! Costs: a decision and a copy for each cell, and the squares of the tables and of each table's
-//! columns.
-//! Read first: specs/Readable.antt and specs/View.antt, then reading.rt, rows.rt and parts.rt.
+//! Costs: those of `shown_rows`, and the squares of the tables and of each table's columns. A row
+//! is decided once for all columns that have no rules of their own (`Lets::has_own_rules`).
+//! Read first: specs/Readable.antt and specs/View.antt, then reading.rt, ruled_columns.rt, rows.rt
+//! and parts.rt.
 #![tactic(auto)]
 
 mod columns;
@@ -24,6 +25,7 @@ mod questions;
 mod reading;
 mod row_lists;
 mod rows;
+mod ruled_columns;
 mod tables;
 mod whole;
 

@@ -91,8 +91,8 @@ pub(crate) fn part_tables<X: Lets, D: DocReader, S: Selection>(
 
 /// A part of what a context shows of a document.
 ///
-/// Errors: out of memory. Cost: a decision and a copy for each cell of the rows that the part takes
-/// up, the squares of its tables and of each one's columns, and a walk over the tables.
+/// Errors: out of memory. Cost: that of `shown_rows` for the rows that the part takes up, the
+/// squares of its tables and of each one's columns, and a walk over the tables.
 pub fn part<X: Lets, D: DocReader, S: Selection>(
     alloc: Global,
     ctx: &X,

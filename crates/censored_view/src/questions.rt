@@ -105,7 +105,7 @@ pub fn is_row_seen<X: Lets, D: DocReader>(ctx: &X, tables: &D, table: &Name, row
 
 /// A table as a context shows it, with all its rows; nothing where it is not there or not shown.
 ///
-/// Errors: out of memory. Cost: a decision and a copy for each cell, and the square of the columns.
+/// Errors: out of memory. Cost: that of `shown_rows`, and the square of the columns.
 pub fn seen_table<X: Lets, D: DocReader>(
     alloc: Global,
     ctx: &X,

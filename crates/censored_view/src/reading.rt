@@ -5,8 +5,8 @@ use cell_types::Name;
 
 /// What is in force for a user: what it lets the user read of each table.
 pub trait Lets {
-    ghost use Rattle.std.specs.Prelude.{◌≡◌, ℕ, List, option_map};
-    ghost use Rattle.censored_view.specs.Readable.{Readable};
+    ghost use Rattle.std.specs.Prelude.{◌≡◌, ℕ, List, None, Some, false, option_map, unwrap_or};
+    ghost use Rattle.censored_view.specs.Readable.{IsAsRow, Readable};
 
     /// What may be read of each table.
     ghost lets: { Self → List ℕ → Readable };
@@ -28,6 +28,21 @@ pub trait Lets {
     /// Memory: none.
     fn is_formula_shown(&self, table: &Name, column: &Name) -> bool
         ensures { result ≡ (lets self.now table.now).formula column.now };
+
+    /// Whether rules of its own may decide the cells of the column. Where none may, each of them is
+    /// decided as its row alone.
+    ///
+    /// Memory: none.
+    fn has_own_rules(&self, table: &Name, column: &Name) -> bool
+        ensures { result ≡ false → IsAsRow (lets self.now table.now) column.now };
+
+    /// What rules of its own decide of the column's cell in the row; where they decide nothing, the
+    /// cell is decided as the row alone.
+    ///
+    /// Memory: none.
+    fn own_answer<W: RowReader>(&self, table: &Name, column: &Name, row: &W) -> Option<bool>
+        ensures { (lets self.now table.now).cell (Some column.now) (W.told row.now)
+            ≡ unwrap_or result ((lets self.now table.now).cell None (W.told row.now)) };
 
     /// Whether the row may be read in the column, or in a table without shown columns.
     ///

@@ -1,12 +1,14 @@
 //! The rows of a table that are shown, and their cells. No other module censors a cell.
 
-ghost use Rattle.std.specs.Prelude.{◌≡◌, ◌++◌, ◌∷◌, [], Some, cond, map, unwrap_or, IfOk, OnOk};
+ghost use Rattle.std.specs.Prelude.{◌≡◌, ◌++◌, ◌∷◌, [], None, Some, cond, map, unwrap_or, IfOk, OnOk};
 ghost use Rattle.std.specs.List.{list_any};
 ghost use Rattle.cell_types.specs.declared.value.CellValue.TheVariants.{Null};
 ghost use Rattle.doc_model.specs.declared.view.ViewCol.{ViewCol};
+ghost use Rattle.censored_view.specs.Ruled.{AreRuled, IsRuled, columns_in};
 ghost use Rattle.censored_view.specs.View.{is_row_shown, shown_rows, shown_value};
 
 use crate::reading::Lets;
+use crate::ruled_columns::{RuledColumn, is_read_in, ruled_columns};
 use acl_formula::RowReader;
 use cell_types::{CellValue, Name, RowList, ValueList, copy_of};
 use doc_model::{CellRowList, ViewCol, ViewColList, ViewTable};
@@ -27,13 +29,16 @@ fn shown_value<X: Lets, W: RowReader>(
     ctx: &X,
     table: &Name,
     row: &W,
-    column: &ViewCol,
+    alone: bool,
+    column: &RuledColumn<'_>,
 ) -> Result<CellValue, AllocError>
+    requires ruled { IsRuled (X.lets ctx.now table.now) column.now }
+    requires alone { alone ≡ (X.lets ctx.now table.now).cell None (W.told row.now) }
     ensures { IfOk result (λ v. v
-        ≡ shown_value (X.lets ctx.now table.now) (W.told row.now) column.now) }
+        ≡ shown_value (X.lets ctx.now table.now) (W.told row.now) column.now.column.now) }
 {
-    if ctx.is_cell_shown(table, Some(&column.id), row) {
-        return value_in(row, &column.id);
+    if is_read_in(ctx, table, row, alone, column) {
+        return value_in(row, &column.column.id);
     }
     Ok(CellValue::Censored)
 }
@@ -42,15 +47,18 @@ fn row_cells<X: Lets, W: RowReader>(
     alloc: Global,
     ctx: &X,
     table: &Name,
-    columns: &[ViewCol],
+    columns: &[RuledColumn<'_>],
     row: &W,
+    alone: bool,
 ) -> Result<ValueList, AllocError>
+    requires ruled { AreRuled (X.lets ctx.now table.now) columns.now }
+    requires alone { alone ≡ (X.lets ctx.now table.now).cell None (W.told row.now) }
     ensures { IfOk result (λ l. l
-        ≡ map (shown_value (X.lets ctx.now table.now) (W.told row.now)) columns.now) }
+        ≡ map (shown_value (X.lets ctx.now table.now) (W.told row.now)) (columns_in columns.now)) }
 {
     let mut values = Vec::with_capacity(alloc, columns.len())?;
     for column in columns {
-        values.push(shown_value(ctx, table, row, column)?)?;
+        values.push(shown_value(ctx, table, row, alone, column)?)?;
     }
     Ok(ValueList::from(values))
 }
@@ -59,31 +67,39 @@ fn row_cells<X: Lets, W: RowReader>(
 fn is_read_in_any<X: Lets, W: RowReader>(
     ctx: &X,
     table: &Name,
-    columns: &[ViewCol],
+    columns: &[RuledColumn<'_>],
     row: &W,
+    alone: bool,
 ) -> bool
+    requires ruled { AreRuled (X.lets ctx.now table.now) columns.now }
+    requires alone { alone ≡ (X.lets ctx.now table.now).cell None (W.told row.now) }
     ensures { result ≡ list_any (λ (d : ViewCol).
-        (X.lets ctx.now table.now).cell (Some d.id) (W.told row.now)) columns.now }
+        (X.lets ctx.now table.now).cell (Some d.id) (W.told row.now)) (columns_in columns.now) }
 {
-    columns
-        .iter()
-        .any(|column| ctx.is_cell_shown(table, Some(&column.id), row))
+    for column in columns {
+        if is_read_in(ctx, table, row, alone, column) {
+            return true;
+        }
+    }
+    false
 }
 
-/// Whether a row is shown in a table of these shown columns.
-///
-/// Memory: none. Cost: a decision for each column, up to the first that shows it.
-pub(crate) fn is_row_shown<X: Lets, W: RowReader>(
+// Whether a row is shown in a table of these shown columns.
+fn is_row_shown<X: Lets, W: RowReader>(
     ctx: &X,
     table: &Name,
-    columns: &[ViewCol],
+    columns: &[RuledColumn<'_>],
     row: &W,
+    alone: bool,
 ) -> bool
-    ensures { result ≡ is_row_shown (X.lets ctx.now table.now) columns.now (W.told row.now) }
+    requires ruled { AreRuled (X.lets ctx.now table.now) columns.now }
+    requires alone { alone ≡ (X.lets ctx.now table.now).cell None (W.told row.now) }
+    ensures { result
+        ≡ is_row_shown (X.lets ctx.now table.now) (columns_in columns.now) (W.told row.now) }
 {
     match columns {
-        [] => ctx.is_cell_shown(table, None, row),
-        _ => is_read_in_any(ctx, table, columns, row),
+        [] => alone,
+        _ => is_read_in_any(ctx, table, columns, row, alone),
     }
 }
 
@@ -99,19 +115,22 @@ fn show_row<X: Lets, W: RowReader>(
     alloc: Global,
     ctx: &X,
     table: &Name,
-    columns: &[ViewCol],
+    columns: &[RuledColumn<'_>],
     row: &W,
     shown: &mut Shown,
 ) -> Result<(), AllocError>
-    ensures rows { OnOk result (shown.new.rows.items ≡ shown.old.rows.items
-        ++ cond (is_row_shown (X.lets ctx.now table.now) columns.now (W.told row.now))
+    requires { AreRuled (X.lets ctx.now table.now) columns.now }
+    ensures rows { OnOk result (shown.new.rows.items ≡ shown.old.rows.items ++ cond
+        (is_row_shown (X.lets ctx.now table.now) (columns_in columns.now) (W.told row.now))
         ((W.told row.now).id ∷ []) []) }
-    ensures cells { OnOk result (shown.new.cells.items ≡ shown.old.cells.items
-        ++ cond (is_row_shown (X.lets ctx.now table.now) columns.now (W.told row.now))
-        (map (shown_value (X.lets ctx.now table.now) (W.told row.now)) columns.now ∷ []) []) }
+    ensures cells { OnOk result (shown.new.cells.items ≡ shown.old.cells.items ++ cond
+        (is_row_shown (X.lets ctx.now table.now) (columns_in columns.now) (W.told row.now))
+        (map (shown_value (X.lets ctx.now table.now) (W.told row.now)) (columns_in columns.now)
+        ∷ []) []) }
 {
-    if is_row_shown(ctx, table, columns, row) {
-        let cells = row_cells(alloc, ctx, table, columns, row)?;
+    let alone = ctx.is_cell_shown(table, None, row);
+    if is_row_shown(ctx, table, columns, row, alone) {
+        let cells = row_cells(alloc, ctx, table, columns, row, alone)?;
         shown.cells.push(cells)?;
         shown.rows.push(row.id())?;
     }
@@ -130,19 +149,21 @@ fn show_rows<X: Lets, W: RowReader>(
     ensures cells { IfOk result (λ s. s.cells.items ≡ (shown_rows (X.lets ctx.now table.now)
         table.now columns.now (map W.told rows.now)).cells) }
 {
+    let ruled = ruled_columns(alloc, ctx, table, columns)?;
     let mut shown = Shown {
         rows: Vec::new(alloc),
         cells: Vec::new(alloc),
     };
     for row in rows {
-        show_row(alloc, ctx, table, columns, row, &mut shown)?;
+        show_row(alloc, ctx, table, ruled.as_slice(), row, &mut shown)?;
     }
     Ok(shown)
 }
 
 /// A table of these shown columns, made of rows: those that are shown, each with its cells.
 ///
-/// Errors: out of memory. Cost: a decision and a copy for each cell.
+/// Errors: out of memory. Cost: a decision for each row, and one for each of its cells in columns
+/// with rules of their own; a copy for each cell that is shown.
 pub fn shown_rows<X: Lets, W: RowReader>(
     alloc: Global,
     ctx: &X,

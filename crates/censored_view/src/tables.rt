@@ -50,8 +50,7 @@ pub fn put_seen(tables: &mut Vec<ViewTable>, table: Option<ViewTable>) -> Result
 
 /// What is seen of a table, made of these of its rows: nothing where it is not there or not shown.
 ///
-/// Errors: out of memory. Cost: a decision and a copy for each cell of these rows, and the square
-/// of the table's columns.
+/// Errors: out of memory. Cost: that of `shown_rows`, and the square of the table's columns.
 pub fn seen_part<X: Lets, D: DocReader>(
     alloc: Global,
     ctx: &X,

@@ -39,7 +39,7 @@ impl Selection for Everything {
 
 /// What a context shows of a document.
 ///
-/// Errors: out of memory. Cost: a decision and a copy for each cell, and the squares of the tables
+/// Errors: out of memory. Cost: that of `shown_rows` for each table, and the squares of the tables
 /// and of each table's columns.
 pub fn whole_view<X: Lets, D: DocReader>(
     alloc: Global,

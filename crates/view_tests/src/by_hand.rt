@@ -55,6 +55,15 @@ impl Lets for ByHand {
         !is_schema_id(table.as_str()) && column.as_str() != self.closed.as_str()
     }
 
+    #[tactic(auto, using(crate::proofs::ByHandLemmas::unguarded))]
+    fn has_own_rules(&self, _table: &Name, column: &Name) -> bool {
+        column.as_str() == self.guarded.as_str()
+    }
+
+    fn own_answer<W: RowReader>(&self, table: &Name, column: &Name, row: &W) -> Option<bool> {
+        Some(self.is_cell_shown(table, Some(column), row))
+    }
+
     fn is_cell_shown<W: RowReader>(&self, table: &Name, column: Option<&Name>, row: &W) -> bool {
         !is_schema_id(table.as_str()) && (!guards(self, column) || is_true(row.cell(&self.key)))
     }

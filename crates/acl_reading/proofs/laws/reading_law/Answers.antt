@@ -1,5 +1,5 @@
 use Rattle.acl_reading.proofs.HiddenLemmas.{bare_hidden, column_hidden}
-use Rattle.acl_reading.proofs.LawLemmas.{schema_hidden, without_rules}
+use Rattle.acl_reading.proofs.LawLemmas.{answer_alone, own_alone, schema_hidden, without_rules}
 use Rattle.acl_reading.proofs.laws.reading_law.Goals as goal
 
 pub returns : goal.returns
@@ -8,4 +8,6 @@ returns c = record {
   no_rules = without_rules;
   hidden = column_hidden;
   bare = bare_hidden;
+  own = own_alone;
+  own_answer = answer_alone;
 }

@@ -1,0 +1,5 @@
+mod TakenLemmas
+mod RefreshedLemmas
+mod NamedLemmas
+pub mod SamePlaces
+pub mod HeldNone

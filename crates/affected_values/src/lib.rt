@@ -1,0 +1,26 @@
+//! Values of affected cells: taken out of their places, found anew, and put back.
+//!
+//! Stands on `recalc` (evaluated cells, and how one is found), `affected_search` and `dep_graph`
+//! (the cells that an action affects), `affected_cells` (laws of actions), `doc_readers`,
+//! `doc_model` and `cell_types`. Nothing uses it yet: it is for a document that
+//! evaluates again only what a change touches.
+//!
+//! Promises: `refresh_values` evaluates some cells anew where the values of all other formula cells
+//! are known and right; then each formula cell has its value, and what was known before is handed
+//! out. Where memory runs out each value is as it was. `put_values_back` leads back, without
+//! memory. Over an update the values of cells that are not found are right still, at the places at
+//! which they stood (`left_right_law`, `same_places_law`); `named_cells` tells the found ones.
+//! Not promised: that only found cells are named; how many attempts are made; anything where rows
+//! come or go.
+//! Read first: specs/Taken.antt, then refreshing.rt.
+#![tactic(auto)]
+
+mod laws;
+mod naming;
+mod refreshing;
+mod taking;
+
+pub use laws::{left_right_law, same_places_law};
+pub use naming::named_cells;
+pub use refreshing::refresh_values;
+pub use taking::{HeldValue, is_formula_cell, put_values_back};

@@ -1,0 +1,63 @@
+//! Cells that were found by numbers, by name.
+
+ghost use Rattle.std.specs.Prelude.{◌≡◌, Some, true, IfOk, OnOk};
+ghost use Rattle.cell_types.specs.declared.cell.CellId.{CellId};
+ghost use Rattle.dep_graph.specs.Sources.{cell_in};
+ghost use Rattle.recalc.specs.Stack.{on};
+ghost use Rattle.affected_search.specs.Sheets.{is_found};
+
+use affected_search::AffectedCells;
+use cell_types::CellId;
+use dep_graph::{CellNumber, DepGraph};
+use recalc::cell_id;
+use std::alloc::{AllocError, Global};
+
+// The cell of a number, where there is one.
+fn cell_of_number(graph: &DepGraph, number: CellNumber) -> Result<Option<CellId>, AllocError>
+    ensures { IfOk result
+        (λ o. (c : CellId) → cell_in graph.now.names c ≡ Some number → o ≡ Some c) }
+{
+    let Some(table) = graph.name(number.column.table) else {
+        return Ok(None);
+    };
+    let Some(column) = graph.name(number.column.column) else {
+        return Ok(None);
+    };
+    Ok(Some(cell_id(table, column, number.row)?))
+}
+
+// Puts the cell of a number last, where there is one.
+fn push_named(
+    named: &mut Vec<CellId>,
+    graph: &DepGraph,
+    number: CellNumber,
+) -> Result<(), AllocError>
+    ensures stays { OnOk result
+        ((c : CellId) → on named.old.items c ≡ true → on named.new.items c ≡ true) }
+    ensures named { OnOk result ((c : CellId) → cell_in graph.now.names c ≡ Some number
+        → on named.new.items c ≡ true) }
+{
+    if let Some(cell) = cell_of_number(graph, number)? {
+        named.push(cell)?;
+    }
+    Ok(())
+}
+
+/// The cells that were found, by name.
+///
+/// Errors: out of memory. Memory: the cells. Cost: linear in the cells.
+pub fn named_cells(
+    alloc: Global,
+    graph: &DepGraph,
+    found: &AffectedCells,
+) -> Result<Vec<CellId>, AllocError>
+    ensures { IfOk result (λ v. (c : CellId) → is_found graph.now found.now c ≡ true
+        → on v.items c ≡ true) }
+{
+    let mut named = Vec::new(alloc);
+    let cells = found.cells();
+    for number in cells {
+        push_named(&mut named, graph, *number)?;
+    }
+    Ok(named)
+}

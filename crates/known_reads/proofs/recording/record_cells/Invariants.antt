@@ -1,0 +1,10 @@
+use Rattle.recalc.specs.Evaluated.{sheet_of}
+use Rattle.recalc.proofs.Progress.{EachOf}
+use Rattle.known_reads.specs.Known.{IsReadWhere, KeepsReads}
+use Rattle.known_reads.proofs.recording.record_cells.Given as goal
+
+abbrev pub invariant-loop-cell : goal.invariant-loop-cell
+invariant-loop-cell g l = record {
+  keeps : KeepsReads (sheet_of (g.D.DocReader.document l.tables)) l.initial.graph l.graph;
+  read : EachOf (IsReadWhere (g.D.DocReader.document l.tables) l.graph) l.cells l.cell-index;
+}

@@ -196,7 +196,8 @@ fn access_of(user: &User) -> &str {
     }
 }
 
-fn is_shown_user(alloc: Global, user: &User, want: &str) -> bool {
+/// Whether the user is the wanted one: name, email, number, token, and access or `-`.
+pub fn is_shown_user(alloc: Global, user: &User, want: &str) -> bool {
     let (name, email, token) = (user.name.as_str(), user.email.as_str(), user.token.as_str());
     let access = access_of(user);
     is_text(

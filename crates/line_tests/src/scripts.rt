@@ -42,10 +42,7 @@ fn shown(alloc: Global, session: &Name, request: &Request) -> Result<String, All
 
 fn is_asked(alloc: Global, entry: &Entry, frame: &Frame) -> bool {
     match shown(alloc, &frame.session, &frame.request) {
-        Ok(want) => is_text(
-            &shown(alloc, &entry.session, &entry.request),
-            want.as_str(),
-        ),
+        Ok(want) => is_text(&shown(alloc, &entry.session, &entry.request), want.as_str()),
         Err(_) => false,
     }
 }

@@ -44,10 +44,12 @@ fn served_by_two<R: Threads + Wait + Sync>(rt: &R, alloc: Global) -> Result<Shar
     let second = Vec::from_slice(alloc, SECOND.as_bytes())?;
     let mut ports = two_ports(alloc, first, second)?;
     match serve_lanes(rt, alloc, new_core(alloc)?, &mut ports) {
-        Ok(Served {
-            core,
-            connections: _,
-        }) => Ok(Shared {
+        Ok(
+            Served {
+                core,
+                connections: _,
+            },
+        ) => Ok(Shared {
             ports,
             history: core.finish().history,
         }),

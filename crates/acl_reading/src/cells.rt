@@ -4,20 +4,29 @@
 ghost use Rattle.std.specs.Prelude.{◌≡◌, None, Some, option_map};
 ghost use Rattle.acl_formula.specs.declared.permissions.Perm.TheVariants as perm;
 ghost use Rattle.acl_rules.specs.Chain.{chain_of, of_column, of_document, of_table, part_in, rules_of};
-ghost use Rattle.acl_rules.specs.Decided.{decision_in, first_answer};
+ghost use Rattle.acl_rules.specs.Decided.{decides, decision_in, first_answer};
 ghost use Rattle.acl_reading.specs.Shown.{reading_row};
 ghost use Rattle.acl_reading.specs.Walk.{allows};
 ghost use Rattle.acl_reading.specs.Walking.{reads_among, reads_at};
 
 use crate::ending::{built_in_shows, tells_of_reading};
 use acl_formula::{Perm, RowReader, UserInfo};
-use acl_rules::{Part, RuleBook, decides, is_of};
+use acl_rules::{Part, Rule, RuleBook, decides, is_of};
 
 /// No row, where one of this kind may be given.
 pub(crate) fn no_row<'a, W>(_row: &'a W) -> Option<&'a W>
     ensures { result ≡ None }
 {
     None
+}
+
+// Whether the rule decides reading of the row. Not inlined: the place for a large formula is paid
+// for at entry, and rules that are passed over need none.
+#[inline(never)]
+fn decides_reading<W: RowReader>(rule: &Rule, user: &UserInfo, row: &W) -> bool
+    ensures { result ≡ decides (reading_row user.now (W.told row.now)) perm.R rule.now }
+{
+    decides(Perm::R, rule, user, Some(row), no_row(row))
 }
 
 // What the rule at a place decides of the row, where it is of the part. What takes least is asked
@@ -38,7 +47,7 @@ fn reads_at<W: RowReader>(
     if !tells_of_reading(rule) || !is_of(part, resource) {
         return None;
     }
-    if decides(Perm::R, rule, user, Some(row), no_row(row)) {
+    if decides_reading(rule, user, row) {
         return Some(!rule.permissions.denied.has(Perm::R));
     }
     None

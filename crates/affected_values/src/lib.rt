@@ -20,7 +20,7 @@ mod naming;
 mod refreshing;
 mod taking;
 
-pub use laws::{left_right_law, same_places_law};
+pub use laws::{leads_over_law, left_right_law, same_places_law, way_back_law};
 pub use naming::named_cells;
 pub use refreshing::refresh_values;
 pub use taking::{HeldValue, is_formula_cell, put_values_back};

@@ -2,4 +2,5 @@ mod TakenLemmas
 mod RefreshedLemmas
 mod NamedLemmas
 pub mod SamePlaces
+mod WaysBack
 pub mod HeldNone

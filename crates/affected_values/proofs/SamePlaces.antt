@@ -53,6 +53,7 @@ module _ (id : List ℕ) (rows : List ℕ) (ks : List CellColumn) where
   places_after : (s : Document) (kept : List KeptTable) → HasSamePlaces s (after id rows ks s) kept
   places_after s kept = record {
     of_document = λ h. h ∙ sym (same_shapes s);
+    back = λ h. h ∙ same_shapes s;
     held = λ c. ap (λ rs. held_table rs c.column c.row (find_id kept_table_id c.table kept)) (rows_same s c.table);
   }
 
@@ -60,7 +61,7 @@ pub same_places : SamePlacesLaw
 same_places s t rows ks kept =
     elim (valid s (BulkUpdate t rows ks)) as (λ b. HasSamePlaces s (cond b (with_table t (on_grid (update_rows column_id rows ks)) s) s) kept) [
       | true ↦ places_after t rows ks s kept
-      | false ↦ record { of_document = λ h. h; held = λ c. refl }
+      | false ↦ record { of_document = λ h. h; back = λ h. h; held = λ c. refl }
     ]
 
 -- ---- values that are right still

@@ -16,9 +16,10 @@ use Rattle.affected_search.specs.Actions.{KeepsOthers}
 use Rattle.affected_search.specs.Sheets.{HoldsReads, is_found}
 use Rattle.affected_values.specs.Taken.{IsRightBut}
 
--- of what is kept before an update each value stands in the same cell after it
+-- what is kept of one document is kept of the other, each value in the same cell
 pub record HasSamePlaces (s t : Document) (kept : List KeptTable) : Type 0 where
   pub of_document : IsKeptOf s kept → IsKeptOf t kept
+  pub back : IsKeptOf t kept → IsKeptOf s kept
   pub held : (c : CellId) → held_at t kept c ≡ held_at s kept c
 
 abbrev pub SamePlacesLaw : Type 0

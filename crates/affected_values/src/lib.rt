@@ -2,14 +2,15 @@
 //!
 //! Stands on `recalc` (evaluated cells, and how one is found), `affected_search` and `dep_graph`
 //! (the cells that an action affects), `affected_cells` (laws of actions), `doc_readers`,
-//! `doc_model` and `cell_types`. Nothing uses it yet: it is for a document that
-//! evaluates again only what a change touches.
+//! `doc_model` and `cell_types`. Used by `known_reads`, and by nothing in the program yet: it is
+//! for a document that evaluates again only what a change touches.
 //!
 //! Promises: `refresh_values` evaluates some cells anew where the values of all other formula cells
 //! are known and right; then each formula cell has its value, and what was known before is handed
 //! out. Where memory runs out each value is as it was. `put_values_back` leads back, without
 //! memory. Over an update the values of cells that are not found are right still, at the places at
-//! which they stood (`left_right_law`, `same_places_law`); `named_cells` tells the found ones.
+//! which they stood (`left_right_law`, `same_places_law`); `named_cells` tells the found ones, and
+//! what was handed out leads back over the update (`leads_over_law`, `way_back_law`).
 //! Not promised: that only found cells are named; how many attempts are made; anything where rows
 //! come or go.
 //! Read first: specs/Taken.antt, then refreshing.rt.
@@ -20,7 +21,7 @@ mod naming;
 mod refreshing;
 mod taking;
 
-pub use laws::{left_right_law, same_places_law};
+pub use laws::{leads_over_law, left_right_law, same_places_law, way_back_law};
 pub use naming::named_cells;
 pub use refreshing::refresh_values;
 pub use taking::{HeldValue, is_formula_cell, put_values_back};

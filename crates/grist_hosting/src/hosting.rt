@@ -112,7 +112,8 @@ fn host<R: Threads + Wait + Sync, S: Source, O: Sink, K: Keeper + Send, P: Port 
     requires home { All (λ p. (P.state p).lent ≡ false) ports.old.items }
     ensures usage { result.status ≡ Status.Usage → ⊥ }
     ensures at { result.at ≡ place_of result.status }
-    ensures serve { IsHosting (telling P.Conn.left P.Conn.written P.Conn.Source.faults P.Conn.Sink.faults)
+    ensures serve { IsHosting
+        (telling P.Conn.left P.Conn.written P.Conn.Source.faults P.Conn.Sink.faults)
         result.status (S.left input.old) (S.left input.new) result.history
         (O.written out.old) (O.written out.new) (O.faults out.old) (O.faults out.new)
         (K.records keeper) (K.records result.keeper)

@@ -40,28 +40,44 @@ struct Outside {
     conns: u32,
 }
 
+impl Outside {
+    // No ports, and no document in a file but the named one.
+    fn without_ports(doc: Option<Name>) -> Self {
+        Outside {
+            doc,
+            lanes: 0,
+            port: 0,
+            conns: 0,
+        }
+    }
+}
+
+fn outside_for(plan: Plan) -> Outside {
+    match plan {
+        Plan::Replay { doc, watch: _watch } => Outside::without_ports(doc),
+        Plan::Serve {
+            lanes,
+            port,
+            conns,
+            doc,
+            watch: _watch,
+        } => Outside {
+            doc,
+            lanes,
+            port,
+            conns,
+        },
+        Plan::Gen { n: _n } => Outside::without_ports(None),
+    }
+}
+
 // The run itself refuses words of no form.
 fn outside_of(alloc: Global, words: &[String]) -> Result<Outside, AllocError> {
-    let (doc, lanes, port, conns) = match plan(alloc, words) {
-        Ok(Plan::Replay { doc, .. }) => (doc, 0, 0, 0),
-        Ok(
-            Plan::Serve {
-                lanes,
-                port,
-                conns,
-                doc,
-                watch: _,
-            },
-        ) => (doc, lanes, port, conns),
-        Ok(Plan::Gen { .. }) | Err(PlanFault::Usage) => (None, 0, 0, 0),
-        Err(PlanFault::NoMemory) => return Err(AllocError),
-    };
-    Ok(Outside {
-        doc,
-        lanes,
-        port,
-        conns,
-    })
+    match plan(alloc, words) {
+        Ok(plan) => Ok(outside_for(plan)),
+        Err(PlanFault::Usage) => Ok(Outside::without_ports(None)),
+        Err(PlanFault::NoMemory) => Err(AllocError),
+    }
 }
 
 // A listener on a port of this machine alone, where it could be bound.

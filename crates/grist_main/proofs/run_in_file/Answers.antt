@@ -3,5 +3,5 @@ use denote.Param.Send.{sendable}
 use Rattle.grist_main.proofs.KeeperCrossing.{keeper-send}
 use Rattle.grist_main.proofs.run_in_file.Goals as goal
 
-pub run_over-requires-send-K : goal.run_over-requires-send-K
-run_over-requires-send-K g c κs = search (sendable, keeper-send, crosses) depth 60
+pub run_over-status-requires-send-K : goal.run_over-status-requires-send-K
+run_over-status-requires-send-K g c κs = search (sendable, keeper-send, crosses) depth 60

@@ -1,21 +1,29 @@
-//! The program: a run over its words, standard input and standard output, and over the file of the
-//! document that the words name.
+//! The program: a run over its words, standard input and standard output, the ports that the words
+//! ask for, and the file of the document that they name.
 //!
-//! Stands on `run_words` (which document), `grist_run`, which says what is written for what is
-//! read, `io_edges`, and `file_keeper` and `doc_keeper`, which keep records in a file or in memory.
+//! Stands on `run_words` (which document and which ports), `grist_hosting`, which says what is
+//! written for what is read, `io_edges`, and `file_keeper` and `doc_keeper`, which keep records in
+//! a file or in memory.
 //!
 //! Promises: none beyond those of the run.
 //! Not promised: that standard input and output pass bytes on, nor what a file holds.
 #![tactic(auto)]
 
+ghost use Rattle.std.specs.Prelude.{◌≡◌, All, IfOk, false};
+
 use cell_types::Name;
 use doc_keeper::{Keeper, SureKeeper};
 use file_keeper::SqliteKeeper;
-use grist_run::{Outcome, Status, run};
-use io_edges::{StdSink, StdSource};
+use grist_hosting::run;
+use grist_run::{Outcome, Status};
+use io_edges::{StdSink, StdSource, TcpPort};
 use run_words::{Plan, PlanFault, plan};
 use std::alloc::{AllocError, Global};
+use std::marker::Send;
+use std::net::{Ipv4Addr, Net, TcpListener, TcpStream};
 use std::process::ExitCode;
+use std::sync::Wait;
+use std::thread::Threads;
 use std::{env, io};
 
 // The words behind the program's own name.
@@ -23,41 +31,140 @@ fn words_of(rt: &HostRuntime) -> io::Result<Vec<String>> {
     Ok(env::args(rt)?.skip(1).collect(rt.alloc())?)
 }
 
-// The name of the kept document that the words ask for. The run itself refuses words of no form.
-fn doc_of(alloc: Global, words: &[String]) -> Result<Option<Name>, AllocError> {
+// What of the outside the words ask for: the name of a kept document, and ports.
+#[derive(Drop)]
+struct Outside {
+    doc: Option<Name>,
+    lanes: u32,
+    port: u16,
+    conns: u32,
+}
+
+impl Outside {
+    // No ports, and no document in a file but the named one.
+    fn without_ports(doc: Option<Name>) -> Self {
+        Outside {
+            doc,
+            lanes: 0,
+            port: 0,
+            conns: 0,
+        }
+    }
+}
+
+fn outside_for(plan: Plan) -> Outside {
+    match plan {
+        Plan::Replay { doc, watch: _watch } => Outside::without_ports(doc),
+        Plan::Serve {
+            lanes,
+            port,
+            conns,
+            doc,
+            watch: _watch,
+        } => Outside {
+            doc,
+            lanes,
+            port,
+            conns,
+        },
+        Plan::Gen { n: _n } => Outside::without_ports(None),
+    }
+}
+
+// The run itself refuses words of no form.
+fn outside_of(alloc: Global, words: &[String]) -> Result<Outside, AllocError> {
     match plan(alloc, words) {
-        Ok(Plan::Replay { doc, .. }) => Ok(doc),
-        Ok(_) | Err(PlanFault::Usage) => Ok(None),
+        Ok(plan) => Ok(outside_for(plan)),
+        Err(PlanFault::Usage) => Ok(Outside::without_ports(None)),
         Err(PlanFault::NoMemory) => Err(AllocError),
     }
 }
 
-fn run_over<K: Keeper>(rt: &HostRuntime, words: &[String], keeper: K) -> Outcome<K> {
-    let mut input = StdSource::new(rt.stdin());
-    let mut out = StdSink::new(rt.stdout());
-    run(rt.alloc(), words, &mut input, &mut out, keeper)
+// A listener on a port of this machine alone, where it could be bound.
+fn listener_on<R: Net<Listener = TcpListener, Stream = TcpStream>>(
+    rt: &R,
+    port: u32,
+) -> Option<TcpListener> {
+    let Ok(port) = u16::try_from(port) else {
+        return None;
+    };
+    TcpListener::bind(rt, (Ipv4Addr::LOCALHOST, port)).ok()
+}
+
+// A port of each lane, one after the other. One that could not be bound fails at its first
+// connection.
+fn ports_of<R: Net<Listener = TcpListener, Stream = TcpStream>>(
+    rt: &R,
+    alloc: Global,
+    outside: &Outside,
+) -> Result<Vec<TcpPort<TcpListener>>, AllocError>
+    ensures { IfOk result (λ v. All (λ p. p.lent ≡ false) v.items) }
+{
+    let mut ports = Vec::new(alloc);
+    for lane in 0..outside.lanes {
+        let listener = listener_on(rt, u32::from(outside.port).saturating_add(lane));
+        ports.push(TcpPort::new(listener, outside.conns))?;
+    }
+    Ok(ports)
+}
+
+fn run_over<R: Threads + Wait + Sync, K: Keeper + Send>(
+    rt: &R,
+    host: &HostRuntime,
+    words: &[String],
+    mut ports: Vec<TcpPort<TcpListener>>,
+    keeper: K,
+) -> Outcome<K>
+    requires { All (λ p. p.lent ≡ false) ports.items }
+{
+    let mut input = StdSource::new(host.stdin());
+    let mut out = StdSink::new(host.stdout());
+    run(
+        rt,
+        host.alloc(),
+        words,
+        &mut input,
+        &mut out,
+        keeper,
+        &mut ports,
+    )
 }
 
 // A run over the file of that document. Whether or not closing it joins the file with its log, both
 // together have what was kept.
-fn run_in_file(rt: &HostRuntime, words: &[String], doc: &Name) -> Result<Status, AllocError> {
-    let mut path = String::from_str(rt.alloc(), doc.as_str())?;
+fn run_in_file<R: Threads + Wait + Sync>(
+    rt: &R,
+    host: &HostRuntime,
+    words: &[String],
+    ports: Vec<TcpPort<TcpListener>>,
+    doc: &Name,
+) -> Result<Status, AllocError>
+    requires { All (λ p. p.lent ≡ false) ports.items }
+{
+    let mut path = String::from_str(host.alloc(), doc.as_str())?;
     path.push_str(".grist")?;
-    let keeper = SqliteKeeper::open(rt, path.as_str());
+    let keeper = SqliteKeeper::open(host, path.as_str());
     let Outcome {
         status,
         at: _,
         history: _,
         keeper,
-    } = run_over(rt, words, keeper);
+    } = run_over(rt, host, words, ports, keeper);
     let _ = keeper.close();
     Ok(status)
 }
 
-fn status_of(rt: &HostRuntime, words: &[String]) -> Result<Status, AllocError> {
-    match doc_of(rt.alloc(), words)? {
-        Some(doc) => run_in_file(rt, words, &doc),
-        None => Ok(run_over(rt, words, SureKeeper::new(rt.alloc())).status),
+fn status_of<R: Threads + Wait + Net<Listener = TcpListener, Stream = TcpStream> + Sync>(
+    rt: &R,
+    host: &HostRuntime,
+    words: &[String],
+) -> Result<Status, AllocError> {
+    let alloc = host.alloc();
+    let outside = outside_of(alloc, words)?;
+    let ports = ports_of(rt, alloc, &outside)?;
+    match &outside.doc {
+        Some(doc) => run_in_file(rt, host, words, ports, doc),
+        None => Ok(run_over(rt, host, words, ports, SureKeeper::new(alloc)).status),
     }
 }
 
@@ -65,7 +172,7 @@ fn main(rt: HostRuntime) -> ExitCode {
     let Ok(words) = words_of(&rt) else {
         return ExitCode::from(Status::NoMemory.code());
     };
-    match status_of(&rt, words.as_slice()) {
+    match status_of(&rt, &rt, words.as_slice()) {
         Ok(status) => ExitCode::from(status.code()),
         Err(_) => ExitCode::from(Status::NoMemory.code()),
     }

@@ -124,7 +124,7 @@ module _ (l m w : Option (List ℕ)) where
   run_heard (BadStore number) r = absurd r
   run_heard TurnsSpent r = (r.0, heard r.0 TurnsSpent r.1)
   run_heard PortFault r = absurd r
-  run_heard HistoryFull r = (r.0, heard r.0 HistoryFull r.1)
+  run_heard HistoryFull r = absurd r
 
 -- out of memory before anything was read
 pub run_none : (l w : Option (List ℕ)) → IsRun [] new_document NoMemory l l [] w w

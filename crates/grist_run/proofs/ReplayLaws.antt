@@ -76,7 +76,7 @@ module _ (l m w : Option (List ℕ)) (told now : Option (List (List ℕ))) (same
   heard_replays (BadStore number) e le = absurd e
   heard_replays TurnsSpent e le = let r = run_heard l m w TurnsSpent e in unopened r.0 TurnsSpent refl r.1 (least (before + 0) last after (omega (arith, le)))
   heard_replays PortFault e le = absurd e
-  heard_replays HistoryFull e le = let r = run_heard l m w HistoryFull e in unopened r.0 HistoryFull refl r.1 (least (before + 0) last after (omega (arith, le)))
+  heard_replays HistoryFull e le = absurd e
 
   -- the core did not start
   pub start_replays : (users : List User) (c : StartCause) → IsRun users new_document (start_status c) l m [] w w → before ≤ after → (c ≡ cause.StoreFault → Rose before after) → Replays (start_status c) l m [] w w told now before after

@@ -7,7 +7,7 @@ use Rattle.io_edges.specs.Reading.{LineState}
 use Rattle.io_edges.specs.declared.line_reader.NextLine.{NextLine}
 use Rattle.io_edges.specs.declared.line_reader.NextLine.TheVariants as next
 use Rattle.grist_run.specs.declared.status.Status.{Status}
-use Rattle.grist_run.specs.declared.status.Status.TheVariants.{Done, Usage, WriteFault, StoreFault, BadStore, PortFault}
+use Rattle.grist_run.specs.declared.status.Status.TheVariants.{Done, Usage, WriteFault, StoreFault, BadStore, PortFault, HistoryFull}
 use Rattle.grist_run.specs.declared.user_lines.Heard.{Heard}
 use Rattle.grist_run.specs.declared.user_lines.Heard.TheVariants as heard
 use Rattle.grist_run.specs.declared.user_lines.Front.{Front}
@@ -88,6 +88,7 @@ EndsHearing WriteFault l l' = ⊥
 EndsHearing StoreFault l l' = ⊥
 EndsHearing (BadStore number) l l' = ⊥
 EndsHearing PortFault l l' = ⊥
+EndsHearing HistoryFull l l' = ⊥
 EndsHearing status l l' =
     (users : List User) × Runs Nothing Nothing users new_document status l l' []
 

@@ -1,0 +1,4 @@
+mod SendLemmas
+mod AloneLemmas
+mod HostLemmas
+mod RunLemmas

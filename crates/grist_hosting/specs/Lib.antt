@@ -1,0 +1,4 @@
+pub mod Summary
+pub mod UsersAlone
+pub mod Hosting
+pub mod HostingParts

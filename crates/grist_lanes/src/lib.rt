@@ -1,8 +1,8 @@
 //! Lanes: the connections of many ports, served at the same time at one core.
 //!
 //! Stands on `grist_serve` (one connection served), `session_gate` (turns at one machine),
-//! `bundle_core` (the core, which is the machine) and `io_edges` (ports and links). Nothing stands
-//! on it yet: the program has no command for it.
+//! `bundle_core` (the core, which is the machine) and `io_edges` (ports and links). Used by
+//! `grist_hosting`, whose server it is.
 //!
 //! Promises: `serve_lanes` gives each port a lane, which serves its connections one after the
 //! other until none will come or the port fails, and hands each back with its end. The core comes

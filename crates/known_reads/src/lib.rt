@@ -11,6 +11,11 @@
 //! Read first: specs/Known.antt, then recording.rt.
 #![tactic(auto)]
 
+mod beside;
+mod laws;
 mod recording;
+mod walking;
 
+pub use beside::KnownReads;
+pub use laws::{reads_same_law, stale_law};
 pub use recording::record_cells;

@@ -1,1 +1,3 @@
+pub mod BesideLemmas
 pub mod KnownLemmas
+pub mod WalkedLemmas

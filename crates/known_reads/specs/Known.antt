@@ -1,5 +1,6 @@
 -- What formula cells read, as far as a graph has it.
 use Rattle.std.specs.Prelude.{true, List, ◌≡◌}
+use Rattle.std.specs.List.{AllByRecursion}
 use Rattle.std.specs.Option.{is_some}
 use Rattle.cell_types.specs.declared.cell.CellId.{CellId}
 use Rattle.dep_graph.specs.Graph.{Graph}
@@ -20,3 +21,7 @@ IsReadWhere s graph c = is_some (formula_at s c) ≡ true → HoldsReadsOf graph
 -- so it has of each of these
 abbrev pub AreReadWhere : Document → Graph → List CellId → Type 0
 AreReadWhere s graph cells = (c : CellId) → on cells c ≡ true → IsReadWhere s graph c
+
+-- so it has of each cell of the list
+abbrev pub EachIsRead : Document → Graph → List CellId → Type 0
+EachIsRead s graph cells = AllByRecursion (IsReadWhere s graph) cells

@@ -86,7 +86,7 @@ fn record_formula<D: DocTables>(
 }
 
 // Records what a cell reads, where it is a formula cell.
-fn record_where<D: DocTables>(
+pub(crate) fn record_where<D: DocTables>(
     alloc: Global,
     tables: &D,
     kept: &[KeptTable],

@@ -1,0 +1,74 @@
+-- A graph beside the values of a document.
+use Rattle.std.proofs.Common.{ℕ, ◌+◌, Bool, true, false, cond, not, ◌||◌, List, [], ◌∷◌, ◌++◌, length, length-append, ◌≡◌, refl, sym, ap, ◌∙◌, Option, Some, None}
+use Rattle.std.proofs.lemmas.Bool.{true≢false, false≢true}
+use Rattle.std.specs.Option.{is_some}
+use Rattle.cell_types.specs.declared.cell.CellId.{CellId}
+use Rattle.doc_model.specs.declared.action.DocAction.TheVariants.{BulkUpdate}
+use Rattle.doc_model.specs.Apply.{apply}
+use Rattle.doc_model.specs.Document.{Document}
+use Rattle.dep_graph.specs.Graph.{Graph}
+use Rattle.recalc.specs.Evaluated.{formula_at, sheet_of}
+use Rattle.recalc.specs.Sheet.{reads}
+use Rattle.recalc.specs.Stack.{on}
+use Rattle.recalc.proofs.Moves.{on_append}
+use Rattle.affected_cells.proofs.UpdateTouches.{after, same_formula}
+use Rattle.affected_search.specs.Sheets.{HoldsReads, is_found}
+use Rattle.affected_search.specs.Upkeep.{HoldsReadsOf}
+use Rattle.known_reads.specs.Beside.{ReadsSameLaw}
+use Rattle.known_reads.specs.Known.{AreReadWhere, IsReadWhere}
+
+-- ---- stale cells
+
+or_moved : (a r x : Bool) → (a || (r || x)) ≡ ((a || x) || r)
+or_moved true r x = refl
+or_moved false true true = refl
+or_moved false true false = refl
+or_moved false false true = refl
+or_moved false false false = refl
+
+or_more : (p q r : Bool) → (p ≡ true → q ≡ true) → (p || r) ≡ true → (q || r) ≡ true
+or_more true q r more h = ap (λ b. b || r) (more refl)
+or_more false true r more h = refl
+or_more false false r more h = h
+
+-- a cell moved from the end of those that are left to the stale ones
+pub left_moved : (a : Bool) (left cells : List CellId) (cell c : CellId) → cells ≡ left ++ cell ∷ [] → (a || on cells c) ≡ ((a || on (cell ∷ []) c) || on left c)
+left_moved a left cells cell c is = ap (λ l. a || on l c) is ∙ ap (λ b. a || b) (on_append left (cell ∷ []) c) ∙ or_moved a (on left c) (on (cell ∷ []) c)
+
+pub left_noted : (old new : Bool) (left cells : List CellId) (cell c : CellId) → cells ≡ left ++ cell ∷ [] → ((old || on (cell ∷ []) c) ≡ true → new ≡ true) → (old || on cells c) ≡ true → (new || on left c) ≡ true
+left_noted old new left cells cell c is noted h = or_more (old || on (cell ∷ []) c) new (on left c) noted (sym (left_moved old left cells cell c is) ∙ h)
+
+pub room_left : (cells left : List CellId) (cell : CellId) → cells ≡ left ++ cell ∷ [] → length cells ≡ length left + 1
+room_left cells left cell is = ap length is ∙ length-append left (cell ∷ [])
+
+-- ---- all reads
+
+-- what holds of each cell that is stale, and of each other one, holds of all
+pub all_known : (s : Document) (graph : Graph) (stale : List CellId) → AreReadWhere s graph stale → ((c : CellId) → on stale c ≡ false → IsReadWhere s graph c) → HoldsReads graph (sheet_of s)
+all_known s graph stale read others c f e = by (on stale c) refl
+  where
+    by : (b : Bool) → on stale c ≡ b → HoldsReadsOf graph (sheet_of s) c
+    by true here = read c here (ap is_some e)
+    by false here = others c here (ap is_some e)
+
+-- ---- over an update
+
+pub reads_same : ReadsSameLaw
+reads_same s t rows ks graph found cells ok holds keeps named = record {
+  there = λ c. sym (ap is_some (formula_same c));
+  reads = λ c there other. by_formula c (formula_at s c) refl there other;
+}
+  where
+    formula_same : (c : CellId) → formula_at (apply s (BulkUpdate t rows ks)) c ≡ formula_at s c
+    formula_same c = ap (λ b. formula_at (cond b (after t rows ks s) s) c) ok ∙ same_formula t rows ks s c
+
+    not_found : (c : CellId) → on cells c ≡ false → is_found graph found c ≡ false
+    not_found c other = by (is_found graph found c) refl
+      where
+        by : (b : Bool) → is_found graph found c ≡ b → b ≡ false
+        by true e = absurd (true≢false (sym (named c e) ∙ other))
+        by false e = refl
+
+    by_formula : (c : CellId) (o : Option (List ℕ)) → formula_at s c ≡ o → is_some o ≡ true → on cells c ≡ false → reads (sheet_of s) c ≡ reads (sheet_of (apply s (BulkUpdate t rows ks))) c
+    by_formula c None e there other = absurd (false≢true there)
+    by_formula c (Some f) e there other = sym (keeps s ok holds c f (formula_same c ∙ e) (ap (λ o. not (is_some o) || false) e) (not_found c other)).1

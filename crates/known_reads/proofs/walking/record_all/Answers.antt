@@ -1,0 +1,34 @@
+use Rattle.std.proofs.Common.{◌<◌, refl, length, arith}
+use Rattle.std.proofs.lemmas.Option.{slice_get_within}
+use Rattle.recalc.proofs.Progress.{cells_of_table, each_next}
+use Rattle.recalc.proofs.WalkLemmas.{table_past, table_read}
+use Rattle.known_reads.specs.Known.{EachIsRead}
+use Rattle.known_reads.proofs.WalkedLemmas.{all_hold, each_stays, nothing_there, read_table}
+use Rattle.known_reads.proofs.walking.record_all.Goals as goal
+
+pub returns-in_err-record_table-clause-keeps : goal.returns-in_err-record_table-clause-keeps
+returns-in_err-record_table-clause-keeps g c = λ d h. c.record_table.ensures.keeps d (c.loop-table.invariant.keeps d h)
+
+pub loop-table-smaller : goal.loop-table-smaller
+loop-table-smaller g c =
+    let s = g.D.DocReader.document c.args.tables.now in
+    let t = table_read s c.loop-table.index c.in-Some.table.now c.in-Some.ensures.told in
+    let within : c.loop-table.index < length s = slice_get_within s c.loop-table.index t.0 t.1 in
+    omega (arith, within)
+
+pub loop-table-preserved : goal.loop-table-preserved
+loop-table-preserved g c =
+    let s = g.D.DocReader.document c.args.tables.now in
+    let t = table_read s c.loop-table.index c.in-Some.table.now c.in-Some.ensures.told in
+    record {
+      keeps = λ d h. c.record_table.ensures.keeps d (c.loop-table.invariant.keeps d h);
+      read = each_next (λ t. EachIsRead s c.loop-table.graph (cells_of_table t)) (λ t. EachIsRead s c.record_table.new.graph (cells_of_table t))
+          s c.loop-table.index _ t.0
+          (λ t. each_stays s c.loop-table.graph c.record_table.new.graph c.record_table.ensures.keeps (cells_of_table t)) refl t.1
+          (read_table s c.record_table.new.graph c.requires.whole c.loop-table.index t.0 c.in-Some.table.now t.1 t.2 c.in_ok-record_table.ensures.ok) c.loop-table.invariant.read;
+    }
+
+pub returns-clause-ok : goal.returns-clause-ok
+returns-clause-ok g c =
+    let s = g.D.DocReader.document c.args.tables.now in
+    all_hold s c.loop-table.graph c.loop-table.index (nothing_there s c.loop-table.index (table_past s c.loop-table.index c.in_default.ensures.told)) c.loop-table.invariant.read

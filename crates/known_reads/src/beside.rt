@@ -1,0 +1,186 @@
+//! A graph of reads that is kept beside the values of a document.
+
+ghost use Rattle.std.specs.Prelude.{◌≡◌, ◌≤◌, ◌+◌, ◌||◌, [], ◌∷◌, true, false, length, OnOk};
+ghost use Rattle.cell_types.specs.declared.cell.CellId.{CellId};
+ghost use Rattle.doc_model.specs.DocumentLaws.{IsWhole};
+ghost use Rattle.recalc.specs.Evaluated.{sheet_of};
+ghost use Rattle.recalc.specs.Indexes.{AreIndexes};
+ghost use Rattle.recalc.specs.Kept.{IsEvaluated};
+ghost use Rattle.recalc.specs.Stack.{on};
+ghost use Rattle.affected_search.specs.Sheets.{HoldsReads};
+ghost use Rattle.known_reads.specs.Beside.{KnowsOthers, is_stale};
+
+use crate::recording::record_cells;
+use crate::walking::record_all;
+use cell_types::CellId;
+use dep_graph::DepGraph;
+use doc_model::DocTables;
+use recalc::{ColumnIndex, KeptTable};
+use std::alloc::{AllocError, Global};
+use std::marker::Model;
+
+/// What formula cells read, and the cells of which that may not be right any more: the stale ones.
+///
+/// A change and its way back note stale cells, for which there is room before; what these read is
+/// recorded where it is wanted next.
+#[derive(Drop)]
+pub struct KnownReads {
+    graph: DepGraph,
+    stale: Vec<CellId>,
+    // Of no cell it is known that it is right.
+    are_all_stale: bool,
+}
+
+impl Model for KnownReads {
+    ghost use Rattle.std.specs.Prelude.{◌-◌, vec_capacity, vec_len};
+    ghost use Rattle.known_reads.specs.Beside.{Beside};
+
+    ghost Value = { Beside };
+
+    ghost view = { λ k. record {
+      graph = k.graph;
+      stale = k.stale.items;
+      are_all_stale = k.are_all_stale;
+      room = vec_capacity k.stale - vec_len k.stale;
+    } };
+}
+
+impl KnownReads {
+    /// Nothing is recorded: all cells are stale.
+    ///
+    /// Memory: none.
+    pub fn new(alloc: Global) -> Self
+        ensures { result.are_all_stale ≡ true }
+    {
+        KnownReads {
+            graph: DepGraph::new(alloc),
+            stale: Vec::new(alloc),
+            are_all_stale: true,
+        }
+    }
+
+    /// What is recorded: of each formula cell that is not stale what it reads.
+    ///
+    /// Memory: none.
+    pub fn graph(&self) -> &DepGraph
+        ensures { result.now ≡ self.now.graph }
+    {
+        &self.graph
+    }
+
+    // Records what the stale cells read.
+    fn record_stale<D: DocTables>(
+        &mut self,
+        alloc: Global,
+        tables: &D,
+        kept: &[KeptTable],
+        indexes: &[ColumnIndex],
+    ) -> Result<(), AllocError>
+        requires whole { IsWhole (D.document tables.now) }
+        requires indexed { AreIndexes (sheet_of (D.document tables.now)) indexes.now }
+        requires evaluated { IsEvaluated (D.document tables.now) kept.now }
+        requires others { KnowsOthers (D.document tables.now) self.old }
+        ensures ok { OnOk result (HoldsReads self.new.graph (sheet_of (D.document tables.now))) }
+        ensures others { KnowsOthers (D.document tables.now) self.new }
+        ensures room { self.new.room ≡ self.old.room }
+    {
+        if self.are_all_stale {
+            record_all(alloc, tables, kept, indexes, &mut self.graph)
+        } else {
+            record_cells(
+                alloc,
+                tables,
+                kept,
+                indexes,
+                &mut self.graph,
+                self.stale.as_slice(),
+            )
+        }
+    }
+
+    /// Records what the stale cells read, of an evaluated document: then none is stale, and the
+    /// graph has the reads of each formula cell.
+    ///
+    /// Errors: out of memory; of each cell that is not stale it is right still.
+    /// Memory: notes, and what the graph takes of them. Cost: one attempt a stale cell.
+    pub fn make_right<D: DocTables>(
+        &mut self,
+        alloc: Global,
+        tables: &D,
+        kept: &[KeptTable],
+        indexes: &[ColumnIndex],
+    ) -> Result<(), AllocError>
+        requires whole { IsWhole (D.document tables.now) }
+        requires indexed { AreIndexes (sheet_of (D.document tables.now)) indexes.now }
+        requires evaluated { IsEvaluated (D.document tables.now) kept.now }
+        requires others { KnowsOthers (D.document tables.now) self.old }
+        ensures ok { OnOk result (HoldsReads self.new.graph (sheet_of (D.document tables.now))) }
+        ensures none { OnOk result ((c : CellId) → is_stale self.new c ≡ false) }
+        ensures others { KnowsOthers (D.document tables.now) self.new }
+        ensures room { self.old.room ≤ self.new.room }
+    {
+        self.record_stale(alloc, tables, kept, indexes)?;
+        self.stale.clear();
+        self.are_all_stale = false;
+        Ok(())
+    }
+
+    /// Makes room for so many cells to be noted as stale.
+    ///
+    /// Errors: out of memory; then nothing is changed.
+    pub fn reserve(&mut self, cells: usize) -> Result<(), AllocError>
+        ensures ok { OnOk result (cells ≤ self.new.room) }
+        ensures graph { self.new.graph ≡ self.old.graph }
+        ensures stale { (c : CellId) → is_stale self.new c ≡ is_stale self.old c }
+        ensures room { self.old.room ≤ self.new.room }
+    {
+        self.stale.reserve(cells)
+    }
+
+    /// Notes a cell as stale; all cells, where there is no room for it.
+    ///
+    /// Memory: none.
+    pub fn note_cell(&mut self, cell: CellId)
+        ensures graph { self.new.graph ≡ self.old.graph }
+        ensures stale { (c : CellId) → (is_stale self.old c || on (cell ∷ []) c) ≡ true
+            → is_stale self.new c ≡ true }
+        ensures within { 1 ≤ self.old.room → (c : CellId)
+            → is_stale self.new c ≡ (is_stale self.old c || on (cell ∷ []) c) }
+        ensures room { 1 ≤ self.old.room → self.new.room + 1 ≡ self.old.room }
+    {
+        if self.stale.len() < self.stale.capacity() {
+            self.stale.push_reserved(cell);
+        } else {
+            self.are_all_stale = true;
+        }
+    }
+
+    /// Notes these cells as stale; all cells, where there is no room for them.
+    ///
+    /// Memory: none. Cost: linear in the cells.
+    pub fn note_cells(&mut self, cells: Vec<CellId>)
+        ensures graph { self.new.graph ≡ self.old.graph }
+        ensures stale { (c : CellId) → (is_stale self.old c || on cells.items c) ≡ true
+            → is_stale self.new c ≡ true }
+        ensures within { length cells.items ≤ self.old.room → (c : CellId)
+            → is_stale self.new c ≡ (is_stale self.old c || on cells.items c) }
+        ensures room { length cells.items ≤ self.old.room
+            → self.new.room + length cells.items ≡ self.old.room }
+    {
+        let mut cells = cells;
+        'noting: while let Some(cell) = cells.pop() {
+            self.note_cell(cell);
+        }
+    }
+
+    /// Notes all cells as stale.
+    ///
+    /// Memory: none.
+    pub fn note_all(&mut self)
+        ensures all { self.new.are_all_stale ≡ true }
+        ensures graph { self.new.graph ≡ self.old.graph }
+    {
+        self.stale.clear();
+        self.are_all_stale = true;
+    }
+}

@@ -1,0 +1,97 @@
+//! The reads of all formula cells recorded: table by table, column by column, row by row.
+
+ghost use Rattle.std.specs.Prelude.{◌≡◌, Some, OnOk};
+ghost use Rattle.doc_model.specs.DocumentLaws.{IsWhole};
+ghost use Rattle.doc_readers.specs.Parts.{grid_at};
+ghost use Rattle.recalc.specs.Evaluated.{cells_of_column, cells_of_columns, sheet_of};
+ghost use Rattle.recalc.specs.Indexes.{AreIndexes};
+ghost use Rattle.recalc.specs.Kept.{IsEvaluated};
+ghost use Rattle.affected_search.specs.Sheets.{HoldsReads};
+ghost use Rattle.known_reads.specs.Known.{EachIsRead, KeepsReads};
+
+use crate::recording::record_where;
+use cell_types::Name;
+use dep_graph::DepGraph;
+use doc_model::{ColDef, DocTables};
+use doc_readers::rows_in;
+use recalc::{ColumnIndex, KeptTable, cell_id};
+use std::alloc::{AllocError, Global};
+
+// Records what the cells of a column read, where it is a formula column.
+fn record_column<D: DocTables>(
+    alloc: Global,
+    tables: &D,
+    kept: &[KeptTable],
+    indexes: &[ColumnIndex],
+    graph: &mut DepGraph,
+    table: &Name,
+    column: &ColDef,
+) -> Result<(), AllocError>
+    requires whole { IsWhole (D.document tables.now) }
+    requires indexed { AreIndexes (sheet_of (D.document tables.now)) indexes.now }
+    requires evaluated { IsEvaluated (D.document tables.now) kept.now }
+    ensures ok { OnOk result (EachIsRead (D.document tables.now) graph.new
+        (cells_of_column table.now (grid_at (D.document tables.now) table.now) column.now)) }
+    ensures keeps { KeepsReads (sheet_of (D.document tables.now)) graph.old graph.new }
+{
+    if !column.info.is_formula {
+        return Ok(());
+    }
+    // The ids are copied once.
+    let mut cell = cell_id(table, &column.id, 0)?;
+    for row in rows_in(tables, table) {
+        cell.row = *row;
+        record_where(alloc, tables, kept, indexes, graph, &cell)?;
+    }
+    Ok(())
+}
+
+// Records what the formula cells of a table read.
+fn record_table<D: DocTables>(
+    alloc: Global,
+    tables: &D,
+    kept: &[KeptTable],
+    indexes: &[ColumnIndex],
+    graph: &mut DepGraph,
+    table: &Name,
+) -> Result<(), AllocError>
+    requires whole { IsWhole (D.document tables.now) }
+    requires indexed { AreIndexes (sheet_of (D.document tables.now)) indexes.now }
+    requires evaluated { IsEvaluated (D.document tables.now) kept.now }
+    ensures ok { OnOk result (EachIsRead (D.document tables.now) graph.new
+        (cells_of_columns table.now (grid_at (D.document tables.now) table.now)
+        (grid_at (D.document tables.now) table.now).columns)) }
+    ensures keeps { KeepsReads (sheet_of (D.document tables.now)) graph.old graph.new }
+{
+    let mut index = 0;
+    while let Some(column) = tables.column(table, index) {
+        record_column(alloc, tables, kept, indexes, graph, table, column)?;
+        index += 1;
+    }
+    Ok(())
+}
+
+/// Records what each formula cell of an evaluated document reads.
+///
+/// Errors: out of memory; what the graph had of reads that are made it has still.
+/// Memory: the ids of a cell, notes, and what the graph takes of them. Cost: one attempt a cell.
+pub(crate) fn record_all<D: DocTables>(
+    alloc: Global,
+    tables: &D,
+    kept: &[KeptTable],
+    indexes: &[ColumnIndex],
+    graph: &mut DepGraph,
+) -> Result<(), AllocError>
+    requires whole { IsWhole (D.document tables.now) }
+    requires indexed { AreIndexes (sheet_of (D.document tables.now)) indexes.now }
+    requires evaluated { IsEvaluated (D.document tables.now) kept.now }
+    ensures ok { OnOk result (HoldsReads graph.new (sheet_of (D.document tables.now))) }
+    ensures keeps { KeepsReads (sheet_of (D.document tables.now)) graph.old graph.new }
+{
+    let mut index = 0;
+    while let Some(table) = tables.table(index) {
+        record_table(alloc, tables, kept, indexes, graph, table)?;
+        index += 1;
+    }
+    Ok(())
+}

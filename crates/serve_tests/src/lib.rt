@@ -1,9 +1,9 @@
 //! Tests of connections: what a link is written for the lines that come, and how it ends, alone
 //! and beside another.
 //!
-//! Stands on `grist_hosting`, `grist_lanes`, `grist_serve`, `bundle_core` and `session_gate`. Nothing
-//! stands on it; it is a crate of its own, so that serving is not proved a second time with its
-//! tests.
+//! Stands on `grist_hosting`, `grist_lanes`, `grist_serve`, `bundle_core` and `session_gate`.
+//! Nothing stands on it; it is a crate of its own, so that serving is not proved a second time with
+//! its tests.
 //!
 //! Promises: nothing. What is tested is what no clause says: that calls succeed where there is
 //! memory, and that an open core answers through the gate as it does alone.

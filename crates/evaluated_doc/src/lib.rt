@@ -16,6 +16,7 @@
 
 mod doc;
 mod trace;
+mod updating;
 
 pub use doc::{ChangeFault, Doc};
 pub use trace::Trace;

@@ -20,13 +20,13 @@ ghost use Rattle.evaluated_doc.specs.declared.doc.ChangeFault.TheVariants.{Inval
 
 use crate::trace::Trace;
 use crate::updating::{Affected, find_affected, is_update};
-use affected_values::{HeldValue, put_values_back, refresh_values};
+use affected_values::{HeldValue, leads_over_law, put_values_back, refresh_values, way_back_law};
 use cell_types::{CellValue, Name};
 use doc_actions::is_valid;
 use doc_model::laws::kept_law;
 use doc_model::{ColDef, DocAction, DocReader, DocTables};
 use formula_eval::Reading;
-use known_reads::KnownReads;
+use known_reads::{KnownReads, stale_law};
 use recalc::laws::{may_lose_law, stays_plain_law};
 use recalc::{
     KeptTable, brings_formula, cell_told, keep_lost, keep_values, keep_values_after, watched_cells,
@@ -160,6 +160,8 @@ impl<D: DocTables> Doc<D> {
     {
         kept_law();
         may_lose_law();
+        leads_over_law();
+        stale_law();
         let Some(kept) = &self.kept else {
             return self.put_whole(alloc, action);
         };
@@ -264,14 +266,22 @@ impl<D: DocTables> Doc<D> {
         requires { IsWayBack D.fits D.undone trace (D.document self.old) }
         ensures { D.document self.new ≡ D.undone trace.back (D.document self.old) }
     {
-        self.tables.take_back(trace.back);
-        match trace.taken {
+        let Trace {
+            cells,
+            back,
+            kept,
+            taken,
+            stale,
+        } = trace;
+        drop(cells);
+        self.tables.take_back(back);
+        match taken {
             Some(taken) => {
                 put_back(&self.tables, &mut self.kept, taken);
-                self.reads.note_cells(trace.stale);
+                self.reads.note_cells(stale);
             }
             None => {
-                self.kept = trace.kept;
+                self.kept = kept;
                 self.reads.note_all();
             }
         }
@@ -286,6 +296,7 @@ fn put_back<D: DocTables>(tables: &D, kept: &mut Option<Vec<KeptTable>>, taken: 
         × LeadsFrom (D.document tables.now) now taken.items stale }
     ensures { IsCurrent (D.document tables.now) (option_map (λ v. v.items) kept.new) }
 {
+    way_back_law();
     if let Some(kept) = kept {
         put_values_back(tables, kept, taken);
     }

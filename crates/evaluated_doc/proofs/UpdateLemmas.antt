@@ -1,5 +1,5 @@
 -- An update of a document of which values are kept.
-use Rattle.std.proofs.Common.{ℕ, true, false, cond, ◌||◌, List, [], ◌∷◌, ◌≡◌, refl, sym, ap, ◌∙◌, subst, Option, Some, None, unwrap_or}
+use Rattle.std.proofs.Common.{ℕ, true, false, cond, ◌||◌, List, [], ◌∷◌, ◌≡◌, refl, sym, ap, ◌∙◌, subst, Option, unwrap_or}
 use Rattle.std.proofs.lemmas.Bool.{false≢true}
 use Rattle.std.specs.Option.{is_some}
 use Rattle.cell_types.specs.declared.cell.CellId.{CellId}
@@ -8,11 +8,12 @@ use Rattle.doc_model.specs.declared.action.DocAction.TheVariants.{AddColumn, Add
 use Rattle.doc_model.specs.declared.column.CellColumn.{CellColumn}
 use Rattle.doc_model.specs.Apply.{apply}
 use Rattle.doc_model.specs.Document.{Document}
+use Rattle.doc_model.specs.DocumentLaws.{IsWhole}
 use Rattle.doc_model.specs.Valid.{valid}
 use Rattle.dep_graph.specs.Graph.{Graph}
 use Rattle.recalc.specs.declared.kept.KeptTable.{KeptTable}
-use Rattle.recalc.specs.Current.{has_formula, has_formulas}
-use Rattle.recalc.specs.Evaluated.{formula_at, sheet_of, value_of}
+use Rattle.recalc.specs.Current.{IsCurrent, has_formula, has_formulas}
+use Rattle.recalc.specs.Evaluated.{formula_at, sheet_of}
 use Rattle.recalc.specs.Kept.{IsEvaluated, IsKeptOf, held_at}
 use Rattle.affected_cells.proofs.UpdateTouches.{after, same_columns, same_formula}
 use Rattle.affected_search.specs.Actions.{KeepsOthers}
@@ -105,9 +106,16 @@ module _ (s now : Document) (taken : List HeldValue) (stale : List CellId) (ks :
   values_before law back known kept put =
       law s led.table led.rows led.columns taken ks back (subst (λ d. LeadsOver s d taken) led.after led.leads) (subst (λ d. IsEvaluated d ks) led.after known) kept put
 
-has_same : (t rows : List ℕ) (ks : List CellColumn) (s : Document) → has_formulas (after t rows ks s) ≡ has_formulas s
-has_same t rows ks [] = refl
-has_same t rows ks (u ∷ s) = λ i. has_formula (same_columns t rows ks u i) || has_same t rows ks s i
+module _ (s now : Document) (taken : List HeldValue) (stale : List CellId) (led : LeadsFrom s now taken stale) where
+  -- what holds of a document and what is kept beside it
+  pub gone_back : StaleLaw → (d : Document) (kept : Option (List KeptTable)) (old new : Beside) → d ≡ s → IsWhole s → IsCurrent d kept → IsNoted old new stale → KnowsOthers now old
+      → IsWhole d × IsCurrent d kept × KnowsOthers d new
+  gone_back law d kept old new is whole current noted others =
+      (subst IsWhole (sym is) whole, current, subst (λ d. KnowsOthers d new) (sym is) ((law s now stale old new led.reads noted).1 others))
+
+has_same : (id ids : List ℕ) (cs : List CellColumn) (s : Document) → has_formulas (after id ids cs s) ≡ has_formulas s
+has_same id ids cs [] = refl
+has_same id ids cs (u ∷ s) = λ i. has_formula (same_columns id ids cs u i) || has_same id ids cs s i
 
 pub plain_before : (s now : Document) (taken : List HeldValue) (stale : List CellId) → LeadsFrom s now taken stale → has_formulas now ≡ false → has_formulas s ≡ false
 plain_before s now taken stale led plain =

@@ -266,6 +266,7 @@ impl<D: DocTables> Doc<D> {
         requires { IsWayBack D.fits D.undone trace (D.document self.old) }
         ensures { D.document self.new ≡ D.undone trace.back (D.document self.old) }
     {
+        stale_law();
         let Trace {
             cells,
             back,

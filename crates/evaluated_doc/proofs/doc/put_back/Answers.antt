@@ -1,5 +1,7 @@
-use Rattle.std.proofs.Common.{◌≡◌, false}
-use Rattle.recalc.specs.Current.{has_formulas}
+use Rattle.std.proofs.Common.{◌≡◌, false, sym, subst, Option, Vec, Global}
+use Rattle.std.specs.Option.{option_map}
+use Rattle.recalc.specs.declared.kept.KeptTable.{KeptTable}
+use Rattle.recalc.specs.Current.{IsCurrent, has_formulas}
 use Rattle.recalc.specs.Kept.{IsEvaluated}
 use Rattle.evaluated_doc.proofs.UpdateLemmas.{kept_before, plain_before, values_before}
 use Rattle.evaluated_doc.proofs.doc.put_back.Goals as goal
@@ -18,4 +20,8 @@ returns-in-Some g c =
     c.put_values_back.ensures.of_document c.put_values_back.ensures.back
 
 pub returns-in_default : goal.returns-in_default
-returns-in_default g c = ?
+returns-in_default g c =
+    let s = g.D.DocReader.document c.args.tables.now in
+    let b = c.requires.before in
+    let plain : has_formulas b.0 ≡ false = rw c.in_default.is at b.2 in
+    subst (λ (o : Option (Vec KeptTable Global)). IsCurrent s (option_map (λ v. v.items) o)) (sym c.in_default.is) (plain_before s b.0 c.args.taken.items b.1 b.3 plain)

@@ -1,5 +1,4 @@
 use Rattle.std.proofs.Common.{◌≡◌, true, filter, sym, ap, ◌∙◌, subst}
-use Rattle.doc_model.specs.Apply.{apply}
 use Rattle.doc_model.specs.DocumentLaws.{IsWhole}
 use Rattle.doc_model.specs.Valid.{valid}
 use Rattle.recalc.specs.Evaluated.{filled}

@@ -87,5 +87,8 @@ pub(crate) fn find_affected<D: DocTables>(
     let Some(found) = affected_by_action(alloc, reads.graph(), action)? else {
         unreachable!();
     };
+    // For this change and for its way back.
+    let count = found.cells().len();
+    reads.reserve(count.saturating_add(count))?;
     named(alloc, reads.graph(), action, &found)
 }

@@ -1,26 +1,32 @@
 //! A document with its formula cells evaluated.
 
-ghost use Rattle.std.specs.Prelude.{true, ◌≡◌, ◌↔◌, false, [], Err, None, Some, IfOk, OnOk, OnErr, MatchOption};
-ghost use Rattle.std.specs.Option.{option_copied};
+ghost use Rattle.std.specs.Prelude.{true, ◌≡◌, ◌↔◌, false, [], Err, List, None, Some, IfOk, OnOk, OnErr, MatchOption};
+ghost use Rattle.std.specs.Option.{option_copied, option_map};
+ghost use Rattle.cell_types.specs.declared.cell.CellId.{CellId};
 ghost use Rattle.doc_model.specs.Apply.{apply};
+ghost use Rattle.doc_model.specs.Document.{Document};
 ghost use Rattle.doc_model.specs.DocumentLaws.{IsWhole};
 ghost use Rattle.doc_model.specs.Readers.{cell_at};
 ghost use Rattle.doc_model.specs.Valid.{valid};
 ghost use Rattle.formula_eval.specs.Asked.{told_of};
-ghost use Rattle.recalc.specs.Current.{has_formulas};
+ghost use Rattle.recalc.specs.Current.{IsCurrent, has_formulas};
 ghost use Rattle.recalc.specs.Evaluated.{filled};
 ghost use Rattle.recalc.specs.Kept.{IsEvaluated};
 ghost use Rattle.recalc.specs.Lost.{lost};
 ghost use Rattle.recalc.specs.Seen.{value_told};
+ghost use Rattle.evaluated_doc.specs.Update.{LeadsFrom, is_update};
 ghost use Rattle.evaluated_doc.specs.WayBack.{IsWayBack};
 ghost use Rattle.evaluated_doc.specs.declared.doc.ChangeFault.TheVariants.{Invalid};
 
 use crate::trace::Trace;
+use crate::updating::{Affected, find_affected, is_update};
+use affected_values::{HeldValue, leads_over_law, put_values_back, refresh_values, way_back_law};
 use cell_types::{CellValue, Name};
 use doc_actions::is_valid;
 use doc_model::laws::kept_law;
 use doc_model::{ColDef, DocAction, DocReader, DocTables};
 use formula_eval::Reading;
+use known_reads::{KnownReads, stale_law};
 use recalc::laws::{may_lose_law, stays_plain_law};
 use recalc::{
     KeptTable, brings_formula, cell_told, keep_lost, keep_values, keep_values_after, watched_cells,
@@ -36,19 +42,22 @@ use std::mem;
 pub struct Doc<D: DocTables> {
     tables: D,
     kept: Option<Vec<KeptTable>>,
+    reads: KnownReads,
 }
 
 impl<D: DocTables> Model for Doc<D> {
     ghost use Rattle.doc_model.specs.DocumentLaws.{IsWhole};
     ghost use Rattle.recalc.specs.Current.{IsCurrent};
     ghost use Rattle.std.specs.Option.{option_map};
+    ghost use Rattle.known_reads.specs.Beside.{KnowsOthers};
 
     ghost Value = { D };
 
     ghost view = { λ d. d.tables };
 
     ghost invariant = { λ d. IsWhole (D.document d.tables)
-        × IsCurrent (D.document d.tables) (option_map (λ v. v.items) d.kept) };
+        × IsCurrent (D.document d.tables) (option_map (λ v. v.items) d.kept)
+        × KnowsOthers (D.document d.tables) d.reads };
 }
 
 /// Why a change was not made.
@@ -70,7 +79,12 @@ impl<D: DocTables> Doc<D> {
         ensures { IfOk result (λ doc. doc ≡ tables) }
     {
         let kept = keep_values(alloc, &tables)?;
-        Ok(Doc { tables, kept })
+        let reads = KnownReads::new(alloc);
+        Ok(Doc {
+            tables,
+            kept,
+            reads,
+        })
     }
 
     /// The tables with their base cells.
@@ -92,14 +106,8 @@ impl<D: DocTables> Doc<D> {
         self.kept.is_none()
     }
 
-    /// Does an action that is valid, and evaluates the document after it.
-    ///
-    /// Errors: out of memory; the document is then as it was.
-    /// Memory: the store's, and a copy of the cells that may be lost: those of formula columns, and
-    /// of data columns those that a record action writes or removes, or all of the table of a
-    /// schema action. Where a column has a formula or is given one, as to start.
-    /// Cost: where none has, a record action looks at its own table and rows alone.
-    pub fn put(&mut self, alloc: Global, action: &DocAction) -> Result<Trace<D>, AllocError>
+    // Does a valid action, and evaluates the whole document after it.
+    fn put_whole(&mut self, alloc: Global, action: &DocAction) -> Result<Trace<D>, AllocError>
         requires { valid (D.document self.old) action.now ≡ true }
         ensures ok { OnOk result
             (D.document self.new ≡ apply (D.document self.old) action.now) }
@@ -124,8 +132,92 @@ impl<D: DocTables> Doc<D> {
             return Err(AllocError);
         };
         let kept = mem::replace(&mut self.kept, fresh);
+        self.reads.note_all();
         keep_lost(self, action, &mut cells);
-        Ok(Trace { cells, back, kept })
+        Ok(Trace {
+            cells,
+            back,
+            kept,
+            taken: None,
+            stale: Vec::new(alloc),
+        })
+    }
+
+    // Does a valid update where values are kept, and evaluates what it affects.
+    fn put_update(&mut self, alloc: Global, action: &DocAction) -> Result<Trace<D>, AllocError>
+        requires valid { valid (D.document self.old) action.now ≡ true }
+        requires update { is_update action.now ≡ true }
+        ensures ok { OnOk result
+            (D.document self.new ≡ apply (D.document self.old) action.now) }
+        ensures cells { IfOk result (λ trace. trace.cells
+            ≡ lost (D.document self.old) (D.document self.new) action.now) }
+        ensures way { IfOk result
+            (λ trace. IsWayBack D.fits D.undone trace (D.document self.new)) }
+        ensures back { IfOk result
+            (λ trace. D.undone trace.back (D.document self.new) ≡ D.document self.old) }
+        ensures err { OnErr result (D.document self.new ≡ D.document self.old) }
+        ensures whole { IsWhole (D.document self.new) }
+    {
+        kept_law();
+        may_lose_law();
+        leads_over_law();
+        stale_law();
+        let Some(kept) = &self.kept else {
+            return self.put_whole(alloc, action);
+        };
+        let affected = find_affected(alloc, &self.tables, kept, &mut self.reads, action)?;
+        let mut cells = watched_cells(alloc, self, action, false)?;
+        let back = self.tables.put(action)?;
+        let Some(kept) = &mut self.kept else {
+            unreachable!();
+        };
+        let Affected {
+            cells: named,
+            room,
+            noted,
+            stale,
+        } = affected;
+        let Ok(taken) = refresh_values(alloc, &self.tables, kept, named, room) else {
+            self.tables.take_back(back);
+            return Err(AllocError);
+        };
+        self.reads.note_cells(noted);
+        keep_lost(self, action, &mut cells);
+        Ok(Trace {
+            cells,
+            back,
+            kept: None,
+            taken: Some(taken),
+            stale,
+        })
+    }
+
+    /// Does an action that is valid, and evaluates the document after it.
+    ///
+    /// Errors: out of memory; the document is then as it was.
+    /// Memory: the store's, and a copy of the cells that may be lost: those of formula columns, and
+    /// of data columns those that a record action writes or removes, or all of the table of a
+    /// schema action. Where a column has a formula or is given one, as to start; an update takes
+    /// that of what it affects.
+    /// Cost: where none has, a record action looks at its own table and rows alone.
+    pub fn put(&mut self, alloc: Global, action: &DocAction) -> Result<Trace<D>, AllocError>
+        requires { valid (D.document self.old) action.now ≡ true }
+        ensures ok { OnOk result
+            (D.document self.new ≡ apply (D.document self.old) action.now) }
+        ensures cells { IfOk result (λ trace. trace.cells
+            ≡ lost (D.document self.old) (D.document self.new) action.now) }
+        ensures way { IfOk result
+            (λ trace. IsWayBack D.fits D.undone trace (D.document self.new)) }
+        ensures back { IfOk result
+            (λ trace. D.undone trace.back (D.document self.new) ≡ D.document self.old) }
+        ensures err { OnErr result (D.document self.new ≡ D.document self.old) }
+        ensures whole { IsWhole (D.document self.new) }
+    {
+        if is_update(action) {
+            self.put_update(alloc, action)
+        } else {
+            self.put_whole(alloc, action)
+        }
     }
 
     /// Does a valid action, and evaluates the document after it.
@@ -174,8 +266,40 @@ impl<D: DocTables> Doc<D> {
         requires { IsWayBack D.fits D.undone trace (D.document self.old) }
         ensures { D.document self.new ≡ D.undone trace.back (D.document self.old) }
     {
-        self.tables.take_back(trace.back);
-        self.kept = trace.kept;
+        stale_law();
+        let Trace {
+            cells,
+            back,
+            kept,
+            taken,
+            stale,
+        } = trace;
+        drop(cells);
+        self.tables.take_back(back);
+        match taken {
+            Some(taken) => {
+                put_back(&self.tables, &mut self.kept, taken);
+                self.reads.note_cells(stale);
+            }
+            None => {
+                self.kept = kept;
+                self.reads.note_all();
+            }
+        }
+    }
+}
+
+// Puts back the values of cells that a change evaluated anew.
+fn put_back<D: DocTables>(tables: &D, kept: &mut Option<Vec<KeptTable>>, taken: Vec<HeldValue>)
+    requires whole { IsWhole (D.document tables.now) }
+    requires before { (now : Document) × (stale : List CellId)
+        × IsCurrent now (option_map (λ v. v.items) kept.old)
+        × LeadsFrom (D.document tables.now) now taken.items stale }
+    ensures { IsCurrent (D.document tables.now) (option_map (λ v. v.items) kept.new) }
+{
+    way_back_law();
+    if let Some(kept) = kept {
+        put_values_back(tables, kept, taken);
     }
 }
 

@@ -2,7 +2,8 @@
 
 ghost use Rattle.std.specs.Prelude.{◌≡◌};
 
-use cell_types::CellOld;
+use affected_values::HeldValue;
+use cell_types::{CellId, CellOld};
 use doc_model::DocTables;
 use recalc::KeptTable;
 use std::marker::Model;
@@ -12,7 +13,12 @@ use std::marker::Model;
 pub struct Trace<D: DocTables> {
     pub(crate) cells: Vec<CellOld>,
     pub(crate) back: D::Back,
+    // All values before the change; none where some were taken.
     pub(crate) kept: Option<Vec<KeptTable>>,
+    // The values before the change of those cells that it evaluated anew, where these are all.
+    pub(crate) taken: Option<Vec<HeldValue>>,
+    // The cells that may read something else before the change.
+    pub(crate) stale: Vec<CellId>,
 }
 
 impl<D: DocTables> Model for Trace<D> {
@@ -29,6 +35,8 @@ impl<D: DocTables> Model for Trace<D> {
       cells = t.cells.items;
       back = t.back;
       kept = option_map (λ v. v.items) t.kept;
+      taken = option_map (λ v. v.items) t.taken;
+      stale = t.stale.items;
     } };
 }
 

@@ -2,7 +2,7 @@ use Rattle.std.proofs.Common.{◌≡◌, false, subst}
 use Rattle.recalc.specs.Current.{has_formulas}
 use Rattle.recalc.specs.Evaluated.{filled}
 use Rattle.recalc.proofs.MayLoseCells.{plain_kept}
-use Rattle.evaluated_doc.proofs.doc.Doc.put.Goals as goal
+use Rattle.evaluated_doc.proofs.doc.Doc.put_whole.Goals as goal
 
 pub watched_cells-requires : goal.watched_cells-requires
 watched_cells-requires g c none =

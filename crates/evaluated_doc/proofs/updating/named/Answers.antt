@@ -1,0 +1,14 @@
+use Rattle.std.proofs.Common.{◌≡◌, ◌≤◌, length, vec_capacity, arith, rules}
+use Rattle.evaluated_doc.proofs.updating.named.Goals as goal
+
+pub returns : goal.returns
+returns c =
+    let counts : c.len.result ≡ length c.in_ok-cells.cells.items = search rules in
+    let fits : c.len.result ≤ vec_capacity c.in_ok-room.room = c.in_ok-room.ensures.capacity in
+    record {
+      cells = record { found = c.args.found.now; keeps = c.requires; named = c.in_ok-cells.ensures };
+      noted = record { found = c.args.found.now; keeps = c.requires; named = c.in_ok-noted.ensures };
+      stale = record { found = c.args.found.now; keeps = c.requires; named = c.in_ok-stale.ensures };
+      empty = c.in_ok-room.ensures.items;
+      room = omega (arith, counts, fits);
+    }

@@ -1,0 +1,47 @@
+-- An update of a document of which values are kept.
+use Rattle.std.specs.Prelude.{ℕ, Bool, true, false, List, [], length, vec_capacity, ◌≡◌, ◌≤◌}
+use Rattle.cell_types.specs.declared.cell.CellId.{CellId}
+use Rattle.doc_model.specs.declared.action.DocAction.{DocAction}
+use Rattle.doc_model.specs.declared.action.DocAction.TheVariants.{BulkUpdate}
+use Rattle.doc_model.specs.declared.column.CellColumn.{CellColumn}
+use Rattle.doc_model.specs.Apply.{apply}
+use Rattle.doc_model.specs.Document.{Document}
+use Rattle.dep_graph.specs.declared.numbers.CellNumber.{CellNumber}
+use Rattle.dep_graph.specs.Graph.{Graph}
+use Rattle.recalc.specs.Stack.{on}
+use Rattle.affected_search.specs.Actions.{KeepsOthers}
+use Rattle.affected_search.specs.Sheets.{is_found}
+use Rattle.affected_values.specs.declared.taking.HeldValue.{HeldValue}
+use Rattle.affected_values.specs.WaysBack.{LeadsOver}
+use Rattle.known_reads.specs.Beside.{ReadsSameBut}
+use Rattle.evaluated_doc.specs.declared.updating.Affected.{Affected}
+
+-- whether the action is an update
+abbrev pub is_update : DocAction → Bool
+is_update (BulkUpdate table rows ks) = true
+is_update _ = false
+
+-- among the cells are the found ones of a search, by which all others keep values and reads
+pub record HasFound (graph : Graph) (a : DocAction) (cells : List CellId) : Type 0 where
+  pub found : List CellNumber
+  pub keeps : KeepsOthers graph a found
+  pub named : (c : CellId) → is_found graph found c ≡ true → on cells c ≡ true
+
+-- three lists with the found cells, and room for what is taken of the first
+pub record IsAffected (graph : Graph) (a : DocAction) (x : Affected) : Type 0 where
+  pub cells : HasFound graph a x.cells.items
+  pub noted : HasFound graph a x.noted.items
+  pub stale : HasFound graph a x.stale.items
+  pub empty : x.room.items ≡ []
+  pub room : length x.cells.items ≤ vec_capacity x.room
+
+-- an update led from the first document to the second; what was taken leads back over it, and each
+-- formula cell but these reads the same in both
+pub record LeadsFrom (s now : Document) (taken : List HeldValue) (stale : List CellId) :
+    Type 0 where
+  pub table : List ℕ
+  pub rows : List ℕ
+  pub columns : List CellColumn
+  pub after : now ≡ apply s (BulkUpdate table rows columns)
+  pub leads : LeadsOver s now taken
+  pub reads : ReadsSameBut s now stale

@@ -2,8 +2,8 @@
 //! all others keep their values and their reads.
 //!
 //! Stands on `recalc` (evaluated cells), `formula_eval` (runs that are alike), `doc_model`
-//! (actions) and `cell_types`. Nothing uses it yet: it is for a document that evaluates again only
-//! what a change touches.
+//! (actions) and `cell_types`. Used by `affected_search` and `affected_values`, for updates that
+//! evaluate only what they affect.
 //!
 //! Promises: `unaffected_law` speaks of any two sheets: a formula cell outside of a closed set has
 //! the value and the reads that it had. `keeps_law` is the same of a document and an action, for

@@ -2,8 +2,7 @@
 //!
 //! Stands on `dep_graph` (who reads what); its laws also on `affected_cells` (what an action
 //! touches), `recalc` (evaluated cells) and `formula_eval` (notes of runs). Used by
-//! `affected_values` and `known_reads`, and by nothing in the program yet: it is for a document
-//! that evaluates again only what a change touches.
+//! `affected_values`, `known_reads` and `evaluated_doc`.
 //!
 //! Promises: of a list of touched reads, `affected_by` finds exactly the cells that read one of
 //! them, or read a cell that was found, or the column of one as a key column. So what it finds is

@@ -2,8 +2,7 @@
 //!
 //! Stands on `recalc` (evaluated cells, and how one is found), `affected_search` and `dep_graph`
 //! (the cells that an action affects), `affected_cells` (laws of actions), `doc_readers`,
-//! `doc_model` and `cell_types`. Used by `known_reads`, and by nothing in the program yet: it is
-//! for a document that evaluates again only what a change touches.
+//! `doc_model` and `cell_types`. Used by `known_reads` and `evaluated_doc`.
 //!
 //! Promises: `refresh_values` evaluates some cells anew where the values of all other formula cells
 //! are known and right; then each formula cell has its value, and what was known before is handed

@@ -1,8 +1,8 @@
 //! Who reads what: the reads of each cell, and the cells of each read.
 //!
 //! Stands on `cell_types` (cells, names), `doc_model` (rows that ascend), `lookup_index` (rows by
-//! key, buckets of values) and `formula_eval` (what a run notes). Nothing uses it yet: it is for a
-//! document that evaluates again only what a change touches.
+//! key, buckets of values) and `formula_eval` (what a run notes). Used by `affected_search` and by
+//! what stands on that, for updates that evaluate only what they affect.
 //!
 //! Promises: after `DepGraph::set` a cell reads exactly what the notes of its run say, and each
 //! other cell what it read; on an error no cell reads anything else. `rows_of` tells exactly the

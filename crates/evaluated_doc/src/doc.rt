@@ -19,7 +19,7 @@ ghost use Rattle.evaluated_doc.specs.WayBack.{IsWayBack};
 ghost use Rattle.evaluated_doc.specs.declared.doc.ChangeFault.TheVariants.{Invalid};
 
 use crate::trace::Trace;
-use crate::updating::{Affected, find_affected, is_update};
+use crate::updating::{Affected, find_affected, is_narrow};
 use affected_values::{HeldValue, leads_over_law, put_values_back, refresh_values, way_back_law};
 use cell_types::{CellValue, Name};
 use doc_actions::is_valid;
@@ -143,6 +143,16 @@ impl<D: DocTables> Doc<D> {
         })
     }
 
+    // Whether it pays to find what the action affects.
+    fn is_narrow(&self, action: &DocAction) -> bool
+        ensures { result ≡ true → is_update action.now ≡ true }
+    {
+        match &self.kept {
+            Some(kept) => is_narrow(&self.tables, kept, action),
+            None => false,
+        }
+    }
+
     // Does a valid update where values are kept, and evaluates what it affects.
     fn put_update(&mut self, alloc: Global, action: &DocAction) -> Result<Trace<D>, AllocError>
         requires valid { valid (D.document self.old) action.now ≡ true }
@@ -197,8 +207,8 @@ impl<D: DocTables> Doc<D> {
     /// Errors: out of memory; the document is then as it was.
     /// Memory: the store's, and a copy of the cells that may be lost: those of formula columns, and
     /// of data columns those that a record action writes or removes, or all of the table of a
-    /// schema action. Where a column has a formula or is given one, as to start; an update takes
-    /// that of what it affects.
+    /// schema action. Where a column has a formula or is given one, as to start; an update of few
+    /// rows takes that of what it affects, where no formula looks rows up.
     /// Cost: where none has, a record action looks at its own table and rows alone.
     pub fn put(&mut self, alloc: Global, action: &DocAction) -> Result<Trace<D>, AllocError>
         requires { valid (D.document self.old) action.now ≡ true }
@@ -213,7 +223,7 @@ impl<D: DocTables> Doc<D> {
         ensures err { OnErr result (D.document self.new ≡ D.document self.old) }
         ensures whole { IsWhole (D.document self.new) }
     {
-        if is_update(action) {
+        if self.is_narrow(action) {
             self.put_update(alloc, action)
         } else {
             self.put_whole(alloc, action)

@@ -10,10 +10,10 @@
 //! way back, and is read as the document with them in place; a trace has exactly the cells that a
 //! change lost, under the names before it; a change that fails leaves the document as it was, and
 //! the way back takes no memory.
-//! Not promised: speed. Where a column has a formula, an update evaluates what the graph of reads
-//! says that it affects, and first records what stale cells read: all, after any other change,
-//! which evaluates the whole document. A lookup that is recorded reads its whole table. Where no
-//! column has a formula nothing is kept, and a record action looks at what it writes or removes.
+//! Not promised: speed. Where columns have formulas and none looks rows up, an update of few rows
+//! evaluates what the graph of reads says that it affects, and first records what stale cells read:
+//! all, after any other change. Any other change evaluates the whole document. Where no column has
+//! a formula nothing is kept, and a record action looks at what it writes or removes.
 //! Read first: doc.rt, then specs/WayBack.antt and specs/Update.antt, then updating.rt.
 #![tactic(auto)]
 

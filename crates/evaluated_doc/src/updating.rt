@@ -18,6 +18,10 @@ use known_reads::KnownReads;
 use recalc::KeptTable;
 use std::alloc::{AllocError, Global};
 
+/// How many rows an update writes at most for that which it affects to be found: one of many rows
+/// affects most of its table.
+const NARROW_ROWS: usize = 64;
+
 /// Affected cells: to be evaluated anew, with room for what is known of them; to be noted as stale
 /// by the change; and by its way back.
 #[derive(Drop)]
@@ -28,14 +32,26 @@ pub(crate) struct Affected {
     pub(crate) stale: Vec<CellId>,
 }
 
-/// Whether the action is an update.
+// Whether a formula of the table looks rows up.
+fn looks_up<D: DocTables>(tables: &D, table: &KeptTable) -> bool {
+    (0..table.columns.len()).any(|index| match tables.column(&table.id, index) {
+        Some(column) => column.info.is_formula && column.info.formula.as_str().contains("lookup"),
+        None => false,
+    })
+}
+
+/// Whether it pays to find what an action affects: it is an update of few rows, and no formula
+/// looks rows up, since without an index that stays each lookup that is recorded goes over a table.
 ///
-/// Memory: none.
-pub(crate) fn is_update(action: &DocAction) -> bool
-    ensures { result ≡ is_update action.now }
+/// Memory: none. Cost: linear in the columns of the document.
+pub(crate) fn is_narrow<D: DocTables>(tables: &D, kept: &[KeptTable], action: &DocAction) -> bool
+    ensures { result ≡ true → is_update action.now ≡ true }
 {
     match action {
-        DocAction::BulkUpdate { .. } => true,
+        DocAction::BulkUpdate { rows, .. } => {
+            rows.as_slice().len() <= NARROW_ROWS
+                && !kept.iter().any(|table| looks_up(tables, table))
+        }
         _ => false,
     }
 }

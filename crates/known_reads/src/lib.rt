@@ -2,8 +2,8 @@
 //!
 //! Stands on `affected_search` (a cell's reads recorded by one attempt) and `dep_graph`, `recalc`
 //! (evaluated cells), `affected_values` (which cells have formulas), `affected_cells`,
-//! `formula_eval`, `formula_parse`, `doc_readers`, `doc_model` and `cell_types`. Nothing uses it
-//! yet: it is for a document that evaluates again only what a change touches.
+//! `formula_eval`, `formula_parse`, `doc_readers`, `doc_model` and `cell_types`. Used by
+//! `evaluated_doc`.
 //!
 //! Promises: `record_cells` records the reads of each of some cells, where they are formula cells;
 //! what the graph had of the reads of other formula cells it has still, where memory runs out too.

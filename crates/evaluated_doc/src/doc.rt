@@ -177,7 +177,7 @@ impl<D: DocTables> Doc<D> {
         };
         let affected = find_affected(alloc, &self.tables, kept, &mut self.reads, action)?;
         let mut cells = watched_cells(alloc, self, action, false)?;
-        let back = self.tables.put(action)?;
+        let undo = self.tables.put(action)?;
         let Some(kept) = &mut self.kept else {
             unreachable!();
         };
@@ -188,14 +188,14 @@ impl<D: DocTables> Doc<D> {
             stale,
         } = affected;
         let Ok(taken) = refresh_values(alloc, &self.tables, kept, named, room) else {
-            self.tables.take_back(back);
+            self.tables.take_back(undo);
             return Err(AllocError);
         };
         self.reads.note_cells(noted);
         keep_lost(self, action, &mut cells);
         Ok(Trace {
             cells,
-            back,
+            back: undo,
             kept: None,
             taken: Some(taken),
             stale,
@@ -279,13 +279,13 @@ impl<D: DocTables> Doc<D> {
         stale_law();
         let Trace {
             cells,
-            back,
+            back: undo,
             kept,
             taken,
             stale,
         } = trace;
         drop(cells);
-        self.tables.take_back(back);
+        self.tables.take_back(undo);
         match taken {
             Some(taken) => {
                 put_back(&self.tables, &mut self.kept, taken);

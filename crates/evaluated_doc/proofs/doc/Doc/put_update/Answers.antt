@@ -16,7 +16,7 @@ refresh_values-requires-clause-of_document g c =
     let a = c.args.action.now in
     let ok : valid s a ≡ true = subst (λ d. valid (g.D.DocReader.document d) a ≡ true) (sym c.self.view_is) c.requires.valid in
     let before : IsEvaluated s c.in-Some-kept.kept.items = rw c.in-Some-kept.is at c.self.invariant.1 in
-    (places s (g.D.DocReader.document c.put.new.self) a ok c.requires.update c.in_ok-back.ensures.done c.in-Some-kept.kept.items).of_document before.of_document
+    (places s (g.D.DocReader.document c.put.new.self) a ok c.requires.update c.in_ok-undo.ensures.done c.in-Some-kept.kept.items).of_document before.of_document
 
 pub refresh_values-requires-clause-others : goal.refresh_values-requires-clause-others
 refresh_values-requires-clause-others g c =
@@ -24,7 +24,7 @@ refresh_values-requires-clause-others g c =
     let a = c.args.action.now in
     let ok : valid s a ≡ true = subst (λ d. valid (g.D.DocReader.document d) a ≡ true) (sym c.self.view_is) c.requires.valid in
     let before : IsEvaluated s c.in-Some-kept.kept.items = rw c.in-Some-kept.is at c.self.invariant.1 in
-    right s (g.D.DocReader.document c.put.new.self) a ok c.requires.update c.in_ok-back.ensures.done c.find_affected.new.reads.graph c.in_ok-affected.affected.cells.items c.in-Some-kept.kept.items
+    right s (g.D.DocReader.document c.put.new.self) a ok c.requires.update c.in_ok-undo.ensures.done c.find_affected.new.reads.graph c.in_ok-affected.affected.cells.items c.in-Some-kept.kept.items
     c.in_ok-affected.ensures.holds c.in_ok-affected.ensures.found.cells before
 
 pub invariant_of-self-in_default-refresh_values : goal.invariant_of-self-in_default-refresh_values
@@ -35,9 +35,9 @@ invariant_of-self-in_default-refresh_values g c =
     let before : IsEvaluated s c.in-Some-kept.kept.items = rw c.in-Some-kept.is at c.self.invariant.1 in
     let new = c.refresh_values.new.kept.items in
     let reads = c.find_affected.new.reads in
-    subst (λ d. IsWhole d × IsEvaluated d new × KnowsOthers d reads) (sym (c.take_back.ensures ∙ c.in_ok-back.ensures.back)) (
+    subst (λ d. IsWhole d × IsEvaluated d new × KnowsOthers d reads) (sym (c.take_back.ensures ∙ c.in_ok-undo.ensures.back)) (
       c.self.invariant.0,
-      restored s (g.D.DocReader.document c.put.new.self) a ok c.requires.update c.in_ok-back.ensures.done new c.in-Some-kept.kept.items before c.in_default-refresh_values.ensures.of_document c.in_default-refresh_values.ensures.err,
+      restored s (g.D.DocReader.document c.put.new.self) a ok c.requires.update c.in_ok-undo.ensures.done new c.in-Some-kept.kept.items before c.in_default-refresh_values.ensures.of_document c.in_default-refresh_values.ensures.err,
       c.find_affected.ensures.others,
     )
 
@@ -48,9 +48,9 @@ invariant_of-self-3 g c =
     let a = c.args.action.now in
     let ok : valid s a ≡ true = subst (λ d. valid (g.D.DocReader.document d) a ≡ true) (sym c.self.view_is) c.requires.valid in
     let reads = c.find_affected.new.reads in (
-      subst IsWhole (sym c.in_ok-back.ensures.done) (c.kept_law.ensures s a c.self.invariant.0 ok),
+      subst IsWhole (sym c.in_ok-undo.ensures.done) (c.kept_law.ensures s a c.self.invariant.0 ok),
       c.in-Ok.ensures.ok,
-      known s next a ok c.requires.update c.in_ok-back.ensures.done c.stale_law.ensures reads c.note_cells.new.self c.in_ok-affected.affected.noted.items c.in_ok-affected.ensures.holds c.in_ok-affected.ensures.found.noted
+      known s next a ok c.requires.update c.in_ok-undo.ensures.done c.stale_law.ensures reads c.note_cells.new.self c.in_ok-affected.affected.noted.items c.in_ok-affected.ensures.holds c.in_ok-affected.ensures.found.noted
           (record { graph = c.note_cells.ensures.graph; stale = c.note_cells.ensures.stale }) c.find_affected.ensures.others,
     )
 
@@ -62,7 +62,7 @@ returns-clause-cells g c =
     let ok : valid s a ≡ true = subst (λ d. valid (g.D.DocReader.document d) a ≡ true) (sym c.self.view_is) c.requires.valid in
     subst (λ d. c.keep_lost.new.cells.items ≡ lost (g.D.DocReader.document d) next a) c.self.view_is
     (c.keep_lost.ensures ∙ ap (filter (is_lost (filled next) a)) c.in_ok-cells.ensures
-    ∙ subst (λ d. filter (is_lost (filled d) a) (filter (may_lose (filled s) a) (all_cells (filled s))) ≡ lost s d a) (sym c.in_ok-back.ensures.done) (sym (c.may_lose_law.ensures s a c.self.invariant.0 ok)))
+    ∙ subst (λ d. filter (is_lost (filled d) a) (filter (may_lose (filled s) a) (all_cells (filled s))) ≡ lost s d a) (sym c.in_ok-undo.ensures.done) (sym (c.may_lose_law.ensures s a c.self.invariant.0 ok)))
 
 pub returns-clause-way : goal.returns-clause-way
 returns-clause-way g c =
@@ -72,9 +72,9 @@ returns-clause-way g c =
     let ok : valid s a ≡ true = subst (λ d. valid (g.D.DocReader.document d) a ≡ true) (sym c.self.view_is) c.requires.valid in
     let before : IsEvaluated s c.in-Some-kept.kept.items = rw c.in-Some-kept.is at c.self.invariant.1 in
     record {
-      fit = c.in_ok-back.ensures.fit;
-      whole = subst IsWhole (sym c.in_ok-back.ensures.back) c.self.invariant.0;
-      before = subst (λ d. LeadsFrom d next c.in-Ok.taken.items c.in_ok-affected.affected.stale.items) (sym c.in_ok-back.ensures.back)
-          (leads s next a ok c.requires.update c.in_ok-back.ensures.done c.leads_over_law.ensures c.find_affected.new.reads.graph c.in_ok-affected.affected.stale.items c.in-Ok.taken.items c.refresh_values.new.kept.items c.in-Some-kept.kept.items
+      fit = c.in_ok-undo.ensures.fit;
+      whole = subst IsWhole (sym c.in_ok-undo.ensures.back) c.self.invariant.0;
+      before = subst (λ d. LeadsFrom d next c.in-Ok.taken.items c.in_ok-affected.affected.stale.items) (sym c.in_ok-undo.ensures.back)
+          (leads s next a ok c.requires.update c.in_ok-undo.ensures.done c.leads_over_law.ensures c.find_affected.new.reads.graph c.in_ok-affected.affected.stale.items c.in-Ok.taken.items c.refresh_values.new.kept.items c.in-Some-kept.kept.items
           c.in_ok-affected.ensures.holds c.in_ok-affected.ensures.found.stale before c.in-Ok.ensures.ok c.in-Ok.ensures.way);
     }

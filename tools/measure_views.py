@@ -217,9 +217,9 @@ def main():
         print(f"PostgreSQL reads the same rows in {theirs:.3f} ms: the opening takes {own / theirs:.2f} of it (aim: 0.25)")
     else:
         print("no PostgreSQL is found here")
-    few, many, wide = updating(ROWS, 4), updating(ROWS, 40), updating(10 * ROWS, 40)
+    few, many, wide = updating(ROWS, 4), updating(ROWS, 40), updating(10 * ROWS, 4)
     print(f"an updated cell: {1e6 * few:.1f} microseconds beside 4 sessions of four users, {1e6 * many:.1f} beside 40, {many / few:.2f} times as long (aim: 2)")
-    print(f"over {10 * ROWS} rows, 40 sessions: {1e6 * wide:.1f} microseconds, {wide / many:.2f} times as long (aim: 1.3)")
+    print(f"over {10 * ROWS} rows, 4 sessions: {1e6 * wide:.1f} microseconds, {wide / few:.2f} times as long (aim: 1.3)")
 
 
 if __name__ == "__main__":

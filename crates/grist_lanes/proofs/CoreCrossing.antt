@@ -33,6 +33,7 @@ use Rattle.formula_parse.proofs.operator.Constant.TheSendSync.{the_send as const
 use Rattle.formula_parse.proofs.operator.LookupKind.TheSendSync.{the_send as lookupKind-send}
 use Rattle.formula_parse.proofs.operator.PrefixOp.TheSendSync.{the_send as prefixOp-send}
 use Rattle.formula_parse.proofs.rule.RuleAtom.TheSendSync.{the_send as ruleAtom-send}
+use Rattle.known_reads.proofs.beside.KnownReads.TheSendSync.{the_send as knownReads-send}
 use Rattle.row_tables.proofs.tables.RowTables.TheSendSync.{the_send as rowTables-send}
 use Rattle.undo_bundles.proofs.log.BundleLog.TheSendSync.{the_send as bundleLog-send}
 use Rattle.user_attrs.proofs.attribute_rule.AttributeRule.TheSendSync.{the_send as attributeRule-send}
@@ -106,6 +107,7 @@ ruleset parts = (
   prefixOp-send,
   ruleAtom-send,
   rowTables-send,
+  knownReads-send,
   bundleLog-send,
   attributeRule-send,
 )

@@ -8,8 +8,7 @@ invariant_of-result g c =
     let told = g.K.Keeper.records c.args.keeper in
     let start = document_of c.args.loaded.opening in
     let number = c.args.loaded.count in
-    let kept = first_kept c.args.users told (g.K.Keeper.failures c.args.keeper) start number c.requires.opens in
-    (
+    let kept = first_kept c.args.users told (g.K.Keeper.failures c.args.keeper) start number c.requires.opens in (
       record {
         state = search rules;
         whole = search rules;

@@ -8,7 +8,7 @@ use Rattle.grist_run.specs.Words.{is_early}
 use Rattle.grist_run.proofs.ReplayLaws.{keeps_records}
 use Rattle.grist_hosting.specs.Hosting.{Hosts}
 use Rattle.grist_hosting.specs.HostingParts.{is_late}
-use Rattle.grist_hosting.proofs.HostLemmas.{ends_hosting, ends_late, ends_not_early, line, line_told, stays_of}
+use Rattle.grist_hosting.proofs.HostLemmas.{ends_hosting, ends_late, ends_not_early, ends_written, line, line_told, stays_of}
 use Rattle.grist_hosting.proofs.hosting.host_from.Goals as goal
 
 pub returns-in-Ok-clause-late : goal.returns-in-Ok-clause-late
@@ -56,3 +56,7 @@ returns-clause-hosts g c =
       keeper = keeps_records new end.ensures.keeping end.result.status (ap is_early end.ensures.status) old (stays_of old new (ap opening_of same))
           end.result.history end.ensures.history (g.K.Keeper.records end.result.keeper) end.ensures.records (g.K.Keeper.failures end.result.keeper) end.ensures.faults;
     }
+
+pub returns-in-Ok-clause-write_fault : goal.returns-in-Ok-clause-write_fault
+returns-in-Ok-clause-write_fault g c = λ is.
+    ends_written c.send-sent.result c.in-Ok.field-0.have_ended c.send-sent.ensures.cause (sym (c.finish.ensures.status ∙ c.end_status.ensures) ∙ is)

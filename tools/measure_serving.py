@@ -22,7 +22,7 @@ import time
 HERE = os.path.dirname(os.path.abspath(__file__))
 PROGRAM = os.path.join(HERE, "..", "crates", "grist_main", "out", "grist_main")
 USER = '{"user":{"access":"owners","email":"ann@x.org","id":1,"name":"Ann","token":"ta"}}\n'
-LANES, PORT, ECHO = 16, 47400, 47390
+LANES, PORT, ECHO = 16, 21400, 21390
 
 # load PORT STRIDE REQUESTS: requests and lines a second; echo PORT; sqlite FILE REQUESTS
 C = r"""

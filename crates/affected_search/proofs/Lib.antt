@@ -1,6 +1,7 @@
 pub mod ActionLaws
 pub mod ColumnLaws
 pub mod FoundLaws
+pub mod LosingLaws
 pub mod NarrowLaws
 pub mod ReachedLaws
 pub mod RecordingLaws

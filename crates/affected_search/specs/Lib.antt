@@ -1,6 +1,7 @@
 pub mod Actions
 pub mod ByColumn
 pub mod Found
+pub mod Losing
 pub mod Narrow
 pub mod Reached
 pub mod Recording

@@ -1,8 +1,8 @@
 //! The search for the cells that a change affects, by a graph of reads.
 //!
-//! Stands on `dep_graph` (who reads what); its laws also on `affected_cells` (what an action
-//! touches), `recalc` (evaluated cells) and `formula_eval` (notes of runs). Used by
-//! `affected_values`, `known_reads` and `evaluated_doc`.
+//! Stands on `dep_graph` (who reads what), `lookup_index` (rows by column) and `recalc` (cells with
+//! what they hold); its laws also on `affected_cells` (what an action touches) and `formula_eval`
+//! (notes of runs). Used by `affected_values`, `known_reads` and `evaluated_doc`.
 //!
 //! Promises: of a list of touched reads, `affected_by` finds exactly the cells that read one of
 //! them, or read a cell that was found, or the column of one as a key column. So what it finds is
@@ -15,14 +15,16 @@
 //! graph holds nothing else and readers of what is listed read something touched.
 //! Of an action on records `touched_reads` lists exactly the reads that it touches, of those that
 //! have numbers, so that `affected_by_action` has both laws on its contract. What such an action
-//! loses is found, or written or removed (`narrow_law`). `record_cell` records what the formula of
-//! a cell reads, by one attempt at most; once the new and the found cells are recorded anew, the
-//! graph holds the reads of each formula cell again (`set_law`, `carried_law`).
+//! loses is found, or written or removed (`narrow_law`): `narrow_cells` tells exactly these cells
+//! of a document, in order. `record_cell` records what the formula of a cell reads, by one attempt
+//! at most; once the new and the found cells are recorded anew, the graph holds the reads of each
+//! formula cell again (`set_law`, `carried_law`).
 //! Not promised: which reads a schema action touches, by numbers.
 //! Costs: each reader of a touched read, of a found cell and of a found cell's column as a key
 //! column is looked up once for each of these reads; a column is asked for once, however many of
 //! its cells are found. The rest of the document is not gone over. Where rows come or go, each name
-//! that has a number is asked for once, and once for each row.
+//! that has a number is asked for once, and once for each row. `narrow_cells` asks for each column
+//! of the tables that are written or have a number, and then for the named rows alone.
 //! Read first: specs/Reached.antt, then search.rt; specs/Actions.antt, then acting.rt.
 #![tactic(auto)]
 
@@ -30,6 +32,7 @@ mod acting;
 mod affected;
 mod by_column;
 mod laws;
+mod losing;
 mod recording;
 mod search;
 mod touched;
@@ -38,6 +41,7 @@ pub use acting::affected_by_action;
 pub use affected::AffectedCells;
 pub use by_column::rows_by_column;
 pub use laws::{carried_law, found_law, held_law, least_law, narrow_law, set_law, within_law};
+pub use losing::narrow_cells;
 pub use recording::record_cell;
 pub use search::affected_by;
 pub use touched::touched_reads;

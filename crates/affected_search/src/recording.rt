@@ -40,7 +40,8 @@ fn notes_of<R: CellReader, L: Ledger>(
 }
 
 /// Records in a graph what the formula of a cell reads, all values of formula cells known: by one
-/// attempt at most, whatever comes of it.
+/// attempt at most, whatever comes of it. Hands out the notes of the attempt, which tell by which
+/// columns it looked rows up.
 ///
 /// Errors: out of memory; each cell then reads what it read.
 /// Memory: a note for each read and each lookup, and what the graph takes of them.
@@ -52,14 +53,17 @@ pub fn record_cell<R: CellReader, L: Ledger>(
     at: &RowRef,
     tree: Option<&Formula>,
     steps: &mut Steps<L>,
-) -> Result<(), AllocError>
+) -> Result<NoteList, AllocError>
     requires here { at.now ≡ row_of cell.now }
     requires known { NeedsNone (R.told reader.now) }
     ensures ok { OnOk result (RecordsCell (R.told reader.now) (option_copied tree.entry)
         graph.old graph.new cell.now) }
+    ensures notes { IfOk result (λ notes.
+        (evaluated_some (R.told reader.now) at.now (option_copied tree.entry)).notes ≡ notes) }
     ensures err { OnErr result (IsKept graph.old graph.new) }
     ensures steps { steps.new ≤ steps.old + 1 }
 {
     let notes = notes_of(alloc, reader, at, tree, steps)?;
-    graph.set(cell, &notes)
+    graph.set(cell, &notes)?;
+    Ok(notes)
 }

@@ -4,3 +4,5 @@ mod NamedLemmas
 pub mod SamePlaces
 mod WaysBack
 pub mod HeldNone
+mod CarriedLemmas
+mod RowCellLemmas

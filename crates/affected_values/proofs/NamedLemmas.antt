@@ -2,7 +2,9 @@
 use Rattle.std.proofs.Common.{ℕ, ◌≤◌, Bool, true, false, ◌||◌, List, [], ◌∷◌, ◌++◌, length, slice_get, ◌≡◌, refl, sym, ap, ◌∙◌, subst, Option, Some, None}
 use Rattle.std.proofs.lemmas.Bool.{false≢true}
 use Rattle.std.proofs.lemmas.List.Folds.{list_any-append}
+use Rattle.std.proofs.lemmas.List.Sorted.{list_any-IsPermutation}
 use Rattle.std.specs.List.{AllByRecursion}
+use Rattle.std.specs.List.Sorted.{IsPermutation}
 use Rattle.cell_types.specs.declared.cell.CellId.{CellId}
 use Rattle.dep_graph.specs.declared.numbers.CellNumber.{CellNumber}
 use Rattle.dep_graph.specs.Graph.{Graph}
@@ -78,3 +80,8 @@ all_named graph found named i le all c h = by (cell_in graph.names c) refl h
     by : (o : Option CellNumber) → cell_in graph.names c ≡ o → elim o as (λ _. Bool) [ None ↦ false | Some k ↦ is_among found k ] ≡ true → on named c ≡ true
     by None at h = absurd (false≢true h)
     by (Some k) at h = among_all (IsNamed graph.names named) found k (each_all (IsNamed graph.names named) found i le all) h c at
+
+-- in another order they are named still
+pub still_named : (graph : Graph) (found : List CellNumber) (named moved : List CellId) → IsPermutation named moved → ((c : CellId) → is_found graph found c ≡ true → on named c ≡ true)
+    → (c : CellId) → is_found graph found c ≡ true → on moved c ≡ true
+still_named graph found named moved same all c h = sym (list_any-IsPermutation (λ d. is_same d c) named moved same) ∙ all c h

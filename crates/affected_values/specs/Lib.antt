@@ -1,3 +1,4 @@
 pub mod Taken
 pub mod SamePlaces
 pub mod WaysBack
+pub mod Carried

@@ -1,5 +1,6 @@
 //! Laws of values that are kept over an action.
 
+ghost use Rattle.affected_values.specs.Carried.{RightOverLaw};
 ghost use Rattle.affected_values.specs.SamePlaces.{LeftRightLaw, SamePlacesLaw};
 ghost use Rattle.affected_values.specs.WaysBack.{LeadsOverLaw, WayBackLaw};
 
@@ -21,4 +22,9 @@ pub fn leads_over_law()
 /// Put back among the values after an update, what leads back over it makes them those before it.
 pub fn way_back_law()
     ensures { WayBackLaw }
+{}
+
+/// Over rows that come or go the values of formula cells that are not found are right still.
+pub fn right_over_law()
+    ensures { RightOverLaw }
 {}

@@ -10,17 +10,23 @@
 //! memory. Over an update the values of cells that are not found are right still, at the places at
 //! which they stood (`left_right_law`, `same_places_law`); `named_cells` tells the found ones, and
 //! what was handed out leads back over the update (`leads_over_law`, `way_back_law`).
-//! Not promised: that only found cells are named; how many attempts are made; anything where rows
-//! come or go.
-//! Read first: specs/Taken.antt, then refreshing.rt.
+//! Over rows that come or go `evaluate_carrying` copies what was kept of the cells that are not
+//! found, which is right still (`right_over_law`), and evaluates the others; `push_row_cells` tells
+//! the formula cells of such rows.
+//! Not promised: that only found cells are named; how many attempts are made.
+//! Read first: specs/Taken.antt, then refreshing.rt; specs/Carried.antt, then carrying.rt.
 #![tactic(auto)]
 
+mod carrying;
 mod laws;
 mod naming;
 mod refreshing;
+mod row_cells;
 mod taking;
 
-pub use laws::{leads_over_law, left_right_law, same_places_law, way_back_law};
+pub use carrying::evaluate_carrying;
+pub use laws::{leads_over_law, left_right_law, right_over_law, same_places_law, way_back_law};
 pub use naming::named_cells;
 pub use refreshing::refresh_values;
+pub use row_cells::push_row_cells;
 pub use taking::{HeldValue, is_formula_cell, put_values_back};

@@ -43,7 +43,8 @@ fn push_named(
     Ok(())
 }
 
-/// The cells that were found, by name.
+/// The cells that were found, by name, the first one last: whoever takes them from the end takes
+/// them in the order in which they were found.
 ///
 /// Errors: out of memory. Memory: the cells. Cost: linear in the cells.
 pub fn named_cells(
@@ -59,5 +60,7 @@ pub fn named_cells(
     for number in cells {
         push_named(&mut named, graph, *number)?;
     }
+    // Most need only cells that were found before them, so few then wait for others.
+    named.reverse();
     Ok(named)
 }

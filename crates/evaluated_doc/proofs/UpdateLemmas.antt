@@ -1,5 +1,5 @@
 -- An update of a document of which values are kept.
-use Rattle.std.proofs.Common.{ℕ, true, false, cond, ◌||◌, List, [], ◌∷◌, ◌≡◌, refl, sym, ap, ◌∙◌, subst, Option, unwrap_or}
+use Rattle.std.proofs.Common.{ℕ, true, false, cond, filter, ◌||◌, List, [], ◌∷◌, ◌≡◌, refl, sym, ap, ◌∙◌, subst, Option, unwrap_or}
 use Rattle.std.proofs.lemmas.Bool.{false≢true}
 use Rattle.std.specs.Option.{is_some}
 use Rattle.cell_types.specs.declared.cell.CellId.{CellId}
@@ -10,13 +10,17 @@ use Rattle.doc_model.specs.Apply.{apply}
 use Rattle.doc_model.specs.Document.{Document}
 use Rattle.doc_model.specs.DocumentLaws.{IsWhole}
 use Rattle.doc_model.specs.Valid.{valid}
+use Rattle.dep_graph.specs.declared.numbers.CellNumber.{CellNumber}
 use Rattle.dep_graph.specs.Graph.{Graph}
 use Rattle.recalc.specs.declared.kept.KeptTable.{KeptTable}
 use Rattle.recalc.specs.Current.{IsCurrent, has_formula, has_formulas}
-use Rattle.recalc.specs.Evaluated.{formula_at, sheet_of}
+use Rattle.recalc.specs.Evaluated.{filled, formula_at, sheet_of}
 use Rattle.recalc.specs.Kept.{IsEvaluated, IsKeptOf, held_at}
+use Rattle.recalc.specs.Lost.{all_cells, is_lost, lost}
+use Rattle.recalc.specs.MayLose.{is_record}
 use Rattle.affected_cells.proofs.UpdateTouches.{after, same_columns, same_formula}
 use Rattle.affected_search.specs.Actions.{KeepsOthers}
+use Rattle.affected_search.specs.Narrow.{NarrowLaw, is_narrow}
 use Rattle.affected_search.specs.Sheets.{HoldsReads}
 use Rattle.affected_values.specs.declared.taking.HeldValue.{HeldValue}
 use Rattle.affected_values.specs.SamePlaces.{HasSamePlaces}
@@ -38,6 +42,16 @@ update_parts (AddColumn t d) h = absurd (false≢true h)
 update_parts (RemoveColumn t c) h = absurd (false≢true h)
 update_parts (RenameColumn t c n) h = absurd (false≢true h)
 update_parts (ModifyColumn t c i) h = absurd (false≢true h)
+
+-- an update is an action on records
+pub of_records : (a : DocAction) → is_update a ≡ true → is_record a ≡ true
+of_records a update = let u = update_parts a update in ap is_record u.3
+
+-- the cells that an action on records loses are among the found and the written ones
+pub lost_narrow : NarrowLaw → (s next : Document) (a : DocAction) → valid s a ≡ true → is_record a ≡ true → next ≡ apply s a → (graph : Graph) (found : List CellNumber) → IsWhole s → HoldsReads graph (sheet_of s) → KeepsOthers graph a found
+    → filter (is_lost (filled next) a) (filter (is_narrow graph found (filled s) a) (all_cells (filled s))) ≡ lost s next a
+lost_narrow law s next a ok records done graph found whole holds keeps =
+    subst (λ d. filter (is_lost (filled d) a) (filter (is_narrow graph found (filled s) a) (all_cells (filled s))) ≡ lost s d a) (sym done) (sym (law s a graph found whole ok records holds keeps))
 
 module _ (s next : Document) (a : DocAction) (ok : valid s a ≡ true) (update : is_update a ≡ true) (done : next ≡ apply s a) where
   abbrev t : List ℕ

@@ -27,8 +27,9 @@ pub record HasFound (graph : Graph) (a : DocAction) (cells : List CellId) : Type
   pub keeps : KeepsOthers graph a found
   pub named : (c : CellId) → is_found graph found c ≡ true → on cells c ≡ true
 
--- three lists with the found cells, and room for what is taken of the first
+-- the found cells, three lists with them by name, and room for what is taken of the first
 pub record IsAffected (graph : Graph) (a : DocAction) (x : Affected) : Type 0 where
+  pub found : KeepsOthers graph a x.found
   pub cells : HasFound graph a x.cells.items
   pub noted : HasFound graph a x.noted.items
   pub stale : HasFound graph a x.stale.items

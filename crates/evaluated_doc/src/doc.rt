@@ -1,6 +1,6 @@
 //! A document with its formula cells evaluated.
 
-ghost use Rattle.std.specs.Prelude.{true, ◌≡◌, ◌↔◌, false, [], Err, List, None, Some, IfOk, OnOk, OnErr, MatchOption};
+ghost use Rattle.std.specs.Prelude.{true, ◌≡◌, ◌↔◌, ◌||◌, false, [], Err, List, None, Some, IfOk, OnOk, OnErr, MatchOption};
 ghost use Rattle.std.specs.Option.{option_copied, option_map};
 ghost use Rattle.cell_types.specs.declared.cell.CellId.{CellId};
 ghost use Rattle.doc_model.specs.Apply.{apply};
@@ -14,19 +14,26 @@ ghost use Rattle.recalc.specs.Evaluated.{filled};
 ghost use Rattle.recalc.specs.Kept.{IsEvaluated};
 ghost use Rattle.recalc.specs.Lost.{lost};
 ghost use Rattle.recalc.specs.Seen.{value_told};
+ghost use Rattle.recalc.specs.Stack.{on};
+ghost use Rattle.affected_values.specs.Carried.{moved_rows, moved_table};
+ghost use Rattle.known_reads.specs.Beside.{is_stale};
 ghost use Rattle.evaluated_doc.specs.Update.{LeadsFrom, is_update};
 ghost use Rattle.evaluated_doc.specs.WayBack.{IsWayBack};
 ghost use Rattle.evaluated_doc.specs.declared.doc.ChangeFault.TheVariants.{Invalid};
 
+use crate::moving::{few_moved, find_moved, follow_moved, is_looked_up};
 use crate::trace::Trace;
-use crate::updating::{Affected, find_affected, is_narrow};
-use affected_values::{HeldValue, leads_over_law, put_values_back, refresh_values, way_back_law};
-use cell_types::{CellValue, Name};
+use crate::updating::{Affected, find_affected, is_narrow, is_of_schema};
+use affected_search::{narrow_cells, narrow_law};
+use affected_values::{
+    HeldValue, leads_over_law, put_values_back, refresh_values, right_over_law, way_back_law,
+};
+use cell_types::{CellId, CellValue, Name};
 use doc_actions::is_valid;
 use doc_model::laws::kept_law;
 use doc_model::{ColDef, DocAction, DocReader, DocTables};
 use formula_eval::Reading;
-use known_reads::{KnownReads, stale_law};
+use known_reads::{KnownReads, ReadsFault, noted_law, reads_back_law, reads_over_law, stale_law};
 use recalc::laws::{may_lose_law, stays_plain_law};
 use recalc::{
     KeptTable, brings_formula, cell_told, keep_lost, keep_values, keep_values_after, watched_cells,
@@ -133,6 +140,9 @@ impl<D: DocTables> Doc<D> {
         };
         let kept = mem::replace(&mut self.kept, fresh);
         self.reads.note_all();
+        if is_of_schema(action) {
+            self.reads.try_again();
+        }
         keep_lost(self, action, &mut cells);
         Ok(Trace {
             cells,
@@ -140,6 +150,7 @@ impl<D: DocTables> Doc<D> {
             kept,
             taken: None,
             stale: Vec::new(alloc),
+            are_all_stale: true,
         })
     }
 
@@ -147,13 +158,11 @@ impl<D: DocTables> Doc<D> {
     fn is_narrow(&self, action: &DocAction) -> bool
         ensures { result ≡ true → is_update action.now ≡ true }
     {
-        match &self.kept {
-            Some(kept) => is_narrow(&self.tables, kept, action),
-            None => false,
-        }
+        self.kept.is_some() && !self.reads.is_wide() && is_narrow(action)
     }
 
-    // Does a valid update where values are kept, and evaluates what it affects.
+    // Does a valid update where values are kept, and evaluates what it affects; the whole document,
+    // where too much is read for this to be found.
     fn put_update(&mut self, alloc: Global, action: &DocAction) -> Result<Trace<D>, AllocError>
         requires valid { valid (D.document self.old) action.now ≡ true }
         requires update { is_update action.now ≡ true }
@@ -169,14 +178,18 @@ impl<D: DocTables> Doc<D> {
         ensures whole { IsWhole (D.document self.new) }
     {
         kept_law();
-        may_lose_law();
+        narrow_law();
         leads_over_law();
         stale_law();
         let Some(kept) = &self.kept else {
             return self.put_whole(alloc, action);
         };
-        let affected = find_affected(alloc, &self.tables, kept, &mut self.reads, action)?;
-        let mut cells = watched_cells(alloc, self, action, false)?;
+        let affected = match find_affected(alloc, &self.tables, kept, &mut self.reads, action) {
+            Ok(affected) => affected,
+            Err(ReadsFault::TooMany) => return self.put_whole(alloc, action),
+            Err(ReadsFault::NoMemory) => return Err(AllocError),
+        };
+        let mut cells = narrow_cells(alloc, self, self.reads.graph(), &affected.found, action)?;
         let undo = self.tables.put(action)?;
         let Some(kept) = &mut self.kept else {
             unreachable!();
@@ -186,6 +199,7 @@ impl<D: DocTables> Doc<D> {
             room,
             noted,
             stale,
+            ..
         } = affected;
         let Ok(taken) = refresh_values(alloc, &self.tables, kept, named, room) else {
             self.tables.take_back(undo);
@@ -199,6 +213,78 @@ impl<D: DocTables> Doc<D> {
             kept: None,
             taken: Some(taken),
             stale,
+            are_all_stale: false,
+        })
+    }
+
+    // Whether a formula looks rows of the table up, as far as its text tells; so too where no
+    // values are kept. A row that comes or goes affects each such cell.
+    fn looks_up(&self, table: &Name) -> bool {
+        match &self.kept {
+            Some(kept) => is_looked_up(&self.tables, kept, table),
+            None => true,
+        }
+    }
+
+    // Does a valid action by which these rows of a table come or go where values are kept:
+    // evaluates what it affects, and copies the other values.
+    fn put_rows(
+        &mut self,
+        alloc: Global,
+        action: &DocAction,
+        table: &Name,
+        rows: &[u32],
+    ) -> Result<Trace<D>, AllocError>
+        requires valid { valid (D.document self.old) action.now ≡ true }
+        requires table { moved_table action.now ≡ Some table.now }
+        requires rows { moved_rows action.now ≡ rows.now }
+        ensures ok { OnOk result
+            (D.document self.new ≡ apply (D.document self.old) action.now) }
+        ensures cells { IfOk result (λ trace. trace.cells
+            ≡ lost (D.document self.old) (D.document self.new) action.now) }
+        ensures way { IfOk result
+            (λ trace. IsWayBack D.fits D.undone trace (D.document self.new)) }
+        ensures back { IfOk result
+            (λ trace. D.undone trace.back (D.document self.new) ≡ D.document self.old) }
+        ensures err { OnErr result (D.document self.new ≡ D.document self.old) }
+        ensures whole { IsWhole (D.document self.new) }
+    {
+        kept_law();
+        narrow_law();
+        right_over_law();
+        reads_over_law();
+        reads_back_law();
+        noted_law();
+        let Some(kept) = &self.kept else {
+            return self.put_whole(alloc, action);
+        };
+        let reads = &mut self.reads;
+        let mut moved = match find_moved(alloc, &self.tables, kept, reads, action, table, rows) {
+            Ok(moved) => moved,
+            Err(ReadsFault::TooMany) => return self.put_whole(alloc, action),
+            Err(ReadsFault::NoMemory) => return Err(AllocError),
+        };
+        let mut cells = narrow_cells(alloc, self, self.reads.graph(), &moved.found, action)?;
+        let undo = self.tables.put(action)?;
+        let Some(kept) = &self.kept else {
+            unreachable!();
+        };
+        let graph = self.reads.graph();
+        let Ok(fresh) = follow_moved(alloc, &self.tables, kept, graph, &mut moved, table, rows)
+        else {
+            self.tables.take_back(undo);
+            return Err(AllocError);
+        };
+        let before = mem::replace(&mut self.kept, Some(fresh));
+        self.reads.note_cells(moved.noted);
+        keep_lost(self, action, &mut cells);
+        Ok(Trace {
+            cells,
+            back: undo,
+            kept: before,
+            taken: None,
+            stale: moved.stale,
+            are_all_stale: false,
         })
     }
 
@@ -207,9 +293,13 @@ impl<D: DocTables> Doc<D> {
     /// Errors: out of memory; the document is then as it was.
     /// Memory: the store's, and a copy of the cells that may be lost: those of formula columns, and
     /// of data columns those that a record action writes or removes, or all of the table of a
-    /// schema action. Where a column has a formula or is given one, as to start; an update of few
-    /// rows takes that of what it affects, where no formula looks rows up.
-    /// Cost: where none has, a record action looks at its own table and rows alone.
+    /// schema action. Where a column has a formula or is given one, as to start. An update of few
+    /// rows takes that of what it affects and writes, and what the graph of reads takes of stale
+    /// cells. So do few rows that come or go, with a copy of the values, where no formula looks
+    /// these up.
+    /// Cost: where no column has a formula, a record action looks at its own table and rows alone;
+    /// an update of few rows looks at each column, and at the rows that it affects and writes,
+    /// unless formulas read more than is recorded.
     pub fn put(&mut self, alloc: Global, action: &DocAction) -> Result<Trace<D>, AllocError>
         requires { valid (D.document self.old) action.now ≡ true }
         ensures ok { OnOk result
@@ -224,10 +314,14 @@ impl<D: DocTables> Doc<D> {
         ensures whole { IsWhole (D.document self.new) }
     {
         if self.is_narrow(action) {
-            self.put_update(alloc, action)
-        } else {
-            self.put_whole(alloc, action)
+            return self.put_update(alloc, action);
         }
+        if let Some((table, rows)) = few_moved(action) {
+            if !self.reads.is_wide() && !self.looks_up(table) {
+                return self.put_rows(alloc, action, table, rows);
+            }
+        }
+        self.put_whole(alloc, action)
     }
 
     /// Does a valid action, and evaluates the document after it.
@@ -277,12 +371,14 @@ impl<D: DocTables> Doc<D> {
         ensures { D.document self.new ≡ D.undone trace.back (D.document self.old) }
     {
         stale_law();
+        noted_law();
         let Trace {
             cells,
             back: undo,
             kept,
             taken,
             stale,
+            are_all_stale,
         } = trace;
         drop(cells);
         self.tables.take_back(undo);
@@ -293,9 +389,25 @@ impl<D: DocTables> Doc<D> {
             }
             None => {
                 self.kept = kept;
-                self.reads.note_all();
+                note_back(&mut self.reads, are_all_stale, stale);
             }
         }
+    }
+}
+
+// Notes these cells as stale, or all.
+fn note_back(reads: &mut KnownReads, are_all: bool, cells: Vec<CellId>)
+    ensures graph { reads.new.graph ≡ reads.old.graph }
+    ensures stale { (c : CellId) → (is_stale reads.old c || on cells.items c) ≡ true
+        → is_stale reads.new c ≡ true }
+    ensures all { are_all ≡ true → reads.new.are_all_stale ≡ true }
+{
+    if are_all {
+        reads.note_all();
+        // The change may have been of the schema.
+        reads.try_again();
+    } else {
+        reads.note_cells(cells);
     }
 }
 

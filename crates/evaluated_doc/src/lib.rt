@@ -10,14 +10,19 @@
 //! way back, and is read as the document with them in place; a trace has exactly the cells that a
 //! change lost, under the names before it; a change that fails leaves the document as it was, and
 //! the way back takes no memory.
-//! Not promised: speed. Where columns have formulas and none looks rows up, an update of few rows
-//! evaluates what the graph of reads says that it affects, and first records what stale cells read:
-//! all, after any other change. Any other change evaluates the whole document. Where no column has
-//! a formula nothing is kept, and a record action looks at what it writes or removes.
-//! Read first: doc.rt, then specs/WayBack.antt and specs/Update.antt, then updating.rt.
+//! Not promised: speed. Where columns have formulas, an update of few rows evaluates what the graph
+//! of reads says that it affects, looks at that and at what it writes for what it lost, and first
+//! records what stale cells read: all, after any other change. Each time it makes indexes of the
+//! data columns by which these cells look rows up. Few rows that come or go do the same and copy
+//! every other value, where no formula looks them up. Where that is too much to be recorded, and
+//! for any other change, the whole document is evaluated. Where no column has a formula nothing is
+//! kept, and a record action looks at what it writes or removes.
+//! Read first: doc.rt, then specs/WayBack.antt, specs/Update.antt and specs/Moved.antt, then
+//! updating.rt and moving.rt.
 #![tactic(auto)]
 
 mod doc;
+mod moving;
 mod trace;
 mod updating;
 

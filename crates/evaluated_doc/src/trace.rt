@@ -17,8 +17,9 @@ pub struct Trace<D: DocTables> {
     pub(crate) kept: Option<Vec<KeptTable>>,
     // The values before the change of those cells that it evaluated anew, where these are all.
     pub(crate) taken: Option<Vec<HeldValue>>,
-    // The cells that may read something else before the change.
+    // The cells that may read something else before the change, where not all may.
     pub(crate) stale: Vec<CellId>,
+    pub(crate) are_all_stale: bool,
 }
 
 impl<D: DocTables> Model for Trace<D> {
@@ -37,6 +38,7 @@ impl<D: DocTables> Model for Trace<D> {
       kept = option_map (λ v. v.items) t.kept;
       taken = option_map (λ v. v.items) t.taken;
       stale = t.stale.items;
+      are_all_stale = t.are_all_stale;
     } };
 }
 

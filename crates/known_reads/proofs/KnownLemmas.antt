@@ -66,9 +66,10 @@ module _ (s : Sheet) (old new : Graph) (kept : IsKept old new) where
         (all_weaker (IsHeld old.names (reads_under old.reads h.0)) (IsHeld new.names (reads_under old.reads h.0)) (stays (reads_under old.reads h.0)) (reads s c) h.2),
   )
 
-pub err_map : {A E : Type 0} {P Q : Type 0} (r : Result A E) → (P → Q) → OnErr r P → OnErr r Q
-err_map (Ok x) h p = tt
-err_map (Err e) h p = h p
+-- what holds in any case
+pub at_err : {A E P : Type 0} (r : Result A E) → P → OnErr r P
+at_err (Ok x) p = tt
+at_err (Err e) p = p
 
 pub kept_either : {A E : Type 0} (s : Sheet) (old new : Graph) (c : CellId) (r : Result A E) → OnOk r (IsRecordedOf new old s c) → OnErr r (KeepsReads s old new) → KeepsReads s old new
 kept_either s old new c (Ok x) ok err = ok.others

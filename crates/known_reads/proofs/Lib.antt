@@ -1,3 +1,4 @@
 pub mod BesideLemmas
 pub mod KnownLemmas
 pub mod WalkedLemmas
+pub mod MovedLemmas

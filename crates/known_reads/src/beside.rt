@@ -10,6 +10,7 @@ ghost use Rattle.recalc.specs.Stack.{on};
 ghost use Rattle.affected_search.specs.Sheets.{HoldsReads};
 ghost use Rattle.known_reads.specs.Beside.{KnowsOthers, is_stale};
 
+use crate::bounded::{BoundedGraph, ReadsFault};
 use crate::recording::record_cells;
 use crate::walking::record_all;
 use cell_types::CellId;
@@ -19,16 +20,23 @@ use recalc::{ColumnIndex, KeptTable};
 use std::alloc::{AllocError, Global};
 use std::marker::Model;
 
+/// How many reads are recorded before the graph is given up. A read takes some 30 bytes there,
+/// where many cells of a column read the same, to 300, where one cell does: so all take 30 to 300
+/// megabytes.
+const MAX_READS: usize = 1_000_000;
+
 /// What formula cells read, and the cells of which that may not be right any more: the stale ones.
 ///
 /// A change and its way back note stale cells, for which there is room before; what these read is
-/// recorded where it is wanted next.
+/// recorded where it is wanted next. Where all reads are too many to be recorded, nothing is.
 #[derive(Drop)]
 pub struct KnownReads {
-    graph: DepGraph,
+    graph: BoundedGraph,
     stale: Vec<CellId>,
     // Of no cell it is known that it is right.
     are_all_stale: bool,
+    // An empty graph had no room for all reads.
+    is_wide: bool,
 }
 
 impl Model for KnownReads {
@@ -53,9 +61,10 @@ impl KnownReads {
         ensures { result.are_all_stale ≡ true }
     {
         KnownReads {
-            graph: DepGraph::new(alloc),
+            graph: BoundedGraph::new(alloc, MAX_READS),
             stale: Vec::new(alloc),
             are_all_stale: true,
+            is_wide: false,
         }
     }
 
@@ -65,7 +74,23 @@ impl KnownReads {
     pub fn graph(&self) -> &DepGraph
         ensures { result.now ≡ self.now.graph }
     {
-        &self.graph
+        self.graph.graph()
+    }
+
+    /// Whether it was found that all reads are too many to be recorded.
+    ///
+    /// Memory: none.
+    pub fn is_wide(&self) -> bool {
+        self.is_wide
+    }
+
+    /// Lets reads be recorded again where they were too many: formulas may have changed.
+    ///
+    /// Memory: none.
+    pub fn try_again(&mut self)
+        ensures { self.new ≡ self.old }
+    {
+        self.is_wide = false;
     }
 
     // Records what the stale cells read.
@@ -74,15 +99,17 @@ impl KnownReads {
         alloc: Global,
         tables: &D,
         kept: &[KeptTable],
-        indexes: &[ColumnIndex],
-    ) -> Result<(), AllocError>
+        indexes: &mut Vec<ColumnIndex>,
+    ) -> Result<(), ReadsFault>
         requires whole { IsWhole (D.document tables.now) }
-        requires indexed { AreIndexes (sheet_of (D.document tables.now)) indexes.now }
+        requires indexed { AreIndexes (sheet_of (D.document tables.now)) indexes.old.items }
         requires evaluated { IsEvaluated (D.document tables.now) kept.now }
         requires others { KnowsOthers (D.document tables.now) self.old }
         ensures ok { OnOk result (HoldsReads self.new.graph (sheet_of (D.document tables.now))) }
         ensures others { KnowsOthers (D.document tables.now) self.new }
         ensures room { self.new.room ≡ self.old.room }
+        ensures indexed { OnOk result
+            (AreIndexes (sheet_of (D.document tables.now)) indexes.new.items) }
     {
         if self.are_all_stale {
             record_all(alloc, tables, kept, indexes, &mut self.graph)
@@ -98,31 +125,58 @@ impl KnownReads {
         }
     }
 
+    // Gives the graph up, so that its memory is free.
+    fn give_up(&mut self, alloc: Global)
+        ensures all { self.new.are_all_stale ≡ true }
+        ensures room { self.old.room ≤ self.new.room }
+    {
+        self.graph = BoundedGraph::new(alloc, MAX_READS);
+        self.stale.clear();
+        self.are_all_stale = true;
+    }
+
     /// Records what the stale cells read, of an evaluated document: then none is stale, and the
-    /// graph has the reads of each formula cell.
+    /// graph has the reads of each formula cell. Makes the indexes of the data columns by which
+    /// these look rows up, where they have none.
     ///
-    /// Errors: out of memory; of each cell that is not stale it is right still.
-    /// Memory: notes, and what the graph takes of them. Cost: one attempt a stale cell.
+    /// Errors: too many reads, or out of memory. Of each cell that is not stale it is right still,
+    /// and the indexes are then to be given up. Where reads are too many the graph is given up and
+    /// all cells are stale: of a graph that was recorded in before, this says nothing of the next
+    /// attempt; of an empty one, that the reads are too many until formulas change.
+    /// Memory: notes, what the graph takes of them, and the indexes.
+    /// Cost: one attempt a stale cell, and the making of the indexes.
     pub fn make_right<D: DocTables>(
         &mut self,
         alloc: Global,
         tables: &D,
         kept: &[KeptTable],
-        indexes: &[ColumnIndex],
-    ) -> Result<(), AllocError>
+        indexes: &mut Vec<ColumnIndex>,
+    ) -> Result<(), ReadsFault>
         requires whole { IsWhole (D.document tables.now) }
-        requires indexed { AreIndexes (sheet_of (D.document tables.now)) indexes.now }
+        requires indexed { AreIndexes (sheet_of (D.document tables.now)) indexes.old.items }
         requires evaluated { IsEvaluated (D.document tables.now) kept.now }
         requires others { KnowsOthers (D.document tables.now) self.old }
         ensures ok { OnOk result (HoldsReads self.new.graph (sheet_of (D.document tables.now))) }
         ensures none { OnOk result ((c : CellId) → is_stale self.new c ≡ false) }
         ensures others { KnowsOthers (D.document tables.now) self.new }
         ensures room { self.old.room ≤ self.new.room }
+        ensures indexed { OnOk result
+            (AreIndexes (sheet_of (D.document tables.now)) indexes.new.items) }
     {
-        self.record_stale(alloc, tables, kept, indexes)?;
-        self.stale.clear();
-        self.are_all_stale = false;
-        Ok(())
+        let is_new = self.graph.is_new();
+        match self.record_stale(alloc, tables, kept, indexes) {
+            Ok(()) => {
+                self.stale.clear();
+                self.are_all_stale = false;
+                Ok(())
+            }
+            Err(ReadsFault::TooMany) => {
+                self.give_up(alloc);
+                self.is_wide = is_new;
+                Err(ReadsFault::TooMany)
+            }
+            Err(ReadsFault::NoMemory) => Err(ReadsFault::NoMemory),
+        }
     }
 
     /// Makes room for so many cells to be noted as stale.

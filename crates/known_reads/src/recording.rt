@@ -1,69 +1,42 @@
 //! The reads of cells recorded anew.
 
-ghost use Rattle.std.specs.Prelude.{◌≡◌, ◌<◌, true, OnErr, OnOk};
-ghost use Rattle.std.specs.Option.{is_some, option_copied};
+ghost use Rattle.std.specs.Prelude.{◌≡◌, true, OnErr, OnOk};
+ghost use Rattle.std.specs.Option.{is_some};
 ghost use Rattle.doc_model.specs.DocumentLaws.{IsWhole};
-ghost use Rattle.dep_graph.specs.Graph.{IsKept};
 ghost use Rattle.recalc.specs.Evaluated.{formula_at, sheet_of};
 ghost use Rattle.recalc.specs.Indexes.{AreIndexes};
 ghost use Rattle.recalc.specs.Kept.{IsEvaluated};
-ghost use Rattle.recalc.specs.Sheet.{row_of};
-ghost use Rattle.affected_search.specs.Recording.{NeedsNone, RecordsCell};
 ghost use Rattle.affected_search.specs.Upkeep.{IsRecordedOf};
 ghost use Rattle.known_reads.specs.Known.{AreReadWhere, IsReadWhere, KeepsReads};
 
-use affected_search::record_cell;
+use crate::bounded::{BoundedGraph, ReadsFault};
 use affected_values::is_formula_cell;
-use cell_types::{CellId, RowRef};
-use dep_graph::DepGraph;
+use cell_types::CellId;
 use doc_model::DocTables;
-use formula_eval::{CellReader, Steps};
-use formula_parse::Formula;
-use recalc::{ColumnIndex, KeptTable, KnownReader, column_at, row_of};
-use std::alloc::{AllocError, Global};
+use recalc::{ColumnIndex, KeptTable, KnownReader, column_at, index_lookups, row_of};
+use std::alloc::Global;
 use std::marker::Brand;
-use std::sync::ledger::{Blank, Ledger};
-
-// Records what a formula reads by one attempt, in a count of its own.
-fn record_once<R: CellReader, L: Ledger>(
-    alloc: Global,
-    reader: &R,
-    graph: &mut DepGraph,
-    cell: &CellId,
-    at: &RowRef,
-    tree: Option<&Formula>,
-    blank: Blank,
-) -> Result<(), AllocError>
-    requires here { at.now ≡ row_of cell.now }
-    requires known { NeedsNone (R.told reader.now) }
-    requires name { blank.name ≡ L.name }
-    requires parts { blank.parts ≡ L.parts }
-    requires some { 0 < L.parts }
-    ensures ok { OnOk result (RecordsCell (R.told reader.now) (option_copied tree.entry)
-        graph.old graph.new cell.now) }
-    ensures err { OnErr result (IsKept graph.old graph.new) }
-{
-    let mut steps = Steps::<L>::new(blank);
-    record_cell(alloc, reader, graph, cell, at, tree, &mut steps)
-}
+use std::sync::ledger::Blank;
 
 // Records what a formula cell reads, of an evaluated document.
 fn record_formula<D: DocTables>(
     alloc: Global,
     tables: &D,
     kept: &[KeptTable],
-    indexes: &[ColumnIndex],
-    graph: &mut DepGraph,
+    indexes: &mut Vec<ColumnIndex>,
+    graph: &mut BoundedGraph,
     cell: &CellId,
-) -> Result<(), AllocError>
+) -> Result<(), ReadsFault>
     requires whole { IsWhole (D.document tables.now) }
-    requires indexed { AreIndexes (sheet_of (D.document tables.now)) indexes.now }
+    requires indexed { AreIndexes (sheet_of (D.document tables.now)) indexes.old.items }
     requires evaluated { IsEvaluated (D.document tables.now) kept.now }
     requires there { is_some (formula_at (D.document tables.now) cell.now) ≡ true }
     ensures ok { OnOk result
         (IsRecordedOf graph.new graph.old (sheet_of (D.document tables.now)) cell.now) }
     ensures err { OnErr result
         (KeepsReads (sheet_of (D.document tables.now)) graph.old graph.new) }
+    ensures indexed { OnOk result
+        (AreIndexes (sheet_of (D.document tables.now)) indexes.new.items) }
 {
     let Some(column) = column_at(kept, &cell.table, &cell.column) else {
         unreachable!();
@@ -72,17 +45,19 @@ fn record_formula<D: DocTables>(
     let reader = KnownReader {
         tables,
         kept,
-        indexes,
+        indexes: &*indexes,
     };
-    record_once::<KnownReader<'_, D>, Brand>(
+    let notes = graph.record_once::<KnownReader<'_, D>, Brand>(
         alloc,
         &reader,
-        graph,
         cell,
         &at,
         column.tree.as_ref(),
         Blank::new(1),
-    )
+    )?;
+    // So that the lookups of other cells need not scan.
+    index_lookups(alloc, tables, indexes, notes.as_slice())?;
+    Ok(())
 }
 
 // Records what a cell reads, where it is a formula cell.
@@ -90,15 +65,17 @@ pub(crate) fn record_where<D: DocTables>(
     alloc: Global,
     tables: &D,
     kept: &[KeptTable],
-    indexes: &[ColumnIndex],
-    graph: &mut DepGraph,
+    indexes: &mut Vec<ColumnIndex>,
+    graph: &mut BoundedGraph,
     cell: &CellId,
-) -> Result<(), AllocError>
+) -> Result<(), ReadsFault>
     requires whole { IsWhole (D.document tables.now) }
-    requires indexed { AreIndexes (sheet_of (D.document tables.now)) indexes.now }
+    requires indexed { AreIndexes (sheet_of (D.document tables.now)) indexes.old.items }
     requires evaluated { IsEvaluated (D.document tables.now) kept.now }
     ensures ok { OnOk result (IsReadWhere (D.document tables.now) graph.new cell.now) }
     ensures keeps { KeepsReads (sheet_of (D.document tables.now)) graph.old graph.new }
+    ensures indexed { OnOk result
+        (AreIndexes (sheet_of (D.document tables.now)) indexes.new.items) }
 {
     if !is_formula_cell(tables, cell) {
         return Ok(());
@@ -107,23 +84,28 @@ pub(crate) fn record_where<D: DocTables>(
 }
 
 /// Records what these cells read, of an evaluated document, where they are formula cells. What the
-/// graph had of the reads of other formula cells it has still.
+/// graph had of the reads of other formula cells it has still. Makes the indexes of the data
+/// columns by which they look rows up, where they have none.
 ///
-/// Errors: out of memory; what the graph had of reads that are made it has still.
-/// Memory: notes, and what the graph takes of them. Cost: one attempt a cell.
+/// Errors: the graph has no room for more reads, or out of memory; what it had of reads that are
+/// made it has still, and the indexes are then to be given up.
+/// Memory: notes, what the graph takes of them, and the indexes. Cost: one attempt a cell, and the
+/// making of the indexes.
 pub fn record_cells<D: DocTables>(
     alloc: Global,
     tables: &D,
     kept: &[KeptTable],
-    indexes: &[ColumnIndex],
-    graph: &mut DepGraph,
+    indexes: &mut Vec<ColumnIndex>,
+    graph: &mut BoundedGraph,
     cells: &[CellId],
-) -> Result<(), AllocError>
+) -> Result<(), ReadsFault>
     requires whole { IsWhole (D.document tables.now) }
-    requires indexed { AreIndexes (sheet_of (D.document tables.now)) indexes.now }
+    requires indexed { AreIndexes (sheet_of (D.document tables.now)) indexes.old.items }
     requires evaluated { IsEvaluated (D.document tables.now) kept.now }
     ensures ok { OnOk result (AreReadWhere (D.document tables.now) graph.new cells.now) }
     ensures keeps { KeepsReads (sheet_of (D.document tables.now)) graph.old graph.new }
+    ensures indexed { OnOk result
+        (AreIndexes (sheet_of (D.document tables.now)) indexes.new.items) }
 {
     for cell in cells {
         record_where(alloc, tables, kept, indexes, graph, cell)?;

@@ -9,30 +9,32 @@ ghost use Rattle.recalc.specs.Kept.{IsEvaluated};
 ghost use Rattle.affected_search.specs.Sheets.{HoldsReads};
 ghost use Rattle.known_reads.specs.Known.{EachIsRead, KeepsReads};
 
+use crate::bounded::{BoundedGraph, ReadsFault};
 use crate::recording::record_where;
 use cell_types::Name;
-use dep_graph::DepGraph;
 use doc_model::{ColDef, DocTables};
 use doc_readers::rows_in;
 use recalc::{ColumnIndex, KeptTable, cell_id};
-use std::alloc::{AllocError, Global};
+use std::alloc::Global;
 
 // Records what the cells of a column read, where it is a formula column.
 fn record_column<D: DocTables>(
     alloc: Global,
     tables: &D,
     kept: &[KeptTable],
-    indexes: &[ColumnIndex],
-    graph: &mut DepGraph,
+    indexes: &mut Vec<ColumnIndex>,
+    graph: &mut BoundedGraph,
     table: &Name,
     column: &ColDef,
-) -> Result<(), AllocError>
+) -> Result<(), ReadsFault>
     requires whole { IsWhole (D.document tables.now) }
-    requires indexed { AreIndexes (sheet_of (D.document tables.now)) indexes.now }
+    requires indexed { AreIndexes (sheet_of (D.document tables.now)) indexes.old.items }
     requires evaluated { IsEvaluated (D.document tables.now) kept.now }
     ensures ok { OnOk result (EachIsRead (D.document tables.now) graph.new
         (cells_of_column table.now (grid_at (D.document tables.now) table.now) column.now)) }
     ensures keeps { KeepsReads (sheet_of (D.document tables.now)) graph.old graph.new }
+    ensures indexed { OnOk result
+        (AreIndexes (sheet_of (D.document tables.now)) indexes.new.items) }
 {
     if !column.info.is_formula {
         return Ok(());
@@ -51,17 +53,19 @@ fn record_table<D: DocTables>(
     alloc: Global,
     tables: &D,
     kept: &[KeptTable],
-    indexes: &[ColumnIndex],
-    graph: &mut DepGraph,
+    indexes: &mut Vec<ColumnIndex>,
+    graph: &mut BoundedGraph,
     table: &Name,
-) -> Result<(), AllocError>
+) -> Result<(), ReadsFault>
     requires whole { IsWhole (D.document tables.now) }
-    requires indexed { AreIndexes (sheet_of (D.document tables.now)) indexes.now }
+    requires indexed { AreIndexes (sheet_of (D.document tables.now)) indexes.old.items }
     requires evaluated { IsEvaluated (D.document tables.now) kept.now }
     ensures ok { OnOk result (EachIsRead (D.document tables.now) graph.new
         (cells_of_columns table.now (grid_at (D.document tables.now) table.now)
         (grid_at (D.document tables.now) table.now).columns)) }
     ensures keeps { KeepsReads (sheet_of (D.document tables.now)) graph.old graph.new }
+    ensures indexed { OnOk result
+        (AreIndexes (sheet_of (D.document tables.now)) indexes.new.items) }
 {
     let mut index = 0;
     while let Some(column) = tables.column(table, index) {
@@ -71,22 +75,27 @@ fn record_table<D: DocTables>(
     Ok(())
 }
 
-/// Records what each formula cell of an evaluated document reads.
+/// Records what each formula cell of an evaluated document reads, and makes the indexes of the data
+/// columns by which they look rows up.
 ///
-/// Errors: out of memory; what the graph had of reads that are made it has still.
-/// Memory: the ids of a cell, notes, and what the graph takes of them. Cost: one attempt a cell.
+/// Errors: the graph has no room for more reads, or out of memory; what it had of reads that are
+/// made it has still.
+/// Memory: the ids of a cell, notes, what the graph takes of them, and the indexes. Cost: one
+/// attempt a cell, and the making of the indexes.
 pub(crate) fn record_all<D: DocTables>(
     alloc: Global,
     tables: &D,
     kept: &[KeptTable],
-    indexes: &[ColumnIndex],
-    graph: &mut DepGraph,
-) -> Result<(), AllocError>
+    indexes: &mut Vec<ColumnIndex>,
+    graph: &mut BoundedGraph,
+) -> Result<(), ReadsFault>
     requires whole { IsWhole (D.document tables.now) }
-    requires indexed { AreIndexes (sheet_of (D.document tables.now)) indexes.now }
+    requires indexed { AreIndexes (sheet_of (D.document tables.now)) indexes.old.items }
     requires evaluated { IsEvaluated (D.document tables.now) kept.now }
     ensures ok { OnOk result (HoldsReads graph.new (sheet_of (D.document tables.now))) }
     ensures keeps { KeepsReads (sheet_of (D.document tables.now)) graph.old graph.new }
+    ensures indexed { OnOk result
+        (AreIndexes (sheet_of (D.document tables.now)) indexes.new.items) }
 {
     let mut index = 0;
     while let Some(table) = tables.table(index) {

@@ -87,6 +87,19 @@ same_flat f q xs ys a b none same =
     ∙ ap (flat f) (same_ids (filter q xs) (filter q ys) (IsByIds-filter itself q xs a) (IsByIds-filter itself q ys b) (λ c. has_id-filter q xs c ∙ same c ∙ sym (has_id-filter q ys c)))
     ∙ sym (flat-filter f q ys none)
 
+and_twice : (a b : Bool) → (a && (a && b)) ≡ (a && b)
+and_twice true b = refl
+and_twice false b = refl
+
+-- ids in order that give nothing may be left out
+pub ids_enough : {Y : Type 0} (f : List ℕ → List Y) (q : List ℕ → Bool) (ids : List (List ℕ)) → ((c : List ℕ) → q c ≡ false → f c ≡ []) → flat f (in_order (filter q ids)) ≡ flat f (in_order ids)
+ids_enough f q ids none =
+    same_flat f q (in_order (filter q ids)) (in_order ids) (IsByIds-by_id itself (filter q ids)) (IsByIds-by_id itself ids) none
+    (λ c.
+    ap (λ b. q c && b) (has_id-by_id itself (filter q ids) c ∙ has_id-filter q ids c)
+    ∙ and_twice (q c) (has_id itself ids c)
+    ∙ sym (ap (λ b. q c && b) (has_id-by_id itself ids c)))
+
 -- ---- a walk that keeps what passes
 
 drop_there : {X : Type 0} (xs : List X) (i : ℕ) (x : X) → slice_get xs i ≡ Some x → drop i xs ≡ x ∷ drop (suc i) xs
@@ -146,20 +159,35 @@ module _ (v : Document) where
       by None e = refl
       by (Some d) e = found_all column_id (λ d. d.info.is_formula ≡ false) c (grid_at v t).columns d (any_none (λ (d : ColDef). d.info.is_formula) (grid_at v t).columns plain) e
 
+-- ---- the cells that pass a test, column by column and table by table
+
+module _ (v : Document) (p : CellOld → Bool) where
+  abbrev pub column_passing : List ℕ → List ℕ → List CellOld
+  column_passing t c = filter p (cells_at t (grid_at v t) c (grid_at v t).rows)
+
+  abbrev pub table_passing : List ℕ → List CellOld
+  table_passing t = filter p (table_cells v t)
+
+  pub columns_passing : (t : List ℕ) (cs : List (List ℕ)) → filter p (columns_cells t (grid_at v t) cs) ≡ flat (column_passing t) cs
+  columns_passing t [] = refl
+  columns_passing t (c ∷ cs) = filter-append p (cells_at t (grid_at v t) c (grid_at v t).rows) (columns_cells t (grid_at v t) cs) ∙ ap (λ l. column_passing t c ++ l) (columns_passing t cs)
+
+  pub tables_passing : (ts : List (List ℕ)) → filter p (tables_cells v ts) ≡ flat table_passing ts
+  tables_passing [] = refl
+  tables_passing (t ∷ ts) = filter-append p (table_cells v t) (tables_cells v ts) ∙ ap (λ l. table_passing t ++ l) (tables_passing ts)
+
 module _ (v : Document) (a : DocAction) where
   abbrev pub column_losing : List ℕ → List ℕ → List CellOld
-  column_losing t c = filter (may_lose v a) (cells_at t (grid_at v t) c (grid_at v t).rows)
+  column_losing t c = column_passing v (may_lose v a) t c
 
   abbrev pub table_losing : List ℕ → List CellOld
-  table_losing t = filter (may_lose v a) (table_cells v t)
+  table_losing t = table_passing v (may_lose v a) t
 
   pub columns_flat : (t : List ℕ) (cs : List (List ℕ)) → filter (may_lose v a) (columns_cells t (grid_at v t) cs) ≡ flat (column_losing t) cs
-  columns_flat t [] = refl
-  columns_flat t (c ∷ cs) = filter-append (may_lose v a) (cells_at t (grid_at v t) c (grid_at v t).rows) (columns_cells t (grid_at v t) cs) ∙ ap (λ l. column_losing t c ++ l) (columns_flat t cs)
+  columns_flat t cs = columns_passing v (may_lose v a) t cs
 
   pub tables_flat : (ts : List (List ℕ)) → filter (may_lose v a) (tables_cells v ts) ≡ flat table_losing ts
-  tables_flat [] = refl
-  tables_flat (t ∷ ts) = filter-append (may_lose v a) (table_cells v t) (tables_cells v ts) ∙ ap (λ l. table_losing t ++ l) (tables_flat ts)
+  tables_flat ts = tables_passing v (may_lose v a) ts
 
   -- ---- one column
 
@@ -302,17 +330,8 @@ module _ (v : Document) (a : DocAction) where
   pub tables_enough : filter (may_lose v a) (tables_cells v (in_order (filter (may_lose_in v a) (map table_id v)))) ≡ filter (may_lose v a) (all_cells v)
   tables_enough =
       tables_flat v a (in_order (filter (may_lose_in v a) (map table_id v)))
-      ∙ same_flat (table_losing v a) (may_lose_in v a) (in_order (filter (may_lose_in v a) (map table_id v))) (in_order (map table_id v))
-      (IsByIds-by_id itself (filter (may_lose_in v a) (map table_id v))) (IsByIds-by_id itself (map table_id v)) in_nothing
-      (λ c.
-      ap (λ b. may_lose_in v a c && b) (has_id-by_id itself (filter (may_lose_in v a) (map table_id v)) c ∙ has_id-filter (may_lose_in v a) (map table_id v) c)
-      ∙ twice (may_lose_in v a c) (has_id itself (map table_id v) c)
-      ∙ sym (ap (λ b. may_lose_in v a c && b) (has_id-by_id itself (map table_id v) c)))
+      ∙ ids_enough (table_losing v a) (may_lose_in v a) (map table_id v) in_nothing
       ∙ sym (tables_flat v a (in_order (map table_id v)))
-    where
-      twice : (a b : Bool) → (a && (a && b)) ≡ (a && b)
-      twice true b = refl
-      twice false b = refl
 
 -- ---- a record action where no column has a formula
 

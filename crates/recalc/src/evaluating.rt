@@ -109,8 +109,10 @@ fn blank_table<D: DocTables>(alloc: Global, tables: &D, id: &Name) -> Result<Kep
     })
 }
 
-// What is kept of a document of which nothing is known.
-fn blank_tables<D: DocTables>(alloc: Global, tables: &D) -> Result<Vec<KeptTable>, AllocError>
+/// What is kept of a document of which nothing is known.
+///
+/// Errors: out of memory. Memory: a place for each formula cell, and the formulas.
+pub fn blank_tables<D: DocTables>(alloc: Global, tables: &D) -> Result<Vec<KeptTable>, AllocError>
     requires { IsWhole (D.document tables.now) }
     ensures { IfOk result (λ v. map table_part v.items ≡ map blank_table (D.document tables.now)) }
 {
@@ -261,6 +263,24 @@ fn settle_tables<D: DocTables>(
     Ok(())
 }
 
+/// Finds the values of formula cells that are not known, where those that are known are right.
+///
+/// Errors: out of memory.
+/// Memory and cost: as to evaluate the document, for the cells that are evaluated; to ask of each
+/// formula cell whether its value is known.
+pub fn evaluate_rest<D: DocTables>(
+    alloc: Global,
+    tables: &D,
+    kept: &mut Vec<KeptTable>,
+) -> Result<(), AllocError>
+    requires whole { IsWhole (D.document tables.now) }
+    requires settled { IsSettled (D.document tables.now) kept.old.items }
+    ensures { OnOk result (IsEvaluated (D.document tables.now) kept.new.items) }
+{
+    let mut indexes = Vec::new(alloc);
+    settle_tables(alloc, tables, kept, &mut indexes)
+}
+
 /// The values of the formula cells of a document.
 ///
 /// Memory: the values, a stack as deep as the chains of cells, and while it runs an index of each
@@ -276,7 +296,6 @@ pub(crate) fn evaluate<D: DocTables>(
     ensures { IfOk result (λ v. IsEvaluated (D.document tables.now) v.items) }
 {
     let mut kept = blank_tables(alloc, tables)?;
-    let mut indexes = Vec::new(alloc);
-    settle_tables(alloc, tables, &mut kept, &mut indexes)?;
+    evaluate_rest(alloc, tables, &mut kept)?;
     Ok(kept)
 }

@@ -158,8 +158,13 @@ fn index_lookup<D: DocTables>(
     }
 }
 
-/// Makes the indexes of the data columns by which lookups were made, where they have none.
-pub(crate) fn index_lookups<D: DocTables>(
+/// Makes the indexes of the data columns by which the lookups of a run were made, where they have
+/// none. A column in which an error stands has none.
+///
+/// Errors: out of memory; the indexes are then to be given up.
+/// Memory: a row id for each row of the table, for each index. Cost: linear in the table's rows for
+/// each index that is made; where all are there, a search for each key.
+pub fn index_lookups<D: DocTables>(
     alloc: Global,
     tables: &D,
     indexes: &mut Vec<ColumnIndex>,

@@ -45,7 +45,7 @@ pub fn sorted(alloc: Global, names: &[Name]) -> Result<Vec<Name>, AllocError>
 }
 
 /// Puts a copy of the name last, where it is wanted.
-pub(crate) fn push_if(names: &mut Vec<Name>, name: &Name, wanted: bool) -> Result<(), AllocError>
+pub fn push_if(names: &mut Vec<Name>, name: &Name, wanted: bool) -> Result<(), AllocError>
     ensures { OnOk result
         (names.new.items ≡ names.old.items ++ cond wanted (name.now ∷ []) []) }
 {

@@ -9,7 +9,7 @@ ghost use Rattle.doc_model.specs.ByIds.{find_id};
 ghost use Rattle.doc_model.specs.DocumentLaws.{IsWhole};
 ghost use Rattle.doc_model.specs.Rows.{IsAscending, has};
 ghost use Rattle.recalc.specs.Evaluated.{formula_at, sheet_of};
-ghost use Rattle.recalc.specs.Kept.{IsKeptOf, column_at, held_at, kept_column_id, kept_table_id};
+ghost use Rattle.recalc.specs.Kept.{IsKeptOf, column_at, held_at, held_in, kept_column_id, kept_table_id};
 ghost use Rattle.recalc.specs.Put.{HasPlace, HasSpot, IsPutInColumn, IsPutInTable, IsPutInTables};
 ghost use Rattle.recalc.specs.Cells.{same_cell};
 ghost use Rattle.recalc.specs.Seen.{joined};
@@ -92,6 +92,19 @@ pub(crate) fn value_at(values: &[Option<CellValue>], index: usize) -> Option<&Ce
     match values.get(index) {
         Some(Some(value)) => Some(value),
         _ => None,
+    }
+}
+
+/// What is known of the cell of a column in a row, where its values stand beside these rows.
+///
+/// Memory: none. Cost: the logarithm of the rows, and nothing where they have no gap.
+pub fn value_beside<'a>(column: &'a KeptColumn, rows: &[u32], row: u32) -> Option<&'a CellValue>
+    requires { IsAscending rows.now }
+    ensures { option_copied result ≡ held_in rows.now column.now.values.items row }
+{
+    match row_index(rows, row) {
+        Some(index) => value_at(&column.values, index),
+        None => None,
     }
 }
 

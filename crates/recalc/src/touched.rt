@@ -79,7 +79,9 @@ fn is_given(columns: &[CellColumn], id: &Name) -> bool
 }
 
 /// Whether data cells of the column may be lost, where its table is named.
-pub(crate) fn may_lose_column(action: &DocAction, id: &Name) -> bool
+///
+/// Memory: none. Cost: linear in the columns that the action gives.
+pub fn may_lose_column(action: &DocAction, id: &Name) -> bool
     ensures { result ≡ may_lose_column action.now id.now }
 {
     match action {

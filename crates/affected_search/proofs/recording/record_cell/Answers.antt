@@ -1,7 +1,6 @@
-use Rattle.dep_graph.proofs.ReaderLaws.{on_ok}
 use Rattle.affected_search.proofs.RecordingLaws.{records_cell}
 use Rattle.affected_search.proofs.recording.record_cell.Goals as goal
 
 pub returns-clause-ok : goal.returns-clause-ok
 returns-clause-ok g c =
-    on_ok c.set.result (records_cell _ c.args.at.now _ c.args.graph.now c.set.new.self c.args.cell.now c.in_ok-notes.notes c.requires.here c.in_ok-notes.ensures.notes) c.set.ensures.ok
+    records_cell _ c.args.at.now _ c.args.graph.now c.set.new.self c.args.cell.now c.in_ok-notes.notes c.requires.here c.in_ok-notes.ensures.notes c.in_ok-set.ensures.ok

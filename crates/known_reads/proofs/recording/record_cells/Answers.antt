@@ -11,6 +11,7 @@ pub loop-cell-preserved : goal.loop-cell-preserved
 loop-cell-preserved g c =
     let s = g.D.DocReader.document c.args.tables.now in
     record {
+      indexed = c.in_ok-record_where.ensures.indexed;
       keeps = λ d h. c.record_where.ensures.keeps d (c.loop-cell.invariant.keeps d h);
       read = each_more (IsReadWhere s c.loop-cell.graph) (IsReadWhere s c.record_where.new.graph) c.args.cells.now c.loop-cell.cell-index _ c.cell-item.result
           (read_stays s c.loop-cell.graph c.record_where.new.graph c.record_where.ensures.keeps) refl

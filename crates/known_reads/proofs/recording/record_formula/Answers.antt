@@ -2,8 +2,7 @@ use Rattle.std.proofs.Common.{◌∙◌, sym}
 use Rattle.recalc.specs.Evaluated.{formula_at, sheet_of}
 use Rattle.recalc.proofs.KeptLemmas.{column_there, tree_found, tree_kept}
 use Rattle.recalc.proofs.Spots.{text_there}
-use Rattle.recalc.proofs.Turns.{on_ok}
-use Rattle.known_reads.proofs.KnownLemmas.{err_map, needs_none, over_known, reads_kept}
+use Rattle.known_reads.proofs.KnownLemmas.{at_err, needs_none, over_known, reads_kept}
 use Rattle.known_reads.proofs.recording.record_formula.Goals as goal
 
 pub unreachable-requires : goal.unreachable-requires
@@ -15,18 +14,26 @@ unreachable-requires g c =
 pub record_once-requires-clause-known : goal.record_once-requires-clause-known
 record_once-requires-clause-known g c = needs_none (g.D.DocReader.document c.args.tables.now) c.args.kept.now c.requires.evaluated
 
+pub returns-in_err-notes-clause-err : goal.returns-in_err-notes-clause-err
+returns-in_err-notes-clause-err g c =
+    at_err c.from_residual-in_err-notes.result (reads_kept (sheet_of (g.D.DocReader.document c.args.tables.now)) c.args.graph.now c.record_once.new.self c.in_err-notes.ensures.err)
+
+pub returns-in_err-index_lookups-clause-err : goal.returns-in_err-index_lookups-clause-err
+returns-in_err-index_lookups-clause-err g c =
+    let s = g.D.DocReader.document c.args.tables.now in
+    let ks = c.args.kept.now in
+    let cell = c.args.cell.now in
+    let text = text_there (formula_at s cell) c.requires.there in
+    at_err c.from_residual-in_err-index_lookups.result (c.in_ok-notes.ensures.ok (sheet_of s) text.0 text.1
+    (sym (c.as_ref.ensures.value ∙ sym (tree_found ks cell c.in-Some.column.now (sym c.in-Some.ensures)) ∙ tree_kept s ks c.requires.evaluated.of_document cell text.0 text.1))
+    (over_known s ks c.requires.evaluated)).others
+
 pub returns-clause-ok : goal.returns-clause-ok
 returns-clause-ok g c =
     let s = g.D.DocReader.document c.args.tables.now in
     let ks = c.args.kept.now in
     let cell = c.args.cell.now in
     let text = text_there (formula_at s cell) c.requires.there in
-    on_ok _ _ c.record_once.result
-    (λ h. h (sheet_of s) text.0 text.1
+    c.in_ok-notes.ensures.ok (sheet_of s) text.0 text.1
     (sym (c.as_ref.ensures.value ∙ sym (tree_found ks cell c.in-Some.column.now (sym c.in-Some.ensures)) ∙ tree_kept s ks c.requires.evaluated.of_document cell text.0 text.1))
-    (over_known s ks c.requires.evaluated))
-    c.record_once.ensures.ok
-
-pub returns-clause-err : goal.returns-clause-err
-returns-clause-err g c =
-    err_map c.record_once.result (reads_kept (sheet_of (g.D.DocReader.document c.args.tables.now)) c.args.graph.now c.record_once.new.graph) c.record_once.ensures.err
+    (over_known s ks c.requires.evaluated)

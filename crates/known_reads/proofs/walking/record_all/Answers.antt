@@ -21,6 +21,7 @@ loop-table-preserved g c =
     let s = g.D.DocReader.document c.args.tables.now in
     let t = table_read s c.loop-table.index c.in-Some.table.now c.in-Some.ensures.told in
     record {
+      indexed = c.in_ok-record_table.ensures.indexed;
       keeps = λ d h. c.record_table.ensures.keeps d (c.loop-table.invariant.keeps d h);
       read = each_next (λ t. EachIsRead s c.loop-table.graph (cells_of_table t)) (λ t. EachIsRead s c.record_table.new.graph (cells_of_table t))
           s c.loop-table.index _ t.0

@@ -15,6 +15,7 @@ pub loop-row-preserved : goal.loop-row-preserved
 loop-row-preserved g c =
     let s = g.D.DocReader.document c.args.tables.now in
     record {
+      indexed = c.in_ok-record_where.ensures.indexed;
       keeps = λ d h. c.record_where.ensures.keeps d (c.loop-row.invariant.keeps d h);
       read = each_more (λ r. IsReadWhere s c.loop-row.graph (cell_of c.args.table.now c.args.column.now.id r)) (λ r. IsReadWhere s c.record_where.new.graph (cell_of c.args.table.now c.args.column.now.id r))
           c.rows_in-row-items.result.now c.loop-row.row-index _ _

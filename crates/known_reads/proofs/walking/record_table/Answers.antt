@@ -23,6 +23,7 @@ loop-column-preserved g c =
     let s = g.D.DocReader.document c.args.tables.now in
     let t = c.args.table.now in
     record {
+      indexed = c.in_ok-record_column.ensures.indexed;
       keeps = λ d h. c.record_column.ensures.keeps d (c.loop-column.invariant.keeps d h);
       read = each_next (λ d. EachIsRead s c.loop-column.graph (cells_of_column t (grid_at s t) d)) (λ d. EachIsRead s c.record_column.new.graph (cells_of_column t (grid_at s t) d))
           (grid_at s t).columns c.loop-column.index _ c.in-Some.column.now

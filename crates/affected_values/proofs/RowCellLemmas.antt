@@ -1,0 +1,87 @@
+-- The formula cells of rows.
+use Rattle.std.proofs.Common.{ℕ, zero, suc, ◌≤◌, length, slice_get, arith, Bool, true, false, cond, ◌&&◌, ◌||◌, nat_eq, List, [], ◌∷◌, ◌++◌, map, ◌≡◌, refl, sym, ap, ◌∙◌, subst, Option, Some, None}
+use Rattle.std.proofs.lemmas.Bool.{false≢true}
+use Rattle.std.proofs.lemmas.Slice.Eq.{bytes_eq-Decides}
+use Rattle.std.specs.List.{AllByRecursion}
+use Rattle.std.specs.Option.{is_some}
+use Rattle.std.specs.Str.{bytes_eq}
+use Rattle.cell_types.specs.declared.cell.CellId.{CellId}
+use Rattle.doc_model.specs.declared.column.ColDef.{ColDef}
+use Rattle.doc_model.specs.ByIds.{find_id}
+use Rattle.doc_model.specs.Column.{column_id}
+use Rattle.doc_model.specs.Document.{Table, Document, table_id}
+use Rattle.doc_model.specs.Grid.{Grid}
+use Rattle.doc_model.specs.Rows.{has}
+use Rattle.doc_model.specs.Schema.{no_grid}
+use Rattle.doc_model.proofs.ByIdsLaws.{found_all, found_id}
+use Rattle.doc_readers.specs.Parts.{grid_at}
+use Rattle.recalc.specs.Cells.{cell_of}
+use Rattle.recalc.specs.Evaluated.{formula_in}
+use Rattle.recalc.specs.Stack.{on}
+use Rattle.recalc.proofs.Moves.{on_append}
+use Rattle.affected_values.specs.Carried.{HasCellsOf, HasCellsOfColumn}
+
+all_three : (a b e p o : Bool) → a ≡ true → b ≡ true → (e || p) ≡ true → (p ≡ true → o ≡ true) → ((a && b && e) || o) ≡ true
+all_three true true true p o f g h later = refl
+all_three true true false p o f g h later = later h
+all_three true false e p o f g h later = absurd (false≢true g)
+all_three false b e p o f g h later = absurd (false≢true f)
+
+on_rows : (t c : List ℕ) (rows : List ℕ) (r : ℕ) → has rows r ≡ true → on (map (cell_of t c) rows) (cell_of t c r) ≡ true
+on_rows t c [] r h = absurd (false≢true h)
+on_rows t c (q ∷ rows) r h =
+    all_three (bytes_eq t t) (bytes_eq c c) (nat_eq q r) (has rows r) (on (map (cell_of t c) rows) (cell_of t c r)) ((bytes_eq-Decides t t).1 refl) ((bytes_eq-Decides c c).1 refl) h (on_rows t c rows r)
+
+or_first : (a b : Bool) → a ≡ true → (a || b) ≡ true
+or_first true b h = refl
+or_first false b h = absurd (false≢true h)
+
+or_second : (a b : Bool) → b ≡ true → (a || b) ≡ true
+or_second true b h = refl
+or_second false b h = h
+
+-- where nothing stands, the list is no longer
+pub nothing_there : {X : Type 0} (xs : List X) (i : ℕ) → slice_get xs i ≡ None → length xs ≤ i
+nothing_there [] i h = omega arith
+nothing_there (x ∷ xs) zero h = absurd (cc)
+nothing_there (x ∷ xs) (suc i) h = let later : length xs ≤ i = nothing_there xs i h in omega arith
+
+-- the cells of a column were pushed
+module _ (old new : List CellId) (t c : List ℕ) (rows : List ℕ) (is : new ≡ old ++ map (cell_of t c) rows) where
+  pub pushed_stays : (d : CellId) → on old d ≡ true → on new d ≡ true
+  pushed_stays d h = ap (λ l. on l d) is ∙ on_append old (map (cell_of t c) rows) d ∙ or_first (on old d) (on (map (cell_of t c) rows) d) h
+
+  pub pushed_there : (r : ℕ) → has rows r ≡ true → on new (cell_of t c r) ≡ true
+  pushed_there r h = ap (λ l. on l (cell_of t c r)) is ∙ on_append old (map (cell_of t c) rows) (cell_of t c r) ∙ or_second (on old (cell_of t c r)) (on (map (cell_of t c) rows) (cell_of t c r)) (on_rows t c rows r h)
+
+-- where they are of each column, they are of the table
+module _ (s : Document) (t rows : List ℕ) (cells : List CellId) (all : AllByRecursion (HasCellsOfColumn t rows cells) (grid_at s t).columns) where
+  parts : (a b : Bool) → (a && b) ≡ true → (a ≡ true) × (b ≡ true)
+  parts true true h = (refl, refl)
+  parts true false h = absurd (false≢true h)
+  parts false b h = absurd (false≢true h)
+
+  by_flag : (f : List ℕ) (a b : Bool) → is_some (cond (a && b) (Some f) None) ≡ true → a ≡ true
+  by_flag f true b h = refl
+  by_flag f false b h = absurd (false≢true h)
+
+  by_column : (c : CellId) → c.table ≡ t → has rows c.row ≡ true → (g : Grid ColDef) → AllByRecursion (HasCellsOfColumn t rows cells) g.columns → (o : Option ColDef) → find_id column_id c.column g.columns ≡ o
+      → is_some (elim o as (λ _. Option (List ℕ)) [ None ↦ None | Some d ↦ formula_in g c.row d ]) ≡ true → on cells c ≡ true
+  by_column c at here g each None e h = absurd (false≢true h)
+  by_column c at here g each (Some d) e h =
+      let name : d.id ≡ c.column = found_id column_id c.column g.columns d e in
+      subst (λ (x : CellId). on cells x ≡ true) (λ i. record { table = sym at i; column = name i; row = c.row })
+      (found_all column_id (HasCellsOfColumn t rows cells) c.column g.columns d each e (by_flag d.info.formula d.info.is_formula (has g.rows c.row) h) c.row here)
+
+  by_table : (c : CellId) → c.table ≡ t → has rows c.row ≡ true → (o : Option Table) → find_id table_id c.table s ≡ o
+      → is_some (elim o as (λ _. Option (List ℕ)) [ None ↦ None | Some u ↦ elim (find_id column_id c.column u.grid.columns) as (λ _. Option (List ℕ)) [ None ↦ None | Some d ↦ formula_in u.grid c.row d ] ]) ≡ true → on cells c ≡ true
+  by_table c at here None e h = absurd (false≢true h)
+  by_table c at here (Some u) e h =
+      by_column c at here u.grid
+      (subst (λ (g : Grid ColDef). AllByRecursion (HasCellsOfColumn t rows cells) g.columns) (ap (λ n. grid_at s n) (sym at) ∙ ap (λ (o : Option Table). elim o as (λ _. Grid ColDef) [ None ↦ no_grid | Some u ↦ u.grid ]) e) all)
+      (find_id column_id c.column u.grid.columns) refl h
+
+  pub cells_there : HasCellsOf s t rows cells
+  cells_there c h there =
+      let p = parts (bytes_eq c.table t) (has rows c.row) h in
+      by_table c ((bytes_eq-Decides c.table t).0 p.0) p.1 (find_id table_id c.table s) refl there

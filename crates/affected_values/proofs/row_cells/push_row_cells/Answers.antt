@@ -1,0 +1,28 @@
+use Rattle.std.proofs.Common.{refl}
+use Rattle.doc_readers.specs.Parts.{grid_at}
+use Rattle.doc_readers.proofs.ColumnLemmas.{column_past, column_read}
+use Rattle.recalc.proofs.Progress.{each_all, each_next}
+use Rattle.recalc.specs.Cells.{cell_of}
+use Rattle.affected_values.specs.Carried.{HasCellsOfColumn}
+use Rattle.affected_values.proofs.RowCellLemmas.{cells_there, nothing_there}
+use Rattle.affected_values.proofs.row_cells.push_row_cells.Goals as goal
+
+pub loop-column-preserved : goal.loop-column-preserved
+loop-column-preserved g c =
+    let s = g.D.DocReader.document c.args.tables.now in
+    let t = c.args.table.now in
+    record {
+      stays = λ d h. c.in_ok-push_where.ensures.stays d (c.loop-column.invariant.stays d h);
+      each = each_next (HasCellsOfColumn t c.args.rows.now c.loop-column.cells.items) (HasCellsOfColumn t c.args.rows.now c.push_where.new.cells.items) (grid_at s t).columns c.loop-column.index _ c.in-Some.column.now
+          (λ d h is r here. c.in_ok-push_where.ensures.stays (cell_of t d.id r) (h is r here)) refl
+          (column_read s t c.loop-column.index c.in-Some.column.now c.in-Some.ensures.told) c.in_ok-push_where.ensures.pushed c.loop-column.invariant.each;
+    }
+
+pub returns-clause-pushed : goal.returns-clause-pushed
+returns-clause-pushed g c =
+    let s = g.D.DocReader.document c.args.tables.now in
+    let t = c.args.table.now in
+    let cells = c.loop-column.cells.items in
+    cells_there s t c.args.rows.now cells
+    (each_all (HasCellsOfColumn t c.args.rows.now cells) (grid_at s t).columns c.loop-column.index
+    (nothing_there (grid_at s t).columns c.loop-column.index (column_past s t c.loop-column.index c.in_default.ensures.told)) c.loop-column.invariant.each)

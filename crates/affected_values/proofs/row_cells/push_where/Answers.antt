@@ -1,0 +1,11 @@
+use Rattle.recalc.proofs.Turns.{on_ok}
+use Rattle.affected_values.proofs.RowCellLemmas.{pushed_stays, pushed_there}
+use Rattle.affected_values.proofs.row_cells.push_where.Goals as goal
+
+pub returns-clause-stays : goal.returns-clause-stays
+returns-clause-stays c =
+    on_ok _ _ c.push_column_cells.result (pushed_stays c.args.cells.now.items c.push_column_cells.new.cells.items c.args.table.now c.args.column.now.id c.args.rows.now) c.push_column_cells.ensures
+
+pub returns-clause-pushed : goal.returns-clause-pushed
+returns-clause-pushed c =
+    on_ok _ _ c.push_column_cells.result (λ is _. pushed_there c.args.cells.now.items c.push_column_cells.new.cells.items c.args.table.now c.args.column.now.id c.args.rows.now is) c.push_column_cells.ensures

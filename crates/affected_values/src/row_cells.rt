@@ -1,0 +1,69 @@
+//! The formula cells of rows.
+
+ghost use Rattle.std.specs.Prelude.{◌≡◌, ◌++◌, true, map, OnOk};
+ghost use Rattle.cell_types.specs.declared.cell.CellId.{CellId};
+ghost use Rattle.recalc.specs.Cells.{cell_of};
+ghost use Rattle.recalc.specs.Stack.{on};
+ghost use Rattle.affected_values.specs.Carried.{HasCellsOf, HasCellsOfColumn};
+
+use cell_types::{CellId, Name};
+use doc_model::{ColDef, DocTables};
+use recalc::cell_id;
+use std::alloc::AllocError;
+
+// Puts the cells of a column in these rows last.
+fn push_column_cells(
+    table: &Name,
+    column: &Name,
+    rows: &[u32],
+    cells: &mut Vec<CellId>,
+) -> Result<(), AllocError>
+    ensures { OnOk result (cells.new.items
+        ≡ cells.old.items ++ map (cell_of table.now column.now) rows.now) }
+{
+    for row in rows {
+        cells.push(cell_id(table, column, *row)?)?;
+    }
+    Ok(())
+}
+
+// The same, where it is a formula column.
+fn push_where(
+    table: &Name,
+    column: &ColDef,
+    rows: &[u32],
+    cells: &mut Vec<CellId>,
+) -> Result<(), AllocError>
+    ensures stays { OnOk result
+        ((c : CellId) → on cells.old.items c ≡ true → on cells.new.items c ≡ true) }
+    ensures pushed { OnOk result (HasCellsOfColumn table.now rows.now cells.new.items column.now) }
+{
+    if !column.info.is_formula {
+        return Ok(());
+    }
+    push_column_cells(table, &column.id, rows, cells)
+}
+
+/// Puts the cells of the formula columns of a table in these rows last, whether the rows are there
+/// or not.
+///
+/// Errors: out of memory; some are then there. Memory: the cells.
+/// Cost: linear in the columns of the table and in the cells.
+pub fn push_row_cells<D: DocTables>(
+    tables: &D,
+    table: &Name,
+    rows: &[u32],
+    cells: &mut Vec<CellId>,
+) -> Result<(), AllocError>
+    ensures stays { OnOk result
+        ((c : CellId) → on cells.old.items c ≡ true → on cells.new.items c ≡ true) }
+    ensures pushed { OnOk result
+        (HasCellsOf (D.document tables.now) table.now rows.now cells.new.items) }
+{
+    let mut index = 0;
+    while let Some(column) = tables.column(table, index) {
+        push_where(table, column, rows, cells)?;
+        index += 1;
+    }
+    Ok(())
+}

@@ -1,0 +1,149 @@
+-- A graph beside the values, over rows of one table that come or go.
+use Rattle.std.proofs.Common.{ℕ, Bool, true, false, not, ◌&&◌, ◌||◌, List, ◌≡◌, refl, sym, ap, ◌∙◌, subst, inl, inr, Option, Some, None}
+use Rattle.std.proofs.lemmas.Bool.{true≢false, false≢true}
+use Rattle.std.specs.List.{AllByRecursion}
+use Rattle.std.specs.Option.{is_some}
+use Rattle.std.specs.Str.{bytes_eq}
+use Rattle.cell_types.specs.declared.cell.CellId.{CellId}
+use Rattle.doc_model.specs.declared.action.DocAction.{DocAction}
+use Rattle.doc_model.specs.declared.action.DocAction.TheVariants.{AddColumn, AddTable, BulkAdd, BulkRemove, BulkUpdate, ModifyColumn, RemoveColumn, RemoveTable, RenameColumn, RenameTable}
+use Rattle.doc_model.specs.Apply.{apply}
+use Rattle.doc_model.specs.Document.{Document}
+use Rattle.doc_model.specs.Rows.{has}
+use Rattle.doc_model.specs.Valid.{valid}
+use Rattle.dep_graph.specs.declared.numbers.CellNumber.{CellNumber}
+use Rattle.dep_graph.specs.Graph.{Graph}
+use Rattle.dep_graph.specs.Records.{reads_under}
+use Rattle.recalc.specs.Evaluated.{formula_at, sheet_of}
+use Rattle.recalc.specs.Sheet.{reads}
+use Rattle.recalc.specs.Stack.{on}
+use Rattle.affected_cells.specs.Affected.{is_fresh_cell, is_modified}
+use Rattle.affected_cells.specs.Touched.{is_touched}
+use Rattle.affected_cells.specs.TouchedRight.{IsSameCell}
+use Rattle.affected_cells.proofs.RowsLaw.{rows_law}
+use Rattle.affected_search.specs.Actions.{KeepsOthers}
+use Rattle.affected_search.specs.Sheets.{HoldsReads, IsHeld, is_found}
+use Rattle.affected_search.specs.Upkeep.{HoldsReadsOf}
+use Rattle.affected_values.specs.Carried.{HasCellsOf, moved_rows, moved_table}
+use Rattle.known_reads.specs.Beside.{is_stale}
+use Rattle.known_reads.specs.Moved.{NotedLaw, ReadsBackLaw, ReadsOverLaw}
+
+-- ---- stale cells
+
+pub noted : NotedLaw
+noted s t cells old new after is known c fresh there = by (is_stale old c) (on cells c) refl refl
+  where
+    from : is_stale old c ≡ false → on cells c ≡ false → HoldsReadsOf new.graph (sheet_of t) c
+    from right other =
+        let held = known c right (after.there c there other) in
+        subst (λ g. HoldsReadsOf g (sheet_of t) c) (sym is.graph) (held.0, held.1, subst (AllByRecursion (IsHeld old.graph.names (reads_under old.graph.reads held.0))) (after.reads c there other) held.2)
+
+    by : (a b : Bool) → is_stale old c ≡ a → on cells c ≡ b → HoldsReadsOf new.graph (sheet_of t) c
+    by true b e f = absurd (true≢false (sym (is.stale c (ap (λ x. x || on cells c) e)) ∙ fresh))
+    by false true e f = absurd (true≢false (sym (is.stale c (ap (λ x. x || on cells c) e ∙ f)) ∙ fresh))
+    by false false e f = from e f
+
+-- ---- rows that come or go
+
+some_same : (x y : List ℕ) → Some x ≡ Some y → x ≡ y
+some_same x y e = cc
+
+none_some : (x : List ℕ) → None ≡ Some x → ⊥
+none_some x e = cc
+
+-- a cell that is the same has its formula
+same_formula : (s t : Document) (a : DocAction) (fresh : CellId → Bool) (c : CellId) → IsSameCell (sheet_of s) (sheet_of t) fresh (is_touched s a) c → formula_at t c ≡ formula_at s c
+same_formula s t a fresh c (inl same) = same.1 ∙ sym same.0
+same_formula s t a fresh c (inr same) = same.2 ∙ sym same.1
+
+-- cells of other rows have the formulas that they had
+formula_apart : (s : Document) (a : DocAction) (t : List ℕ) → moved_table a ≡ Some t → valid s a ≡ true
+    → (c : CellId) → (bytes_eq c.table t && has (moved_rows a) c.row) ≡ false → formula_at (apply s a) c ≡ formula_at s c
+formula_apart s (BulkAdd u rows ks) t h ok c other =
+    same_formula s (apply s (BulkAdd u rows ks)) (BulkAdd u rows ks) (is_fresh_cell s (BulkAdd u rows ks)) c
+    (((rows_law s u rows).added ks ok).cell c (ap (λ n. (bytes_eq c.table n && has rows c.row) || false) (some_same u t h) ∙ ap (λ b. b || false) other)).1
+formula_apart s (BulkRemove u rows) t h ok c other =
+    same_formula s (apply s (BulkRemove u rows)) (BulkRemove u rows) (is_fresh_cell s (BulkRemove u rows)) c
+    (((rows_law s u rows).removed ok).cell c (ap (λ n. (bytes_eq c.table n && has rows c.row) || false) (some_same u t h) ∙ ap (λ b. b || false) other)).1
+formula_apart s (BulkUpdate u rows ks) t h ok c other = absurd (none_some t h)
+formula_apart s (AddTable u r cs) t h ok c other = absurd (none_some t h)
+formula_apart s (RemoveTable u) t h ok c other = absurd (none_some t h)
+formula_apart s (RenameTable u n) t h ok c other = absurd (none_some t h)
+formula_apart s (AddColumn u d) t h ok c other = absurd (none_some t h)
+formula_apart s (RemoveColumn u k) t h ok c other = absurd (none_some t h)
+formula_apart s (RenameColumn u k n) t h ok c other = absurd (none_some t h)
+formula_apart s (ModifyColumn u k i) t h ok c other = absurd (none_some t h)
+
+not_modified : (a : DocAction) (t : List ℕ) → moved_table a ≡ Some t → (c : CellId) → is_modified a c ≡ false
+not_modified (BulkAdd u rows ks) t h c = refl
+not_modified (BulkRemove u rows) t h c = refl
+not_modified (BulkUpdate u rows ks) t h c = refl
+not_modified (AddTable u r cs) t h c = refl
+not_modified (RemoveTable u) t h c = refl
+not_modified (RenameTable u n) t h c = refl
+not_modified (AddColumn u d) t h c = refl
+not_modified (RemoveColumn u k) t h c = refl
+not_modified (RenameColumn u k n) t h c = refl
+not_modified (ModifyColumn u k i) t h c = absurd (none_some t h)
+
+module _ (s : Document) (a : DocAction) (t : List ℕ) (graph : Graph) (found : List CellNumber) (cells : List CellId)
+    (moved : moved_table a ≡ Some t) (ok : valid s a ≡ true) (holds : HoldsReads graph (sheet_of s)) (keeps : KeepsOthers graph a found)
+    (named : (c : CellId) → is_found graph found c ≡ true → on cells c ≡ true) (has_cells : HasCellsOf (apply s a) t (moved_rows a) cells) where
+  not_found : (c : CellId) → on cells c ≡ false → is_found graph found c ≡ false
+  not_found c other = by (is_found graph found c) refl
+    where
+      by : (b : Bool) → is_found graph found c ≡ b → b ≡ false
+      by true e = absurd (true≢false (sym (named c e) ∙ other))
+      by false e = refl
+
+  formula_same : (c : CellId) → is_some (formula_at (apply s a) c) ≡ true → on cells c ≡ false → formula_at (apply s a) c ≡ formula_at s c
+  formula_same c there other = by (bytes_eq c.table t && has (moved_rows a) c.row) refl
+    where
+      by : (b : Bool) → (bytes_eq c.table t && has (moved_rows a) c.row) ≡ b → formula_at (apply s a) c ≡ formula_at s c
+      by true e = absurd (true≢false (sym (has_cells c e there) ∙ other))
+      by false e = formula_apart s a t moved ok c e
+
+  same_reads : (c : CellId) → is_some (formula_at (apply s a) c) ≡ true → on cells c ≡ false → reads (sheet_of s) c ≡ reads (sheet_of (apply s a)) c
+  same_reads c there other = by (formula_at (apply s a) c) refl there
+    where
+      by : (o : Option (List ℕ)) → formula_at (apply s a) c ≡ o → is_some o ≡ true → reads (sheet_of s) c ≡ reads (sheet_of (apply s a)) c
+      by None e h = absurd (false≢true h)
+      by (Some f) e h = sym (keeps s ok holds c f e (ap (λ o. not (is_some o) || is_modified a c) (sym (formula_same c there other) ∙ e) ∙ not_modified a t moved c) (not_found c other)).1
+
+pub reads_over : ReadsOverLaw
+reads_over s a t graph found cells moved ok holds keeps named has_cells = record {
+  there = λ c there other. ap is_some (sym (formula_same s a t graph found cells moved ok holds keeps named has_cells c there other)) ∙ there;
+  reads = λ c there other. same_reads s a t graph found cells moved ok holds keeps named has_cells c there other;
+}
+
+-- ---- and back
+
+module _ (s : Document) (a : DocAction) (t : List ℕ) (graph : Graph) (found : List CellNumber) (cells : List CellId)
+    (moved : moved_table a ≡ Some t) (ok : valid s a ≡ true) (holds : HoldsReads graph (sheet_of s)) (keeps : KeepsOthers graph a found)
+    (named : (c : CellId) → is_found graph found c ≡ true → on cells c ≡ true) (has_cells : HasCellsOf s t (moved_rows a) cells) where
+  not_found_back : (c : CellId) → on cells c ≡ false → is_found graph found c ≡ false
+  not_found_back c other = by (is_found graph found c) refl
+    where
+      by : (b : Bool) → is_found graph found c ≡ b → b ≡ false
+      by true e = absurd (true≢false (sym (named c e) ∙ other))
+      by false e = refl
+
+  formula_back : (c : CellId) → is_some (formula_at s c) ≡ true → on cells c ≡ false → formula_at (apply s a) c ≡ formula_at s c
+  formula_back c there other = by (bytes_eq c.table t && has (moved_rows a) c.row) refl
+    where
+      by : (b : Bool) → (bytes_eq c.table t && has (moved_rows a) c.row) ≡ b → formula_at (apply s a) c ≡ formula_at s c
+      by true e = absurd (true≢false (sym (has_cells c e there) ∙ other))
+      by false e = formula_apart s a t moved ok c e
+
+  reads_before : (c : CellId) → is_some (formula_at s c) ≡ true → on cells c ≡ false → reads (sheet_of (apply s a)) c ≡ reads (sheet_of s) c
+  reads_before c there other = by (formula_at s c) refl there
+    where
+      by : (o : Option (List ℕ)) → formula_at s c ≡ o → is_some o ≡ true → reads (sheet_of (apply s a)) c ≡ reads (sheet_of s) c
+      by None e h = absurd (false≢true h)
+      by (Some f) e h = (keeps s ok holds c f (formula_back c there other ∙ e) (ap (λ o. not (is_some o) || is_modified a c) e ∙ not_modified a t moved c) (not_found_back c other)).1
+
+pub reads_back : ReadsBackLaw
+reads_back s a t graph found cells moved ok holds keeps named has_cells = record {
+  there = λ c there other. ap is_some (formula_back s a t graph found cells moved ok holds keeps named has_cells c there other) ∙ there;
+  reads = λ c there other. reads_before s a t graph found cells moved ok holds keeps named has_cells c there other;
+}

@@ -1,0 +1,5 @@
+use Rattle.known_reads.proofs.MovedLemmas.{noted}
+use Rattle.known_reads.proofs.laws.noted_law.Goals as goal
+
+pub returns : goal.returns
+returns c = noted

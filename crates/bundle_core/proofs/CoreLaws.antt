@@ -22,11 +22,12 @@ use Rattle.bundle_core.specs.SessionState.{SessionState, open_of}
 use Rattle.bundle_core.specs.State.{State, Open, Verdicts, session_name, session_of, opening, run, step, after_turn, verdicts, given, from_closed, from_open, from_lagging}
 use Rattle.bundle_core.proofs.Answering.{with_opens, opens, opens-append, opens_above, opens_below}
 use Rattle.bundle_core.proofs.ClosedLemmas.{miss_gone}
+use Rattle.bundle_core.proofs.Indexes.{at_index}
 use Rattle.bundle_core.proofs.OpenLemmas.{around, code_gone, find_gone, same_length, some_session}
 use Rattle.bundle_core.proofs.Spots.{find_absent_at, find_at}
 use Rattle.bundle_core.proofs.Keeping.{IsBelow, IsGood, step_good, step_length, without_good}
 
-run_append : (users : List User) (st : State) (es : List Entry) (e : Entry) → run users st (es ++ e ∷ []) ≡ step users (run users st es) e
+pub run_append : (users : List User) (st : State) (es : List Entry) (e : Entry) → run users st (es ++ e ∷ []) ≡ step users (run users st es) e
 run_append users st [] e = refl
 run_append users st (x ∷ es) e = run_append users (step users st x) es e
 
@@ -204,23 +205,30 @@ core_same users start es s s' tally tally' xs ys bytes e is same k =
 -- ---- whether a session is open
 
 module _ (users : List User) (start : Document) (es : List Entry) (s : Document) (tally : Tally) (xs : List SessionState) (bytes : Option ℕ) (name : List ℕ) (k : IsCore users start es s tally xs bytes) where
-  found_as : (o : Option Open) → find_id session_name name (map (open_of s) xs) ≡ o → is_some (session_of name (state_after users start es)) ≡ is_some o
-  found_as o f = ap (λ t. is_some (session_of name t)) k.state ∙ ap is_some f
+  abbrev st_now : State
+  st_now = state_after users start es
 
-  pub open_found : (p : ℕ) → Finds name xs p → is_some (session_of name (state_after users start es)) ≡ true
-  open_found p f =
-      let x = get_or xs p some_session in
-      let P : List SessionState → Type 0 = λ l. find_id session_name name (opens s l) ≡ Some (open_of s x) in
-      found_as (Some (open_of s x)) (subst P (around xs p some_session f.within)
-      (ap (find_id session_name name) (opens-append s (take p xs) (x ∷ drop (suc p) xs))
-      ∙ find_at session_name name (opens s (take p xs)) (opens s (drop (suc p) xs)) (open_of s x) (opens_below s name (take p xs) f.spot.below) (f.named some_session)))
+  -- it is found as it is kept, with its view of the document
+  pub session_found : (p : ℕ) (x : SessionState) → Finds name xs p → x ≡ get_or xs p x → session_of name st_now ≡ Some (open_of st_now.document x)
+  session_found p x f is =
+      let P : List SessionState → Type 0 = λ l. find_id session_name name (opens s l) ≡ Some (open_of s (get_or xs p some_session)) in
+      ap (session_of name) k.state ∙ subst P (around xs p some_session f.within)
+      (ap (find_id session_name name) (opens-append s (take p xs) (get_or xs p some_session ∷ drop (suc p) xs))
+      ∙ find_at session_name name (opens s (take p xs)) (opens s (drop (suc p) xs)) (open_of s (get_or xs p some_session)) (opens_below s name (take p xs) f.spot.below) (f.named some_session))
+      ∙ ap (λ y. Some (open_of s y)) (at_index xs p some_session x f.within ∙ sym is) ∙ ap (λ d. Some (open_of d x)) (sym (ap (λ (t : State). t.document) k.state))
 
-  pub open_missed : (p : ℕ) → Misses name xs p → is_some (session_of name (state_after users start es)) ≡ false
-  open_missed p m =
+  pub session_missed : (p : ℕ) → Misses name xs p → session_of name st_now ≡ None
+  session_missed p m =
       let P : List SessionState → Type 0 = λ l. find_id session_name name (opens s l) ≡ None in
-      found_as None (subst P (take-append-drop p xs)
+      ap (session_of name) k.state ∙ subst P (take-append-drop p xs)
       (ap (find_id session_name name) (opens-append s (take p xs) (drop p xs))
-      ∙ find_absent_at session_name name (opens s (take p xs)) (opens s (drop p xs)) (opens_below s name (take p xs) m.spot.below) (opens_above s name (drop p xs) m.spot.above)))
+      ∙ find_absent_at session_name name (opens s (take p xs)) (opens s (drop p xs)) (opens_below s name (take p xs) m.spot.below) (opens_above s name (drop p xs) m.spot.above))
+
+  pub open_found : (p : ℕ) → Finds name xs p → is_some (session_of name st_now) ≡ true
+  open_found p f = ap is_some (session_found p (get_or xs p some_session) f (at_index xs p some_session (get_or xs p some_session) f.within))
+
+  pub open_missed : (p : ℕ) → Misses name xs p → is_some (session_of name st_now) ≡ false
+  open_missed p m = ap is_some (session_missed p m)
 
   -- ---- the session goes away
 

@@ -20,7 +20,7 @@ behind (x ∷ xs) zero d h lt = h.0
 behind (x ∷ xs) (suc i) d h lt = behind xs i d h.1 (omega (arith, lt))
 
 -- what stands at an index does not depend on the default
-at_index : (xs : List SessionState) (i : ℕ) (d e : SessionState) → i < length xs → get_or xs i d ≡ get_or xs i e
+pub at_index : (xs : List SessionState) (i : ℕ) (d e : SessionState) → i < length xs → get_or xs i d ≡ get_or xs i e
 at_index [] i d e lt = absurd (omega (arith, lt))
 at_index (x ∷ xs) zero d e lt = refl
 at_index (x ∷ xs) (suc i) d e lt = at_index xs i d e (omega (arith, lt))

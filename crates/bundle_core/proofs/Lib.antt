@@ -18,6 +18,8 @@ pub mod UndoLaws
 pub mod RefusalLemmas
 pub mod KeptLaws
 pub mod KeptTurns
-pub mod MachineLaws
+pub mod GoneLaws
+pub mod MadeLaws
 pub mod FollowedLemmas
+pub mod FrontLemmas
 pub mod FetchLemmas

@@ -1,6 +1,8 @@
 pub mod Core
 pub mod Dispatch
 pub mod Frames
+pub mod Fronts
+pub mod MadeLines
 pub mod Mailbox
 pub mod Noting
 pub mod Judged

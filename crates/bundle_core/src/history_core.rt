@@ -1,6 +1,7 @@
 //! The core: a document and its sessions as a history of requests leads to them.
 
-ghost use Rattle.std.specs.Prelude.{ℕ, ◌≡◌, ◌≤◌, true, false, [], IfErr, IfOk, IsOk, OnErr, ◌+◌, length, nat_lt};
+ghost use Rattle.std.specs.Prelude.{ℕ, ◌≡◌, ◌≤◌, true, false, List, [], ◌∷◌, ◌++◌, IfErr, IfOk, IsOk, OnErr, ◌+◌, length, nat_lt, option_map, Some};
+ghost use Rattle.std.specs.Str.{bytes_eq};
 ghost use Rattle.io_edges.specs.Causes.{Rose};
 ghost use Rattle.doc_model.specs.NewDocument.{new_document};
 ghost use Rattle.doc_model.specs.WellFormed.{asks_well_formed};
@@ -8,9 +9,11 @@ ghost use Rattle.doc_model.specs.declared.request.Request.TheVariants.{Gone};
 ghost use Rattle.doc_opening.specs.Opening.{FirstBad};
 ghost use Rattle.doc_opening.specs.declared.opening.StartCause.TheVariants.{BadStore, StoreFault};
 ghost use Rattle.bundle_core.specs.Core.{bytes_left, entry_of, history_bound, is_full, is_gone, is_open_in, marked, size_bound};
-ghost use Rattle.bundle_core.specs.KeptCore.{IsKeeping, IsStarted, IsTaken, IsUnchanged};
+ghost use Rattle.bundle_core.specs.KeptCore.{IsKeeping, IsStarted, IsTaken, IsUnchanged, state_now};
 ghost use Rattle.bundle_core.specs.Loading.{IsLoaded};
-ghost use Rattle.bundle_core.specs.State.{opening, records_kept};
+ghost use Rattle.bundle_core.specs.MadeLines.{IsMade, is_more, last_of, lines_made};
+ghost use Rattle.bundle_core.specs.SessionState.{open_of};
+ghost use Rattle.bundle_core.specs.State.{mailbox_of, opening, records_kept, session_of};
 ghost use Rattle.bundle_core.specs.Steps.{IsAnswer};
 
 use crate::dispatch::{Turn, answer};
@@ -268,10 +271,78 @@ impl<K: Keeper> Core<K> {
     /// Whether the session is open.
     ///
     /// Memory: none. Cost: linear in the open sessions before it.
-    pub(crate) fn has_open(&self, session: &Name) -> bool
+    pub fn has_open(&self, session: &Name) -> bool
         ensures { result ≡ is_open_in self.now.state session.now }
     {
         index_of(&self.sessions, session).is_ok()
+    }
+
+    /// How many stream lines were made for the session, where it is open.
+    ///
+    /// Memory: none. Cost: that of `has_open`.
+    pub fn lines_made(&self, session: &Name) -> Option<u64>
+        ensures { result ≡ lines_made self.now.state session.now }
+    {
+        match self.session_named(session) {
+            Some(found) => Some(found.made()),
+            None => None,
+        }
+    }
+
+    /// The stream line that the last entry made for a session, by how many had been made for it
+    /// before, and by the lines that were given at that entry.
+    ///
+    /// Memory: none. Cost: that of `has_open`.
+    pub fn line_made<'a>(
+        &'a self,
+        session: &Name,
+        before: Option<u64>,
+        given: &'a [Line],
+    ) -> Option<&'a Line>
+        ensures { IsMade self.now.state given.now session.now before
+            (option_map (λ l. l.now) result) }
+    {
+        if !is_more(before, self.lines_made(session)) {
+            return None;
+        }
+        if self.is_last_of(session) {
+            before_last(given)
+        } else {
+            self.last_waiting(session)
+        }
+    }
+
+    // The session, where it is open.
+    fn session_named(&self, session: &Name) -> Option<&OpenSession>
+        ensures { option_map (λ x. open_of (state_now self.now.state).document x.now) result
+            ≡ session_of session.now (state_now self.now.state) }
+    {
+        match index_of(&self.sessions, session) {
+            Ok(index) => Some(&self.sessions[index]),
+            Err(_) => None,
+        }
+    }
+
+    // The last of the lines that wait for a session.
+    fn last_waiting(&self, session: &Name) -> Option<&Line>
+        ensures { option_map (λ l. l.now) result
+            ≡ last_of (mailbox_of session.now (state_now self.now.state)) }
+    {
+        match self.session_named(session) {
+            Some(found) => found.last_waiting(),
+            None => None,
+        }
+    }
+
+    // Whether the last entry is of that session.
+    fn is_last_of(&self, session: &Name) -> bool
+        ensures { (es : List Entry) (e : Entry) → self.now.state.history ≡ es ++ e ∷ []
+            → result ≡ bytes_eq e.session session.now }
+    {
+        match self.history().last() {
+            Some(entry) => entry.session == *session,
+            None => false,
+        }
     }
 
     fn is_full(&self, request: &Request, size: u32) -> bool
@@ -279,6 +350,27 @@ impl<K: Keeper> Core<K> {
     {
         !is_gone(request) && (self.entries.len() >= MAX_ENTRIES || is_past(self.bytes_left, size))
     }
+}
+
+// Whether more were counted after.
+fn is_more(before: Option<u64>, after: Option<u64>) -> bool
+    ensures { result ≡ is_more before after }
+{
+    match (before, after) {
+        (Some(before), Some(after)) => before < after,
+        _ => false,
+    }
+}
+
+// The line before the last.
+fn before_last(lines: &[Line]) -> Option<&Line>
+    ensures { (front : List (List ℕ)) (line last : List ℕ) → lines.now ≡ front ++ line ∷ last ∷ []
+        → option_map (λ l. l.now) result ≡ Some line }
+{
+    if lines.len() < 2 {
+        return None;
+    }
+    lines.get(lines.len() - 2)
 }
 
 // The entry, kept or not.
@@ -328,7 +420,8 @@ fn last_entry(session: OpenSession, size: u32) -> Entry
     }
 }
 
-fn is_gone(request: &Request) -> bool
+/// Whether it is the end of a connection.
+pub fn is_gone(request: &Request) -> bool
     ensures { result ≡ is_gone request.now }
 {
     match request {

@@ -1,5 +1,6 @@
 //! Laws of histories.
 
+ghost use Rattle.bundle_core.specs.MadeLines.{MadeLineLaw};
 ghost use Rattle.bundle_core.specs.RefusalLaw.{ObjectionLaw, RefusalLaw};
 ghost use Rattle.bundle_core.specs.Told.{EqualBytesLaw, IsolationLaw};
 ghost use Rattle.bundle_core.specs.UndoLaw.{LimitsLeaveFewIds, NewDocumentHasFewIds, UndoLaw};
@@ -36,4 +37,9 @@ pub fn undo_law()
 pub fn refusal_law()
     ensures objection { ObjectionLaw }
     ensures same { RefusalLaw }
+{}
+
+/// How many lines were made for a session is counted as they are made, in every state.
+pub fn made_line_law()
+    ensures { MadeLineLaw }
 {}

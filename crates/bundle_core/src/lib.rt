@@ -5,11 +5,10 @@
 //! evaluated),
 //! `undo_bundles` (a session's bundles with their inverses), `rule_contexts`, `censored_view` and
 //! `context_changes` (what users see and are told), `grist_json` (the texts of lines), `doc_keeper`
-//! and `bundle_records` (the keeper of accepted bundles), `doc_opening` (the document that its
-//! records lead to) and `session_gate` (machines that threads step in turn). What an entry comes to
-//! is said in specs/State.antt, over plain lists, for every document; what a user sees is what the
-//! rules in force for the user let be read of the document with the value of each formula cell in
-//! its place.
+//! and `bundle_records` (the keeper of accepted bundles) and `doc_opening` (the document that its
+//! records lead to). What an entry comes to is said in specs/State.antt, over plain lists, for
+//! every document; what a user sees is what the rules in force for the user let be read of the
+//! document with the value of each formula cell in its place.
 //!
 //! Promises: `Core::start` makes the document of a keeper's records. `Core::step` gives the lines
 //! that the state after the history says, and adds the entry; an accepted bundle is kept before it
@@ -21,10 +20,11 @@
 //! `undo_law`: where no other bundle was accepted since, an undo of a session's bundle is never
 //! stale, and where it is accepted the document is that before the bundle. `refusal_law`: a bundle
 //! is refused for its first action by what its session's user sees, and by nothing else.
-//! A core is a `Machine`, so that threads may step it by a gate, by histories alone
-//! (specs/Machine.antt): it answers as `Core::step` does and tells whether that closed the session;
-//! the end of any connection takes no memory. What is told of its keeper is there when the gate is
-//! closed: `history` and `finish` say it of every core (`IsKeeping`).
+//! `made_line_law`: how many lines were made for a session is counted as they are made
+//! (specs/MadeLines.antt); `Core::line_made` hands out the one that the last entry made. What a
+//! core is asked and answers as a machine that threads step in turn is said by histories alone
+//! (specs/Machine.antt); `watched_core` has that machine. What is told of a core's keeper is told
+//! by `history` and `finish` of every core (`IsKeeping`).
 //! Costs: a bundle costs its judgement, its actions once more, and a line for each session; its
 //! inverse costs what its actions take away. What is told of a bundle of records costs the rows
 //! that it touched, for each user who has a session open; of one that changes the schema, or what
@@ -37,6 +37,7 @@
 mod bundle;
 mod dispatch;
 mod followed;
+mod fronts;
 mod history_core;
 mod laws;
 mod loading;
@@ -47,8 +48,8 @@ mod session_index;
 mod turns;
 
 pub use history_core::{
-    Answer, Core, Finished, LineList, MAX_ENTRIES, MAX_HISTORY_BYTES, StartFault,
+    Answer, Core, Finished, LineList, MAX_ENTRIES, MAX_HISTORY_BYTES, StartFault, is_gone,
 };
-pub use laws::{equal_bytes_law, isolation_law, refusal_law, undo_law};
+pub use laws::{equal_bytes_law, isolation_law, made_line_law, refusal_law, undo_law};
 pub use machine::{CoreOpening, Event, Given};
 pub use session::{MAX_WAITING_BYTES, MAX_WAITING_LINES};

@@ -8,18 +8,22 @@
 //!
 //! A session that is closed has no value here.
 
-ghost use Rattle.std.specs.Prelude.{◌≡◌, ◌<◌, ◌≤◌, ◌+◌, ◌^◌, [], ◌∷◌, ◌++◌, length, option_to_list, None, false, IfOk, OnOk};
+ghost use Rattle.std.specs.Prelude.{◌≡◌, ◌<◌, ◌≤◌, ◌+◌, ◌^◌, List, [], ◌∷◌, ◌++◌, length, map, option_map, option_to_list, None, false, IfOk, OnOk};
+ghost use Rattle.std.specs.Option.{option_copied};
+ghost use Rattle.doc_model.specs.declared.view.ViewAction.{ViewAction};
+ghost use Rattle.bundle_core.specs.Fronts.{front_of};
 ghost use Rattle.bundle_core.specs.Mailbox.{is_full};
+ghost use Rattle.bundle_core.specs.MadeLines.{last_line};
 ghost use Rattle.context_changes.specs.Known.{told_by};
 ghost use Rattle.bundle_core.specs.SessionState.{IsReady, IsPrepared, IsEmptied, MayPost, line_for, posted_state};
 ghost use Rattle.bundle_core.specs.Noting.{HasBundleRoom, MayBeUndone, log_after};
 ghost use Rattle.undo_bundles.specs.BundleLog.{count, empty_log};
 
+use crate::fronts::front_to;
 use acl_rules::Ctx;
 use cell_types::Name;
-use context_changes::told_to;
-use doc_model::{StepList, User, ViewActionList};
-use grist_json::{Line, write_stream};
+use doc_model::{StepList, User};
+use grist_json::{Line, StreamFront};
 use std::alloc::{AllocError, Global};
 use std::marker::Model;
 use std::mem;
@@ -147,6 +151,20 @@ impl OpenSession {
         self.lagging
     }
 
+    /// How many stream lines were made for it.
+    pub fn made(&self) -> u64
+        ensures { result ≡ self.now.made }
+    {
+        self.made
+    }
+
+    /// The last of the lines that wait.
+    pub fn last_waiting(&self) -> Option<&Line>
+        ensures { option_map (λ l. l.now) result ≡ last_line self.now.waiting }
+    {
+        self.waiting.last()
+    }
+
     pub fn is_full(&self) -> bool
         ensures { result ≡ is_full self.now.waiting }
     {
@@ -174,34 +192,38 @@ impl OpenSession {
     }
 
     /// Makes ready the line that tells what its user is told beside the user's context, unless that
-    /// is nothing or the session lags. Nothing that can be seen changes, whatever the answer.
+    /// is nothing or the session lags: what stands before its number was printed for all sessions.
+    /// Nothing that can be seen changes, whatever the answer.
     pub fn prepare(
         &mut self,
         alloc: Global,
         contexts: &[Ctx],
-        told: &[ViewActionList],
+        fronts: &[Option<StreamFront>],
     ) -> Result<(), AllocError>
         requires few { self.old.made < 2 ^ 63 }
         ensures prepared { IsPrepared self.old self.new }
-        ensures ok { OnOk result (IsReady (told_by contexts.now told.now) self.new) }
+        ensures ok { OnOk result ((told : List (List ViewAction)) → fronts.now ≡ map front_of told
+            → IsReady (told_by contexts.now told) self.new) }
     {
         self.make_room(1)?;
-        self.ready = None;
-        if let Some(actions) = told_to(contexts, told, &self.user) {
-            self.ready = self.line_for(alloc, actions)?;
-        }
+        self.ready = self.line_behind(alloc, front_to(contexts, fronts, &self.user))?;
         Ok(())
     }
 
-    // The line that tells these actions; none where there are none, or where the session lags.
-    fn line_for(&self, alloc: Global, actions: &ViewActionList) -> Result<Option<Line>, AllocError>
+    // The line with this front; none where there is no front, or where the session lags.
+    fn line_behind(
+        &self,
+        alloc: Global,
+        front: Option<&StreamFront>,
+    ) -> Result<Option<Line>, AllocError>
         requires { self.now.made < 2 ^ 63 }
-        ensures { IfOk result (λ line. line ≡ line_for actions.now self.now) }
+        ensures { IfOk result (λ line. (actions : List ViewAction)
+            → option_copied front.entry ≡ front_of actions → line ≡ line_for actions self.now) }
     {
-        if self.lagging || actions.is_empty() {
-            return Ok(None);
+        match front {
+            Some(front) if !self.lagging => Ok(Some(front.line(alloc, self.made + 1)?)),
+            _ => Ok(None),
         }
-        Ok(Some(write_stream(alloc, self.made + 1, actions)?))
     }
 
     /// Puts the line that was made ready, where there is one, behind those that wait. Where too

@@ -8,6 +8,7 @@ ghost use Rattle.bundle_core.specs.Dispatch.{AreSame, Leaves, Stays};
 ghost use Rattle.bundle_core.specs.SessionState.{SessionState, IsReady, MayPost, posted_state};
 ghost use Rattle.context_changes.specs.Known.{told_by};
 
+use crate::fronts::fronts_of;
 use crate::session::OpenSession;
 use acl_rules::Ctx;
 use bundle_judge::BareVerdict;
@@ -123,8 +124,9 @@ pub(crate) fn prepare_all(
     ensures ready { OnOk result
         (AllByRecursion (IsReady (told_by contexts.now told.now)) sessions.new) }
 {
+    let fronts = fronts_of(alloc, told)?;
     for session in sessions.iter_mut() {
-        session.prepare(alloc, contexts, told)?;
+        session.prepare(alloc, contexts, fronts.as_slice())?;
     }
     Ok(())
 }

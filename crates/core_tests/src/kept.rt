@@ -5,7 +5,7 @@
 //! from being opened (`ends_where_no_document_opens`); and a keeper that is handed on to the next
 //! run (`opens_again_what_was_kept`). The lines are worked out by hand.
 
-use crate::runs::lines_behind;
+use crate::runs::{lines_behind, no_watchers};
 use doc_keeper::{Keeper, MemKeeper, SureKeeper};
 use grist_run::{Outcome, Status, run};
 use io_edges::{MemSink, MemSource};
@@ -44,7 +44,14 @@ fn ran_over<K: Keeper>(
     let lines = lines_behind(alloc, "> ", script)?;
     let mut input = MemSource::new(lines, vec![in alloc; 99]?);
     let mut out = MemSink::new(alloc, 65_536, vec![in alloc; 99]?)?;
-    let outcome = run(alloc, words.as_slice(), &mut input, &mut out, keeper);
+    let outcome = run(
+        alloc,
+        words.as_slice(),
+        &mut input,
+        &mut out,
+        keeper,
+        no_watchers(alloc),
+    );
     Ok((outcome, Vec::from_slice(alloc, out.bytes())?))
 }
 

@@ -4,11 +4,14 @@
 //! and formula cells that change; and how it ends at its words, its users and the faults of what it
 //! was handed (`ends_at_the_first_event`). The lines are those of the protocol, worked out by hand.
 
+ghost use Rattle.std.specs.Prelude.{◌≡◌, vec_len};
+
 use doc_keeper::SureKeeper;
-use grist_run::{Status, run};
+use grist_run::{Status, WatchedSession, run};
 use io_edges::{MemSink, MemSource};
 use std::alloc::{AllocError, Global};
 use std::test::Fail;
+use watch_box::SureWatcher;
 
 // A run: its word, the numbers of its first read and write that fail, its script and its end.
 #[derive(Clone, Copy)]
@@ -32,6 +35,13 @@ pub(crate) fn lines_behind(alloc: Global, mark: &str, script: &str) -> Result<Ve
     Ok(text.into_bytes())
 }
 
+/// Nobody watches a session.
+pub(crate) fn no_watchers(alloc: Global) -> Vec<WatchedSession<SureWatcher>>
+    ensures { vec_len result ≡ 0 }
+{
+    Vec::new(alloc)
+}
+
 // How a run of the case ended, and what it wrote.
 fn ran(alloc: Global, case: &Case) -> Result<(Status, Vec<u8>), AllocError> {
     let words = vec![in alloc; String::from_str(alloc, case.word)?]?;
@@ -39,7 +49,14 @@ fn ran(alloc: Global, case: &Case) -> Result<(Status, Vec<u8>), AllocError> {
     let mut input = MemSource::new(lines, vec![in alloc; case.read]?);
     let mut out = MemSink::new(alloc, 65_536, vec![in alloc; case.write]?)?;
     let keeper = SureKeeper::new(alloc);
-    let outcome = run(alloc, words.as_slice(), &mut input, &mut out, keeper);
+    let outcome = run(
+        alloc,
+        words.as_slice(),
+        &mut input,
+        &mut out,
+        keeper,
+        no_watchers(alloc),
+    );
     Ok((outcome.status, Vec::from_slice(alloc, out.bytes())?))
 }
 

@@ -5,7 +5,7 @@
 //! bytes (`a_stranger_is_given_the_same`). That the owner's bundles are accepted is counted, since
 //! the test would show nothing where they are refused.
 
-use crate::runs::lines_behind;
+use crate::runs::{lines_behind, no_watchers};
 use doc_keeper::SureKeeper;
 use grist_run::run;
 use io_edges::{MemSink, MemSource};
@@ -76,6 +76,7 @@ fn written(alloc: Global, does: bool) -> Result<Vec<u8>, AllocError> {
         &mut input,
         &mut out,
         SureKeeper::new(alloc),
+        no_watchers(alloc),
     );
     Vec::from_slice(alloc, out.bytes())
 }

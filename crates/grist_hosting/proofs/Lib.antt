@@ -1,4 +1,3 @@
-mod SendLemmas
 mod AloneLemmas
 mod HostLemmas
 mod RunLemmas

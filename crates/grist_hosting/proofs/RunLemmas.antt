@@ -12,9 +12,11 @@ use Rattle.io_edges.proofs.SendingLemmas.{appends_none}
 use Rattle.grist_lanes.specs.Services.{Telling}
 use Rattle.run_words.specs.declared.plans.Plan.{Plan}
 use Rattle.run_words.specs.declared.plans.Plan.TheVariants.{Gen, Replay, Serve}
-use Rattle.run_words.specs.Words.{is_replay, lanes_of}
+use Rattle.run_words.specs.Words.{is_replay, lanes_of, rows_of}
 use Rattle.grist_run.specs.declared.status.Status.{Status}
 use Rattle.grist_run.specs.declared.status.Status.TheVariants.{Done, Usage, BadUsers, ReadFault, WriteFault, StoreFault, NoMemory, BadStore, TurnsSpent, PortFault, HistoryFull}
+use Rattle.doc_model.specs.Document.{Document}
+use Rattle.grist_run.specs.Generated.{Generates}
 use Rattle.grist_run.specs.Starting.{start_status}
 use Rattle.grist_run.proofs.ReplayLaws.{none_replays, start_keeps, usage_replays}
 use Rattle.grist_hosting.specs.Hosting.{HostsNothing, IsHosting, asks_lanes, is_done_over, is_serve}
@@ -37,11 +39,43 @@ serve_done n (Some (Replay doc watch)) e = apart (sym e)
 serve_done n (Some (Serve lanes port conns doc watch)) e = (e, refl)
 serve_done n (Some (Gen k)) e = apart (sym e)
 
-pub not_done : (n : ℕ) (p : Option Plan) → is_replay p ≡ false → asks_lanes n (lanes_of p) ≡ false → is_done_over n p ≡ false
-not_done n None r e = refl
-not_done n (Some (Replay doc watch)) r e = apart r
-not_done n (Some (Serve lanes port conns doc watch)) r e = e
-not_done n (Some (Gen k)) r e = refl
+some_apart : {P : Type 0} {k : ℕ} → Some k ≡ None → P
+some_apart e = let never : ⊥ = cc e in absurd never
+
+pub not_done : (n : ℕ) (p : Option Plan) → is_replay p ≡ false → rows_of p ≡ None → asks_lanes n (lanes_of p) ≡ false → is_done_over n p ≡ false
+not_done n None r g e = refl
+not_done n (Some (Replay doc watch)) r g e = apart r
+not_done n (Some (Serve lanes port conns doc watch)) r g e = e
+not_done n (Some (Gen k)) r g e = some_apart g
+
+-- ---- which words ask for a generated run
+
+pub replay_no_rows : {P : Type 0} (p : Option Plan) (k : ℕ) → is_replay p ≡ true → rows_of p ≡ Some k → P
+replay_no_rows None k e g = apart (sym e)
+replay_no_rows (Some (Replay doc watch)) k e g = some_apart (sym g)
+replay_no_rows (Some (Serve lanes port conns doc watch)) k e g = apart (sym e)
+replay_no_rows (Some (Gen n)) k e g = apart (sym e)
+
+pub serve_no_rows : {P : Type 0} (n : ℕ) (p : Option Plan) (k : ℕ) → asks_lanes n (lanes_of p) ≡ true → rows_of p ≡ Some k → P
+serve_no_rows n None k e g = apart (sym e)
+serve_no_rows n (Some (Replay doc watch)) k e g = apart (sym e)
+serve_no_rows n (Some (Serve lanes port conns doc watch)) k e g = some_apart (sym g)
+serve_no_rows n (Some (Gen m)) k e g = apart (sym e)
+
+pub generated_done : (n : ℕ) (p : Option Plan) (k : ℕ) → rows_of p ≡ Some k → (is_done_over n p ≡ true) × (is_serve p ≡ false)
+generated_done n None k g = some_apart (sym g)
+generated_done n (Some (Replay doc watch)) k g = some_apart (sym g)
+generated_done n (Some (Serve lanes port conns doc watch)) k g = some_apart (sym g)
+generated_done n (Some (Gen m)) k g = (refl, refl)
+
+pub generated_no_replay : {P : Type 0} (p : Option Plan) (k : ℕ) → rows_of p ≡ Some k → rows_of p ≡ None → P
+generated_no_replay p k g e = some_apart (sym g ∙ e)
+
+pub same_rows : (p : Option Plan) (k n : ℕ) → rows_of p ≡ Some k → rows_of p ≡ Some n → k ≡ n
+same_rows p k n is e = let same : Some k ≡ Some n = sym is ∙ e in cc
+
+pub generates_none : (s : Status) (us : List User) (start : Document) (rows : ℕ) (h : List Entry) (w z : Option (List ℕ)) → Generates us start rows h w z s → s ≡ Usage → ⊥
+generates_none s us start rows h w z done is = subst (λ t. Generates us start rows h w z t) is done
 
 pub not_both : {P : Type 0} (b : Bool) → b ≡ true → b ≡ false → P
 not_both b is not = apart (sym is ∙ not)

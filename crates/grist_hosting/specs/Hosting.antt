@@ -32,12 +32,12 @@ abbrev pub asks_lanes : ℕ → Option ℕ → Bool
 asks_lanes n None = false
 asks_lanes n (Some lanes) = lanes == n
 
--- what a run over so many ports does: a replay, or a server of as many lanes
+-- what a run over so many ports does: a replay, a generated run, or a server of as many lanes
 abbrev pub is_done_over : ℕ → Option Plan → Bool
 is_done_over ports None = false
 is_done_over ports (Some (Replay doc watch)) = true
 is_done_over ports (Some (Serve lanes port conns doc watch)) = lanes == ports
-is_done_over ports (Some (Gen n)) = false
+is_done_over ports (Some (Gen n)) = true
 
 module _ {Conn : Type 0} (t : Telling Conn) (users : List User) (start : Document)
     (left left_new : Option (List ℕ)) (h : List Entry) (ports ports_new : List (PortState Conn))

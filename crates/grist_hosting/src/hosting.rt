@@ -1,5 +1,5 @@
 //! A run: what its words ask for, and the server among that.
-ghost use Rattle.std.specs.Prelude.{◌≡◌, ◌≤◌, ◌<◌, ◌↔◌, ℕ, All, Some, false, true, [], map, string_bytes, vec_capacity, vec_len};
+ghost use Rattle.std.specs.Prelude.{◌≡◌, ◌≤◌, ◌<◌, ◌-◌, ◌^◌, ◌↔◌, ℕ, All, None, Some, false, true, [], map, string_bytes, vec_capacity, vec_len};
 ghost use Rattle.doc_model.specs.NewDocument.{new_document};
 ghost use Rattle.doc_opening.specs.Opening.{FirstBad};
 ghost use Rattle.io_edges.specs.Causes.{Rose};
@@ -7,36 +7,50 @@ ghost use Rattle.bundle_core.specs.KeptCore.{IsKeeping};
 ghost use Rattle.grist_lanes.specs.Handed.{SomeFailed};
 ghost use Rattle.grist_lanes.specs.Services.{telling};
 ghost use Rattle.grist_lanes.specs.Sessions.{AreOfNoLane};
-ghost use Rattle.run_words.specs.Words.{lanes_of, plan_of};
+ghost use Rattle.run_words.specs.Words.{lanes_of, plan_of, rows_of};
+ghost use Rattle.grist_run.specs.Generated.{IsGenerated};
 ghost use Rattle.grist_run.specs.Replay.{Replays};
 ghost use Rattle.grist_run.specs.Starting.{start_status};
 ghost use Rattle.grist_run.specs.Words.{place_of};
 ghost use Rattle.grist_hosting.specs.Hosting.{IsHosting, asks_lanes, is_done_over, is_serve};
 ghost use Rattle.grist_hosting.specs.HostingParts.{HostsFrom, end_status, is_late};
 
-use crate::summary::{SUMMARY_BYTES, Summary, append_summary, send};
+use crate::summary::{SUMMARY_BYTES, Summary, append_summary};
 use crate::users_alone::read_users_alone;
-use bundle_core::{Core, Finished, StartFault};
+use bundle_core::{Finished, StartFault};
 use doc_keeper::Keeper;
 use grist_lanes::{NoServe, Served, ServedPorts, serve_ports};
-use grist_run::{Outcome, Status, run_alone, start_status, without_history};
+use grist_run::{
+    Outcome, Status, WatchedSession, generate, run_alone, send, start_status, start_watched,
+    without_history,
+};
 use io_edges::{Failed, LineReader, Link, Outbox, Port, Sink, Source};
-use run_words::{asks_for_replay, lanes_asked};
+use run_words::{asks_for_replay, lanes_asked, rows_asked};
 use std::alloc::Global;
 use std::marker::Send;
 use std::sync::Wait;
 use std::thread::Threads;
+use watch_box::Watcher;
+use watched_core::WatchedCore;
 
-/// Does what the words ask for: a replay of the input's lines, or a server of as many lanes as
-/// there are ports, over the document that the keeper's records lead to.
+/// Does what the words ask for: a replay of the input's lines, a generated run, or a server of as
+/// many lanes as there are ports, over the document that the keeper's records lead to.
 ///
 /// The input of a server is user lines alone. It serves the connections of all ports at the same
 /// time, until none will come to a port or it fails, and then writes one line that tells its
-/// accepted bundles, its connections and its entries. It may wait, for connections and for turns.
+/// accepted bundles, its connections and its entries. Watchers take the stream lines of their
+/// sessions. It may wait, for connections and for turns.
 /// Errors: the status says which event came first. Where a port failed it is `PortFault`, and all
 /// lanes have ended.
 /// Source: docs/PROTOCOL.md, "the program".
-pub fn run<R: Threads + Wait + Sync, S: Source, O: Sink, K: Keeper + Send, P: Port + Send>(
+pub fn run<
+    R: Threads + Wait + Sync,
+    S: Source,
+    O: Sink,
+    K: Keeper + Send,
+    W: Watcher + Send,
+    P: Port + Send,
+>(
     rt: &R,
     alloc: Global,
     words: &[String],
@@ -44,15 +58,23 @@ pub fn run<R: Threads + Wait + Sync, S: Source, O: Sink, K: Keeper + Send, P: Po
     out: &mut O,
     keeper: K,
     ports: &mut Vec<P>,
+    watchers: Vec<WatchedSession<W>>,
 ) -> Outcome<K>
+    requires few { vec_len watchers < 2 ^ 32 - 1 }
     requires home { All (λ p. (P.state p).lent ≡ false) ports.old.items }
     ensures usage { (result.status ≡ Status.Usage)
         ↔ (is_done_over (vec_len ports.old) (plan_of (map string_bytes words.now)) ≡ false) }
     ensures at { result.at ≡ place_of result.status }
     ensures replay { is_serve (plan_of (map string_bytes words.now)) ≡ false
+        → rows_of (plan_of (map string_bytes words.now)) ≡ None
         → Replays result.status (S.left input.old) (S.left input.new) result.history
         (O.written out.old) (O.written out.new) (K.records keeper) (K.records result.keeper)
         (K.failures keeper) (K.failures result.keeper) × (ports.new.items ≡ ports.old.items) }
+    ensures generated { (rows : ℕ) → rows_of (plan_of (map string_bytes words.now)) ≡ Some rows
+        → IsGenerated rows result.status result.history
+        (O.written out.old) (O.written out.new) (K.records keeper) (K.records result.keeper)
+        (K.failures keeper) (K.failures result.keeper)
+        × (S.left input.new ≡ S.left input.old) × (ports.new.items ≡ ports.old.items) }
     ensures serve { is_serve (plan_of (map string_bytes words.now)) ≡ true
         → IsHosting (telling P.Conn.left P.Conn.written P.Conn.Source.faults P.Conn.Sink.faults)
         result.status (S.left input.old) (S.left input.new) result.history
@@ -72,9 +94,11 @@ pub fn run<R: Threads + Wait + Sync, S: Source, O: Sink, K: Keeper + Send, P: Po
         → SomeFailed (map P.state ports.old.items) (map P.state ports.new.items) }
 {
     if asks_for_replay(words) {
-        run_alone(alloc, input, out, keeper)
+        run_alone(alloc, input, out, keeper, watchers)
+    } else if let Some(rows) = rows_asked(words) {
+        generate(alloc, rows, out, keeper)
     } else if asks_for_lanes(words, ports.len()) {
-        host(rt, alloc, input, out, keeper, ports)
+        host(rt, alloc, input, out, keeper, ports, watchers)
     } else {
         without_history(alloc, Status::Usage, keeper)
     }
@@ -100,14 +124,23 @@ struct LineRoom {
 }
 
 // Hears the users, opens the document, and serves the ports.
-fn host<R: Threads + Wait + Sync, S: Source, O: Sink, K: Keeper + Send, P: Port + Send>(
+fn host<
+    R: Threads + Wait + Sync,
+    S: Source,
+    O: Sink,
+    K: Keeper + Send,
+    W: Watcher + Send,
+    P: Port + Send,
+>(
     rt: &R,
     alloc: Global,
     input: &mut S,
     out: &mut O,
     keeper: K,
     ports: &mut Vec<P>,
+    watchers: Vec<WatchedSession<W>>,
 ) -> Outcome<K>
+    requires few { vec_len watchers < 2 ^ 32 - 1 }
     requires count { (0 < vec_len ports.old) × (vec_len ports.old ≤ 64) }
     requires home { All (λ p. (P.state p).lent ≡ false) ports.old.items }
     ensures usage { result.status ≡ Status.Usage → ⊥ }
@@ -143,24 +176,30 @@ fn host<R: Threads + Wait + Sync, S: Source, O: Sink, K: Keeper + Send, P: Port 
         Ok(users) => users,
         Err(status) => return without_history(alloc, status, keeper),
     };
-    match Core::start(alloc, users, keeper) {
-        Ok(core) => host_from(rt, alloc, core, LineRoom { outbox, line }, out, ports),
+    match start_watched(alloc, users, keeper, watchers) {
+        Ok(watched) => host_from(rt, alloc, watched, LineRoom { outbox, line }, out, ports),
         Err(StartFault { cause, keeper }) => without_history(alloc, start_status(cause), keeper),
     }
 }
 
 // Serves the ports, and writes the line that tells what came of it.
-fn host_from<R: Threads + Wait + Sync, O: Sink, K: Keeper + Send, P: Port + Send>(
+fn host_from<
+    R: Threads + Wait + Sync,
+    O: Sink,
+    K: Keeper + Send,
+    W: Watcher + Send,
+    P: Port + Send,
+>(
     rt: &R,
     alloc: Global,
-    core: Core<K>,
+    watched: WatchedCore<K, W>,
     room: LineRoom,
     out: &mut O,
     ports: &mut Vec<P>,
 ) -> Outcome<K>
     requires count { (0 < vec_len ports.old) × (vec_len ports.old ≤ 64) }
     requires home { All (λ p. (P.state p).lent ≡ false) ports.old.items }
-    requires first { core.state.history ≡ [] }
+    requires first { watched.core.state.history ≡ [] }
     requires empty { (room.outbox ≡ []) × (room.line.items ≡ []) }
     requires room { 192 ≤ vec_capacity room.line }
     ensures late { is_late result.status ≡ true }
@@ -169,7 +208,7 @@ fn host_from<R: Threads + Wait + Sync, O: Sink, K: Keeper + Send, P: Port + Send
         → Rose (O.faults out.old) (O.faults out.new) }
     ensures hosts { HostsFrom
         (telling P.Conn.left P.Conn.written P.Conn.Source.faults P.Conn.Sink.faults)
-        core result.status result.history (O.written out.old) (O.written out.new)
+        watched.core result.status result.history (O.written out.old) (O.written out.new)
         (O.faults out.old) (O.faults out.new) (K.records result.keeper)
         (K.failures result.keeper) (map P.state ports.old.items) (map P.state ports.new.items) }
 {
@@ -177,19 +216,22 @@ fn host_from<R: Threads + Wait + Sync, O: Sink, K: Keeper + Send, P: Port + Send
         mut outbox,
         mut line,
     } = room;
-    match serve_ports(rt, alloc, core, ports) {
+    match serve_ports(rt, alloc, watched, ports) {
         Ok(ServedPorts { served, have_ended }) => {
-            let Served { core, connections } = served;
-            let summary = Summary {
-                bundles: core.bundles(),
+            let Served {
+                watched,
                 connections,
-                entries: core.history().len() as u64,
+            } = served;
+            let summary = Summary {
+                bundles: watched.bundles(),
+                connections,
+                entries: watched.history().len() as u64,
             };
             append_summary(&mut line, summary);
             let sent = send(&mut outbox, out, line.as_slice());
-            finish(core, end_status(sent, have_ended))
+            finish(watched, end_status(sent, have_ended))
         }
-        Err(NoServe { core }) => finish(core, Status::NoMemory),
+        Err(NoServe { watched }) => finish(watched, Status::NoMemory),
     }
 }
 
@@ -203,15 +245,15 @@ fn end_status(sent: Result<(), Failed>, have_ended: bool) -> Status
     }
 }
 
-fn finish<K: Keeper>(core: Core<K>, status: Status) -> Outcome<K>
+fn finish<K: Keeper, W: Watcher>(watched: WatchedCore<K, W>, status: Status) -> Outcome<K>
     ensures status { result.status ≡ status }
     ensures at { result.at ≡ place_of status }
-    ensures history { result.history ≡ core.state.history }
-    ensures records { K.records result.keeper ≡ core.kept.records }
-    ensures faults { K.failures result.keeper ≡ core.kept.faults }
-    ensures keeping { IsKeeping core }
+    ensures history { result.history ≡ watched.core.state.history }
+    ensures records { K.records result.keeper ≡ watched.core.kept.records }
+    ensures faults { K.failures result.keeper ≡ watched.core.kept.faults }
+    ensures keeping { IsKeeping watched.core }
 {
-    let Finished { history, keeper } = core.finish();
+    let Finished { history, keeper } = watched.finish();
     Outcome {
         status,
         at: status.place(),

@@ -1,13 +1,8 @@
 //! The line that tells what a server did, written into room that was taken before.
-ghost use Rattle.std.specs.Prelude.{◌≡◌, ◌≤◌, ◌+◌, [], ◌++◌, OnOk, OnErr, length, vec_capacity, vec_len};
-ghost use Rattle.std.specs.Fmt.{decimal};
-ghost use Rattle.std.specs.Io.KnownBytes.{Appends};
-ghost use Rattle.io_edges.specs.Causes.{Rose};
-ghost use Rattle.io_edges.specs.Sending.{SendsFront};
+ghost use Rattle.std.specs.Prelude.{◌≡◌, ◌≤◌, [], vec_capacity};
 ghost use Rattle.grist_hosting.specs.Summary.{summary_line};
 
-use io_edges::{Failed, Outbox, Sink};
-use itoa::Buffer;
+use grist_run::{append, append_number};
 
 /// How many bytes the line has at most.
 pub(crate) const SUMMARY_BYTES: usize = 192;
@@ -18,27 +13,6 @@ pub(crate) struct Summary {
     pub bundles: u64,
     pub connections: u64,
     pub entries: u64,
-}
-
-fn append(line: &mut Vec<u8>, piece: &[u8])
-    requires { vec_len line.old + length piece.now ≤ vec_capacity line.old }
-    ensures items { line.new.items ≡ line.old.items ++ piece.now }
-    ensures len { vec_len line.new ≡ vec_len line.old + length piece.now }
-    ensures room { vec_capacity line.new ≡ vec_capacity line.old }
-{
-    for byte in piece {
-        line.push_reserved(*byte);
-    }
-}
-
-fn append_number(line: &mut Vec<u8>, number: u64)
-    requires { vec_len line.old + 40 ≤ vec_capacity line.old }
-    ensures items { line.new.items ≡ line.old.items ++ decimal number }
-    ensures len { vec_len line.new ≤ vec_len line.old + 40 }
-    ensures room { vec_capacity line.new ≡ vec_capacity line.old }
-{
-    let mut buffer = Buffer::new();
-    append(line, buffer.format(number).as_bytes());
 }
 
 /// Writes the line into a vector that has room for it.
@@ -57,20 +31,4 @@ pub(crate) fn append_summary(line: &mut Vec<u8>, summary: Summary)
     append(line, b",\"entries\":");
     append_number(line, summary.entries);
     append(line, b"}\n");
-}
-
-/// Sends a line.
-///
-/// Errors: `Failed`, where the sink failed; a front of the line is then written.
-pub(crate) fn send<O: Sink>(outbox: &mut Outbox, out: &mut O, line: &[u8]) -> Result<(), Failed>
-    requires { outbox.old ≡ [] }
-    ensures ok { OnOk result (Appends (O.written out.old) (O.written out.new) line.now) }
-    ensures err { OnErr result (SendsFront line.now (O.written out.old) (O.written out.new)) }
-    ensures later { O.faults out.old ≤ O.faults out.new }
-    ensures cause { OnErr result (Rose (O.faults out.old) (O.faults out.new)) }
-{
-    let Ok(()) = outbox.put(out, line) else {
-        return Err(Failed);
-    };
-    outbox.flush(out)
 }

@@ -7,3 +7,4 @@ pub mod PlainLemmas
 pub mod PrintLemmas
 pub mod FramedLemmas
 pub mod ShownLemmas
+pub mod StreamLemmas

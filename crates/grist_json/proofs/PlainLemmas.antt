@@ -19,7 +19,7 @@ use Rattle.doc_model.specs.declared.view.ViewAction.{ViewAction}
 use Rattle.doc_model.specs.declared.view.ViewAction.TheVariants as action
 use Rattle.action_lines.specs.Numbers.{int_data, row_data}
 use Rattle.grist_json.specs.Values.{item_data, value_data, values_data}
-use Rattle.grist_json.specs.Actions.{formula_data, column_data, info_data, put_column, columns_data, action_data}
+use Rattle.grist_json.specs.Actions.{formula_data, column_data, info_data, put_column, columns_data, action_data, actions_data}
 use Rattle.grist_json.specs.Replies.{id_data, ret_data, verdict_data}
 use Rattle.grist_json.specs.Lines.{stream_data}
 
@@ -180,6 +180,11 @@ verdict_flat (Refused code (Some at)) = record { whole = refl; low = omega arith
 verdict_flat (Limited what bound None) = record { whole = refl; low = omega arith }
 verdict_flat (Limited what bound (Some at)) = record { whole = refl; low = omega arith }
 verdict_flat (Denied at rule) = record { whole = refl; low = omega arith }
+
+pub actions_flat : (actions : List ViewAction) → IsFlat 6 (actions_data actions)
+actions_flat actions =
+    let all = all_flat action_data 5 action_flat actions in
+    record { whole = all.whole; low = omega (arith, all.low) }
 
 pub stream_flat : (n : ℕ) (actions : List ViewAction) → IsFlat 8 (stream_data n actions)
 stream_flat n actions =

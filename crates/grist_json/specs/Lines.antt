@@ -32,6 +32,11 @@ stream_data n actions =
 unfoldable pub stream_text : ℕ → List ViewAction → List ℕ
 stream_text n actions = compact_text (stream_data n actions)
 
+-- what stands before the number in each line that tells these changes
+unfoldable pub stream_front : List ViewAction → List ℕ
+stream_front actions =
+    codes "{\"actions\":" ++ compact_text (actions_data actions) ++ codes ",\"seq\":"
+
 -- a line in its frame: {"line":line,"session":name}
 unfoldable pub frame_text : List ℕ → List ℕ → List ℕ
 frame_text line session =

@@ -23,6 +23,7 @@ mod printed_actions;
 mod printed_replies;
 mod printed_values;
 mod requests;
+mod stream_front;
 mod users;
 mod writers;
 
@@ -37,5 +38,6 @@ pub use printed_actions::{
     cells_action, removed_column_action, removed_rows_action, removed_table_action,
 };
 pub use requests::{ReadFault, read_request};
+pub use stream_front::StreamFront;
 pub use users::{UserLine, read_user};
 pub use writers::{write_frame, write_reply, write_stream};

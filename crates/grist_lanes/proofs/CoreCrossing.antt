@@ -1,4 +1,4 @@
--- That a core may go to another thread, and that the gate of one may be lent to several.
+-- That a core with its watchers may go to another thread, and that the gate of one may be lent to several.
 -- A type with formulas in it has no such fact of its own, so the parts are put together here.
 use Rattle.acl_formula.proofs.mention.Mention.TheSendSync.{the_send as mention-send}
 use Rattle.acl_formula.proofs.permissions.PermFlags.TheSendSync.{the_send as permFlags-send}
@@ -37,6 +37,7 @@ use Rattle.known_reads.proofs.beside.KnownReads.TheSendSync.{the_send as knownRe
 use Rattle.row_tables.proofs.tables.RowTables.TheSendSync.{the_send as rowTables-send}
 use Rattle.undo_bundles.proofs.log.BundleLog.TheSendSync.{the_send as bundleLog-send}
 use Rattle.user_attrs.proofs.attribute_rule.AttributeRule.TheSendSync.{the_send as attributeRule-send}
+use Rattle.watch_box.proofs.watch_list.WatchList.TheSendSync.{the_send as watchList-send}
 use Rattle.std.proofs.Crossing.{crosses}
 use Rattle.std.proofs.MapsCrossing.{crosses as maps}
 use Rattle.formula_parse.proofs.tree.ArgumentList.TheLaws.TheKnot.{crosses as knot}
@@ -70,6 +71,9 @@ use Rattle.session_gate.specs.declared.machine.Machine as machine
 use Rattle.session_gate.specs.contracts.gate.Gate as gate
 use Rattle.session_gate.proofs.gate.Gate.TheSendSync.{the_sync as gate-sync}
 use Rattle.bundle_core.specs.contracts.history_core.Core.TheInside as inside
+use Rattle.watch_box.specs.declared.watcher.Watcher as watcher
+use Rattle.watched_core.specs.contracts.watched.WatchedCore as watched
+use Rattle.watched_core.specs.contracts.watched.WatchedCore.TheInside as watched-inside
 
 -- the parts that have a fact of their own
 ruleset parts = (
@@ -130,14 +134,21 @@ ruled-send = let T = ruled-inside.the_type tables.the_row back.the_row doc-table
     (recorded_send (S.Struct (shape T)) T.D T.to T.to_one (struct_send (shape T) (doc-send, (known-send, tt))))
 
 -- a core may go to another thread where its keeper may
-pub core-send : (K : RattleType) (g : keeper.Ghosts K.Denot) → IsSend K → IsSend (core.the_row K g)
+core-send : (K : RattleType) (g : keeper.Ghosts K.Denot) → IsSend K → IsSend (core.the_row K g)
 core-send K g k = let T = inside.the_type K g in view_send (inside.the_row K g) _ _ _ _
     (recorded_send (S.Struct (shape T)) T.D T.to T.to_one (struct_send (shape T)
     ((search (sendable, parts, crosses) depth 60), ((search (sendable, parts, crosses) depth 60), ((search (sendable, parts, crosses) depth 60), (ruled-send, ((search (sendable, parts, crosses) depth 60), ((search (sendable, parts, crosses) depth 60), ((search (sendable, parts, crosses) depth 60), ((search (sendable, parts, crosses) depth 60), ((search (sendable, k, parts, crosses) depth 60), ((search (sendable, parts, crosses) depth 60), ((search (sendable, parts, crosses) depth 60), tt)))))))))))))
 
+-- with its watchers, where these may too
+pub watched-send : (K W : RattleType) (g : keeper.Ghosts K.Denot) (h : watcher.Ghosts W.Denot) → IsSend K → IsSend W → IsSend (watched.the_row K W g h)
+watched-send K W g h k w = let T = watched-inside.the_type K W g h in view_send (watched-inside.the_row K W g h) _ _ _ _
+    (recorded_send (S.Struct (shape T)) T.D T.to T.to_one (struct_send (shape T)
+    ((search (sendable, crosses) depth 60), (core-send K g k, (watchList-send W h w, ((search (sendable, crosses) depth 60), tt))))))
+
 -- and then threads may share its gate
-pub core-gate-sync : (K Entry Opening Turn Answer : RattleType) (g : keeper.Ghosts K.Denot) (m : machine.Ghosts (core.the_row K g).Denot Entry.Denot Opening.Denot Turn.Denot Answer.Denot) → IsSend K → IsSync (gate.the_row (core.the_row K g) Entry Opening Turn Answer m)
-core-gate-sync K Entry Opening Turn Answer g m k = gate-sync (core.the_row K g) Entry Opening Turn Answer m (core-send K g k)
+pub watched-gate-sync : (K W Entry Opening Turn Answer : RattleType) (g : keeper.Ghosts K.Denot) (h : watcher.Ghosts W.Denot) (m : machine.Ghosts (watched.the_row K W g h).Denot Entry.Denot Opening.Denot Turn.Denot Answer.Denot) → IsSend K → IsSend W
+    → IsSync (gate.the_row (watched.the_row K W g h) Entry Opening Turn Answer m)
+watched-gate-sync K W Entry Opening Turn Answer g h m k w = gate-sync (watched.the_row K W g h) Entry Opening Turn Answer m (watched-send K W g h k w)
 
 -- what a closure borrows of three places may be shared where each may
 pub lent-sync : (ν : Sym) (ℓ ℓ′ ℓ″ : Lifetime) (κ κ′ κ″ : Lft) (R S T : RattleType) → IsSync R → IsSync S → IsSync T → IsSync (TupleAt ν (ShrRef ℓ κ R ∷ ShrRef ℓ′ κ′ S ∷ ShrRef ℓ″ κ″ T ∷ []))

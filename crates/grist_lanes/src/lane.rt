@@ -8,7 +8,6 @@ ghost use Rattle.grist_lanes.specs.LaneEnds.{EndsLane};
 
 use crate::lanes::LaneEnd;
 use crate::session_names::session_name;
-use bundle_core::Core;
 use doc_keeper::Keeper;
 use grist_serve::serve_link;
 use io_edges::{Failed, Link, Port, SessionEnd, Sink, Source};
@@ -16,13 +15,15 @@ use session_gate::{Gate, Pass};
 use std::alloc::Global;
 use std::sync::Wait;
 use std::thread::Threads;
+use watch_box::Watcher;
+use watched_core::WatchedCore;
 
 // Serves the connection of that number.
-fn serve_connection<R: Threads + Wait + Sync, K: Keeper, L: Link>(
+fn serve_connection<R: Threads + Wait + Sync, K: Keeper, W: Watcher, L: Link>(
     rt: &R,
     alloc: Global,
-    gate: &Gate<Core<K>>,
-    pass: &mut Pass<Core<K>>,
+    gate: &Gate<WatchedCore<K, W>>,
+    pass: &mut Pass<WatchedCore<K, W>>,
     lane: u32,
     number: u64,
     conn: &mut L,
@@ -47,12 +48,12 @@ fn serve_connection<R: Threads + Wait + Sync, K: Keeper, L: Link>(
 }
 
 // Serves the next connection of a port, which has that number, and answers whether there was one.
-fn serve_next<R: Threads + Wait + Sync, K: Keeper, P: Port>(
+fn serve_next<R: Threads + Wait + Sync, K: Keeper, W: Watcher, P: Port>(
     rt: &R,
     alloc: Global,
-    gate: &Gate<Core<K>>,
+    gate: &Gate<WatchedCore<K, W>>,
     port: &mut P,
-    pass: &mut Pass<Core<K>>,
+    pass: &mut Pass<WatchedCore<K, W>>,
     lane: u32,
     number: u64,
 ) -> Result<bool, Failed>
@@ -79,12 +80,12 @@ fn serve_next<R: Threads + Wait + Sync, K: Keeper, P: Port>(
 /// The session of the k-th one is `session_name lane k`.
 ///
 /// It may wait, for connections and for turns. Cost: that of `serve_link` for each connection.
-pub(crate) fn serve_port<R: Threads + Wait + Sync, K: Keeper, P: Port>(
+pub(crate) fn serve_port<R: Threads + Wait + Sync, K: Keeper, W: Watcher, P: Port>(
     rt: &R,
     alloc: Global,
-    gate: &Gate<Core<K>>,
+    gate: &Gate<WatchedCore<K, W>>,
     port: &mut P,
-    pass: &mut Pass<Core<K>>,
+    pass: &mut Pass<WatchedCore<K, W>>,
     lane: u32,
 ) -> LaneEnd
     requires pass { IsPassOf gate.now pass.old }

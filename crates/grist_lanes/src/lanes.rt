@@ -3,10 +3,11 @@ ghost use Rattle.std.specs.Prelude.{◌≡◌, ◌≤◌, [], length, map, sum_b
 ghost use Rattle.std.specs.List.{AllByRecursion, list_all};
 ghost use Rattle.io_edges.specs.Ports.{handed_bound};
 
-use bundle_core::Core;
 use doc_keeper::Keeper;
 use io_edges::Port;
 use session_gate::Pass;
+use watch_box::Watcher;
+use watched_core::WatchedCore;
 
 /// How many connections a lane served, and whether its port said that no more will come.
 #[derive(Clone, Copy)]
@@ -16,14 +17,14 @@ pub(crate) struct LaneEnd {
 }
 
 /// A port, the pass by which its connections are served, and what came of it.
-pub(crate) struct Lane<P, K: Keeper> {
+pub(crate) struct Lane<P, K: Keeper, W: Watcher> {
     pub port: P,
-    pub pass: Pass<Core<K>>,
+    pub pass: Pass<WatchedCore<K, W>>,
     pub end: LaneEnd,
 }
 
 // By hand, since a derive would ask it of the pass.
-impl<P: Drop, K: Keeper> Drop for Lane<P, K> {
+impl<P: Drop, K: Keeper, W: Watcher> Drop for Lane<P, K, W> {
     fn drop(self) {
         let Lane {
             port: _,
@@ -33,8 +34,8 @@ impl<P: Drop, K: Keeper> Drop for Lane<P, K> {
     }
 }
 
-impl<P, K: Keeper> Lane<P, K> {
-    fn into_parts(self) -> (P, Pass<Core<K>>)
+impl<P, K: Keeper, W: Watcher> Lane<P, K, W> {
+    fn into_parts(self) -> (P, Pass<WatchedCore<K, W>>)
         ensures { (result.0 ≡ self.port) × (result.1 ≡ self.pass) }
     {
         let Lane { port, pass, end: _ } = self;
@@ -45,10 +46,10 @@ impl<P, K: Keeper> Lane<P, K> {
 /// Puts each port with the pass in its place into a lane. The vectors keep their room.
 ///
 /// Memory: none.
-pub(crate) fn join_lanes<P: Port, K: Keeper>(
+pub(crate) fn join_lanes<P: Port, K: Keeper, W: Watcher>(
     ports: &mut Vec<P>,
-    passes: &mut Vec<Pass<Core<K>>>,
-    lanes: &mut Vec<Lane<P, K>>,
+    passes: &mut Vec<Pass<WatchedCore<K, W>>>,
+    lanes: &mut Vec<Lane<P, K, W>>,
 )
     requires count { vec_len ports.old ≡ vec_len passes.old }
     requires room { vec_len ports.old ≤ vec_capacity lanes.old }
@@ -78,10 +79,10 @@ pub(crate) fn join_lanes<P: Port, K: Keeper>(
 /// Takes the lanes apart into their ports and passes, in their order.
 ///
 /// Memory: none.
-pub(crate) fn part_lanes<P: Port, K: Keeper>(
+pub(crate) fn part_lanes<P: Port, K: Keeper, W: Watcher>(
     ports: &mut Vec<P>,
-    passes: &mut Vec<Pass<Core<K>>>,
-    lanes: &mut Vec<Lane<P, K>>,
+    passes: &mut Vec<Pass<WatchedCore<K, W>>>,
+    lanes: &mut Vec<Lane<P, K, W>>,
 )
     requires empty { (ports.old.items ≡ []) × (passes.old.items ≡ []) }
     requires port_room { vec_len lanes.old ≤ vec_capacity ports.old }
@@ -99,7 +100,7 @@ pub(crate) fn part_lanes<P: Port, K: Keeper>(
 }
 
 /// How many connections the lanes served together.
-pub(crate) fn connections_of<P: Port, K: Keeper>(lanes: &[Lane<P, K>]) -> u64
+pub(crate) fn connections_of<P: Port, K: Keeper, W: Watcher>(lanes: &[Lane<P, K, W>]) -> u64
     requires few { length lanes.now ≤ 64 }
     requires each { AllByRecursion (λ l. l.end.connections ≤ handed_bound) lanes.now }
     ensures { result ≡ sum_by (λ l. l.end.connections) lanes.now }
@@ -112,7 +113,7 @@ pub(crate) fn connections_of<P: Port, K: Keeper>(lanes: &[Lane<P, K>]) -> u64
 }
 
 /// Whether the port of each lane said that no more connections will come.
-pub(crate) fn have_all_ended<P: Port, K: Keeper>(lanes: &[Lane<P, K>]) -> bool
+pub(crate) fn have_all_ended<P: Port, K: Keeper, W: Watcher>(lanes: &[Lane<P, K, W>]) -> bool
     ensures { result ≡ list_all (λ l. l.end.has_ended) lanes.now }
 {
     lanes.iter().all(|lane| lane.end.has_ended)

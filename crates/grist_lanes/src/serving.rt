@@ -12,7 +12,6 @@ ghost use Rattle.grist_lanes.specs.Sessions.{AreOfNoLane};
 
 use crate::lane::serve_port;
 use crate::lanes::{Lane, connections_of, have_all_ended, join_lanes, part_lanes};
-use bundle_core::Core;
 use doc_keeper::Keeper;
 use io_edges::{Link, Port, Sink, Source};
 use session_gate::{Gate, NoGate, PassList};
@@ -21,13 +20,15 @@ use std::marker::Send;
 use std::sync::Wait;
 use std::thread;
 use std::thread::Threads;
+use watch_box::Watcher;
+use watched_core::WatchedCore;
 
 // Serves the ports of all lanes, each in a thread of its own where one can be made.
-fn serve_all<R: Threads + Wait + Sync, K: Keeper + Send, P: Port + Send>(
+fn serve_all<R: Threads + Wait + Sync, K: Keeper + Send, W: Watcher + Send, P: Port + Send>(
     rt: &R,
     alloc: Global,
-    gate: &Gate<Core<K>>,
-    lanes: &mut Vec<Lane<P, K>>,
+    gate: &Gate<WatchedCore<K, W>>,
+    lanes: &mut Vec<Lane<P, K, W>>,
 )
     requires few { length lanes.old.items ≤ 64 }
     requires all { All (λ l. IsPassOf gate.now l.pass × ((P.state l.port).lent ≡ false))
@@ -47,7 +48,7 @@ fn serve_all<R: Threads + Wait + Sync, K: Keeper + Send, P: Port + Send>(
         rt,
         lanes.as_mut_slice(),
         many,
-        &|place: usize, lane: &mut Lane<P, K>|
+        &|place: usize, lane: &mut Lane<P, K, W>|
             requires { IsSync R.row × IsSend P.row × (place < 64) × IsPassOf gate.now lane.old.pass
                 × ((P.state lane.old.port).lent ≡ false) }
             ensures { IsPassOf gate.entry.now lane.new.pass
@@ -71,22 +72,22 @@ fn serve_all<R: Threads + Wait + Sync, K: Keeper + Send, P: Port + Send>(
 
 /// The ports were served, and the core comes back; and how many connections they handed out.
 #[derive(Drop)]
-pub struct Served<K: Keeper> {
-    pub core: Core<K>,
+pub struct Served<K: Keeper, W: Watcher> {
+    pub watched: WatchedCore<K, W>,
     pub connections: u64,
 }
 
 /// The ports were served; and whether each of them said that no more connections will come.
 #[derive(Drop)]
-pub struct ServedPorts<K: Keeper> {
-    pub served: Served<K>,
+pub struct ServedPorts<K: Keeper, W: Watcher> {
+    pub served: Served<K, W>,
     pub have_ended: bool,
 }
 
 /// There was no memory for lanes. The core comes back as it was, and no port was asked.
 #[derive(Drop)]
-pub struct NoServe<K: Keeper> {
-    pub core: Core<K>,
+pub struct NoServe<K: Keeper, W: Watcher> {
+    pub watched: WatchedCore<K, W>,
 }
 
 /// Serves the connections of all ports, a lane each, until none will come to a port or it fails,
@@ -95,34 +96,36 @@ pub struct NoServe<K: Keeper> {
 ///
 /// It may wait, for connections and for turns.
 /// Errors: `NoServe`, which is out of memory.
-pub fn serve_ports<R: Threads + Wait + Sync, K: Keeper + Send, P: Port + Send>(
+pub fn serve_ports<R: Threads + Wait + Sync, K: Keeper + Send, W: Watcher + Send, P: Port + Send>(
     rt: &R,
     alloc: Global,
-    core: Core<K>,
+    watched: WatchedCore<K, W>,
     ports: &mut Vec<P>,
-) -> Result<ServedPorts<K>, NoServe<K>>
+) -> Result<ServedPorts<K, W>, NoServe<K, W>>
     requires count { (0 < vec_len ports.old) × (vec_len ports.old ≤ 64) }
     requires home { All (λ p. (P.state p).lent ≡ false) ports.old.items }
-    requires none { AreOfNoLane core.state.history }
-    ensures opening { IfOk result (λ s. opening_of s.served.core ≡ opening_of core) }
+    requires none { AreOfNoLane watched.core.state.history }
+    ensures opening { IfOk result (λ s.
+        opening_of s.served.watched.core ≡ opening_of watched.core) }
     ensures serves { IfOk result (λ s. ServesLanes
         (telling P.Conn.left P.Conn.written P.Conn.Source.faults P.Conn.Sink.faults)
-        (opening_of core) core.state.history s.served.core.state.history
+        (opening_of watched.core) watched.core.state.history
+        s.served.watched.core.state.history
         (map P.state ports.old.items) (map P.state ports.new.items)) }
     ensures connections { IfOk result (λ s. all_handed (map P.state ports.new.items)
         ≡ all_handed (map P.state ports.old.items) + s.served.connections) }
     ensures ended { IfOk result (λ s. EndedBy s.have_ended
         (map P.state ports.old.items) (map P.state ports.new.items)) }
-    ensures err { IfErr result (λ n. (n.core ≡ core) × (ports.new.items ≡ ports.old.items)) }
+    ensures err { IfErr result (λ n. (n.watched ≡ watched) × (ports.new.items ≡ ports.old.items)) }
 {
     let Ok(mut lanes) = Vec::with_capacity(alloc, ports.len()) else {
-        return Err(NoServe { core });
+        return Err(NoServe { watched });
     };
-    let (gate, passes) = match Gate::new(alloc, core, ports.len() as u32) {
+    let (gate, passes) = match Gate::new(alloc, watched, ports.len() as u32) {
         Ok(made) => made,
         Err(NoGate { machine }) => {
             lanes.destroy_empty();
-            return Err(NoServe { core: machine });
+            return Err(NoServe { watched: machine });
         }
     };
     let mut passes = passes.into_vec();
@@ -132,11 +135,14 @@ pub fn serve_ports<R: Threads + Wait + Sync, K: Keeper + Send, P: Port + Send>(
     let have_ended = have_all_ended(lanes.as_slice());
     part_lanes(ports, &mut passes, &mut lanes);
     lanes.destroy_empty();
-    let Ok(core) = gate.close(PassList::from(passes)) else {
+    let Ok(watched) = gate.close(PassList::from(passes)) else {
         unreachable!()
     };
     Ok(ServedPorts {
-        served: Served { core, connections },
+        served: Served {
+            watched,
+            connections,
+        },
         have_ended,
     })
 }
@@ -145,25 +151,25 @@ pub fn serve_ports<R: Threads + Wait + Sync, K: Keeper + Send, P: Port + Send>(
 ///
 /// It may wait, for connections and for turns.
 /// Errors: `NoServe`, which is out of memory.
-pub fn serve_lanes<R: Threads + Wait + Sync, K: Keeper + Send, P: Port + Send>(
+pub fn serve_lanes<R: Threads + Wait + Sync, K: Keeper + Send, W: Watcher + Send, P: Port + Send>(
     rt: &R,
     alloc: Global,
-    core: Core<K>,
+    watched: WatchedCore<K, W>,
     ports: &mut Vec<P>,
-) -> Result<Served<K>, NoServe<K>>
+) -> Result<Served<K, W>, NoServe<K, W>>
     requires count { (0 < vec_len ports.old) × (vec_len ports.old ≤ 64) }
     requires home { All (λ p. (P.state p).lent ≡ false) ports.old.items }
-    requires none { AreOfNoLane core.state.history }
-    ensures opening { IfOk result (λ s. opening_of s.core ≡ opening_of core) }
+    requires none { AreOfNoLane watched.core.state.history }
+    ensures opening { IfOk result (λ s. opening_of s.watched.core ≡ opening_of watched.core) }
     ensures serves { IfOk result (λ s. ServesLanes
         (telling P.Conn.left P.Conn.written P.Conn.Source.faults P.Conn.Sink.faults)
-        (opening_of core) core.state.history s.core.state.history
+        (opening_of watched.core) watched.core.state.history s.watched.core.state.history
         (map P.state ports.old.items) (map P.state ports.new.items)) }
     ensures connections { IfOk result (λ s. all_handed (map P.state ports.new.items)
         ≡ all_handed (map P.state ports.old.items) + s.connections) }
-    ensures err { IfErr result (λ n. (n.core ≡ core) × (ports.new.items ≡ ports.old.items)) }
+    ensures err { IfErr result (λ n. (n.watched ≡ watched) × (ports.new.items ≡ ports.old.items)) }
 {
-    match serve_ports(rt, alloc, core, ports) {
+    match serve_ports(rt, alloc, watched, ports) {
         Ok(
             ServedPorts {
                 served,

@@ -1,40 +1,44 @@
 //! The program: a run over its words, standard input and standard output, the ports that the words
 //! ask for, and the file of the document that they name.
 //!
-//! Stands on `run_words` (which document and which ports), `grist_hosting`, which says what is
-//! written for what is read, `io_edges`, and `file_keeper` and `doc_keeper`, which keep records in
-//! a file or in memory.
+//! Stands on `run_words` (which document, which ports and which watched session), `grist_hosting`,
+//! which says what is written for what is read, `io_edges`, `file_keeper` and `doc_keeper`, which
+//! keep records in a file or in memory, and `watch_box` (a watcher over standard error).
 //!
 //! Promises: none beyond those of the run.
 //! Not promised: that standard input and output pass bytes on, nor what a file holds.
 #![tactic(auto)]
 
-ghost use Rattle.std.specs.Prelude.{◌≡◌, All, IfOk, false};
+ghost use Rattle.std.specs.Prelude.{◌≡◌, ◌≤◌, ◌<◌, ◌-◌, ◌^◌, All, IfOk, false, vec_len};
 
 use cell_types::Name;
 use doc_keeper::{Keeper, SureKeeper};
 use file_keeper::SqliteKeeper;
 use grist_hosting::run;
-use grist_run::{Outcome, Status};
+use grist_run::{Outcome, Status, WatchedSession};
 use io_edges::{StdSink, StdSource, TcpPort};
 use run_words::{Plan, PlanFault, plan};
 use std::alloc::{AllocError, Global};
+use std::io::Write;
 use std::marker::Send;
 use std::net::{Ipv4Addr, Net, TcpListener, TcpStream};
 use std::process::ExitCode;
 use std::sync::Wait;
 use std::thread::Threads;
 use std::{env, io};
+use watch_box::{StderrWatcher, Watcher};
 
 // The words behind the program's own name.
 fn words_of(rt: &HostRuntime) -> io::Result<Vec<String>> {
     Ok(env::args(rt)?.skip(1).collect(rt.alloc())?)
 }
 
-// What of the outside the words ask for: the name of a kept document, and ports.
+// What of the outside the words ask for: the name of a kept document, the session whose stream
+// lines are written to standard error, and ports.
 #[derive(Drop)]
 struct Outside {
     doc: Option<Name>,
+    watch: Option<Name>,
     lanes: u32,
     port: u16,
     conns: u32,
@@ -42,9 +46,10 @@ struct Outside {
 
 impl Outside {
     // No ports, and no document in a file but the named one.
-    fn without_ports(doc: Option<Name>) -> Self {
+    fn without_ports(doc: Option<Name>, watch: Option<Name>) -> Self {
         Outside {
             doc,
+            watch,
             lanes: 0,
             port: 0,
             conns: 0,
@@ -54,20 +59,21 @@ impl Outside {
 
 fn outside_for(plan: Plan) -> Outside {
     match plan {
-        Plan::Replay { doc, watch: _watch } => Outside::without_ports(doc),
+        Plan::Replay { doc, watch } => Outside::without_ports(doc, watch),
         Plan::Serve {
             lanes,
             port,
             conns,
             doc,
-            watch: _watch,
+            watch,
         } => Outside {
             doc,
+            watch,
             lanes,
             port,
             conns,
         },
-        Plan::Gen { n: _n } => Outside::without_ports(None),
+        Plan::Gen { n: _n } => Outside::without_ports(None, None),
     }
 }
 
@@ -75,7 +81,7 @@ fn outside_for(plan: Plan) -> Outside {
 fn outside_of(alloc: Global, words: &[String]) -> Result<Outside, AllocError> {
     match plan(alloc, words) {
         Ok(plan) => Ok(outside_for(plan)),
-        Err(PlanFault::Usage) => Ok(Outside::without_ports(None)),
+        Err(PlanFault::Usage) => Ok(Outside::without_ports(None, None)),
         Err(PlanFault::NoMemory) => Err(AllocError),
     }
 }
@@ -108,14 +114,32 @@ fn ports_of<R: Net<Listener = TcpListener, Stream = TcpStream>>(
     Ok(ports)
 }
 
-fn run_over<R: Threads + Wait + Sync, K: Keeper + Send>(
+// The watcher that the words ask for.
+fn watchers_of<E: Write + Drop>(
+    alloc: Global,
+    watch: Option<Name>,
+    error: E,
+) -> Result<Vec<WatchedSession<StderrWatcher<E>>>, AllocError>
+    ensures { IfOk result (λ v. vec_len v ≤ 1) }
+{
+    let mut watchers = Vec::new(alloc);
+    if let Some(session) = watch {
+        let watcher = StderrWatcher::new(error);
+        watchers.push(WatchedSession { session, watcher })?;
+    }
+    Ok(watchers)
+}
+
+fn run_over<R: Threads + Wait + Sync, K: Keeper + Send, W: Watcher + Send>(
     rt: &R,
     host: &HostRuntime,
     words: &[String],
     mut ports: Vec<TcpPort<TcpListener>>,
+    watchers: Vec<WatchedSession<W>>,
     keeper: K,
 ) -> Outcome<K>
-    requires { All (λ p. p.lent ≡ false) ports.items }
+    requires home { All (λ p. p.lent ≡ false) ports.items }
+    requires few { vec_len watchers < 2 ^ 32 - 1 }
 {
     let mut input = StdSource::new(host.stdin());
     let mut out = StdSink::new(host.stdout());
@@ -127,19 +151,22 @@ fn run_over<R: Threads + Wait + Sync, K: Keeper + Send>(
         &mut out,
         keeper,
         &mut ports,
+        watchers,
     )
 }
 
 // A run over the file of that document. Whether or not closing it joins the file with its log, both
 // together have what was kept.
-fn run_in_file<R: Threads + Wait + Sync>(
+fn run_in_file<R: Threads + Wait + Sync, W: Watcher + Send>(
     rt: &R,
     host: &HostRuntime,
     words: &[String],
     ports: Vec<TcpPort<TcpListener>>,
+    watchers: Vec<WatchedSession<W>>,
     doc: &Name,
 ) -> Result<Status, AllocError>
-    requires { All (λ p. p.lent ≡ false) ports.items }
+    requires home { All (λ p. p.lent ≡ false) ports.items }
+    requires few { vec_len watchers < 2 ^ 32 - 1 }
 {
     let mut path = String::from_str(host.alloc(), doc.as_str())?;
     path.push_str(".grist")?;
@@ -149,7 +176,7 @@ fn run_in_file<R: Threads + Wait + Sync>(
         at: _,
         history: _,
         keeper,
-    } = run_over(rt, host, words, ports, keeper);
+    } = run_over(rt, host, words, ports, watchers, keeper);
     let _ = keeper.close();
     Ok(status)
 }
@@ -162,9 +189,14 @@ fn status_of<R: Threads + Wait + Net<Listener = TcpListener, Stream = TcpStream>
     let alloc = host.alloc();
     let outside = outside_of(alloc, words)?;
     let ports = ports_of(rt, alloc, &outside)?;
-    match &outside.doc {
-        Some(doc) => run_in_file(rt, host, words, ports, doc),
-        None => Ok(run_over(rt, host, words, ports, SureKeeper::new(alloc)).status),
+    let Outside { doc, watch, .. } = outside;
+    let watchers = watchers_of(alloc, watch, host.stderr())?;
+    match &doc {
+        Some(doc) => run_in_file(rt, host, words, ports, watchers, doc),
+        None => {
+            let keeper = SureKeeper::new(alloc);
+            Ok(run_over(rt, host, words, ports, watchers, keeper).status)
+        }
     }
 }
 

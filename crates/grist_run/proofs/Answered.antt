@@ -54,7 +54,7 @@ added_entry c e stays = rw stays refl
 admitted_one : (h : List Entry) (e : Entry) → is_full h e.request e.size ≡ false → admitted (all_asked h) (asked e ∷ []) ≡ takes_all (all_asked (h ++ e ∷ []))
 admitted_one h e room = rw (is_full-asked h e.request e.size ∙ room) (ap takes_all (sym (map-append asked h (e ∷ []))))
 
-admitted_none : (h : List Entry) (e : Entry) → is_full h e.request e.size ≡ true → admitted (all_asked h) (asked e ∷ []) ≡ stops_at (all_asked h)
+pub admitted_none : (h : List Entry) (e : Entry) → is_full h e.request e.size ≡ true → admitted (all_asked h) (asked e ∷ []) ≡ stops_at (all_asked h)
 admitted_none h e full = rw (is_full-asked h e.request e.size ∙ full) refl
 
 module _ (old new : CoreState) (e : Entry) (lines : List (List ℕ)) (s : IsStep old new e lines) (stays : is_gone e.request ≡ false) where
@@ -64,7 +64,7 @@ module _ (old new : CoreState) (e : Entry) (lines : List (List ℕ)) (s : IsStep
   longer : new.history ≡ old.history ++ e ∷ []
   longer = ap (λ (c : CoreState). c.history) (s.added ∙ added_entry old e stays)
 
-  took_one : admitted (all_asked old.history) (asked e ∷ []) ≡ takes_all (all_asked new.history)
+  pub took_one : admitted (all_asked old.history) (asked e ∷ []) ≡ takes_all (all_asked new.history)
   took_one = admitted_one old.history e s.has_room ∙ ap (λ h. takes_all (all_asked h)) (sym longer)
 
   more_frames : frames_of old.users old.start new.history ≡ frames_of old.users old.start old.history ++ framed e.session lines

@@ -9,3 +9,8 @@ pub mod ServingLaws
 pub mod EndLaws
 pub mod ToldLaws
 pub mod ReplayLaws
+pub mod SendLemmas
+mod DenialLemmas
+mod GivenLaws
+mod AskingLaws
+mod GeneratedLaws

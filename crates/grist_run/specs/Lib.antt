@@ -13,3 +13,6 @@ pub mod Staying
 pub mod Told
 pub mod Starting
 pub mod Replay
+pub mod Denials
+pub mod Generated
+pub mod Asking

@@ -1,5 +1,5 @@
 //! A run: its words, its users, its requests and its end.
-ghost use Rattle.std.specs.Prelude.{◌≡◌, ◌≤◌, ◌↔◌, ◌⊎◌, false, [], map, string_bytes, ℕ, List, Option};
+ghost use Rattle.std.specs.Prelude.{◌≡◌, ◌≤◌, ◌<◌, ◌-◌, ◌^◌, ◌↔◌, ◌⊎◌, false, [], map, string_bytes, ℕ, List, Option, vec_len};
 ghost use Rattle.doc_model.specs.NewDocument.{new_document};
 ghost use Rattle.doc_opening.specs.Opening.{FirstBad};
 ghost use Rattle.io_edges.specs.Causes.{Rose};
@@ -17,25 +17,30 @@ ghost use Rattle.grist_run.specs.Words.{is_early, place_of};
 use crate::serving::serve;
 use crate::status::{Outcome, Status};
 use crate::user_lines::{Front, read_users};
-use bundle_core::{Core, Finished, StartFault};
+use crate::watching::{WatchedSession, start_watched};
+use bundle_core::{Finished, StartFault};
 use doc_keeper::Keeper;
 use doc_model::EntryList;
 use doc_opening::StartCause;
 use io_edges::{LineReader, NextLine, Outbox, Sink, Source};
 use run_words::asks_for_replay;
 use std::alloc::Global;
+use watch_box::Watcher;
+use watched_core::WatchedCore;
 
 /// Does what the words ask for, where that is a replay, by `run_alone`.
 ///
 /// Errors: those of a replay; `Usage`, exactly where the words ask for something else.
 /// Source: docs/PROTOCOL.md, "the program".
-pub fn run<S: Source, O: Sink, K: Keeper>(
+pub fn run<S: Source, O: Sink, K: Keeper, W: Watcher>(
     alloc: Global,
     words: &[String],
     input: &mut S,
     out: &mut O,
     keeper: K,
+    watchers: Vec<WatchedSession<W>>,
 ) -> Outcome<K>
+    requires few { vec_len watchers < 2 ^ 32 - 1 }
     ensures usage { (result.status ≡ Status.Usage)
         ↔ (is_replay (plan_of (map string_bytes words.now)) ≡ false) }
     ensures at { result.at ≡ place_of result.status }
@@ -52,7 +57,7 @@ pub fn run<S: Source, O: Sink, K: Keeper>(
         → Rose (K.failures keeper) (K.failures result.keeper) }
 {
     if asks_for_replay(words) {
-        run_alone(alloc, input, out, keeper)
+        run_alone(alloc, input, out, keeper, watchers)
     } else {
         without_history(alloc, Status::Usage, keeper)
     }
@@ -81,16 +86,19 @@ pub fn without_history<K: Keeper>(alloc: Global, status: Status, keeper: K) -> O
 ///
 /// The input is lines: users first, one a line, and then requests in frames. What sessions are
 /// given is written to `out`, each line in a frame, in the order of the requests. The keeper keeps
-/// each bundle that is accepted before it takes effect, and is handed back. It waits for nobody.
+/// each bundle that is accepted before it takes effect, and is handed back. Watchers take the
+/// stream lines of their sessions. It waits for nobody.
 /// Errors: the status says which event came first; what waits is written before it is told, and
 /// where that fails it is `WriteFault`. It is never `Usage` nor `PortFault`.
 /// Source: docs/PROTOCOL.md, "the program".
-pub fn run_alone<S: Source, O: Sink, K: Keeper>(
+pub fn run_alone<S: Source, O: Sink, K: Keeper, W: Watcher>(
     alloc: Global,
     input: &mut S,
     out: &mut O,
     keeper: K,
+    watchers: Vec<WatchedSession<W>>,
 ) -> Outcome<K>
+    requires few { vec_len watchers < 2 ^ 32 - 1 }
     ensures usage { result.status ≡ Status.Usage → ⊥ }
     ensures port_fault { result.status ≡ Status.PortFault → ⊥ }
     ensures at { result.at ≡ place_of result.status }
@@ -120,8 +128,8 @@ pub fn run_alone<S: Source, O: Sink, K: Keeper>(
         Ok(front) => front,
         Err(status) => return without_history(alloc, status, keeper),
     };
-    match Core::start(alloc, users, keeper) {
-        Ok(core) => replay_from(alloc, core, next, &mut outbox, &mut reader, input, out),
+    match start_watched(alloc, users, keeper, watchers) {
+        Ok(watched) => { replay_from(alloc, watched, next, &mut outbox, &mut reader, input, out) }
         Err(StartFault { cause, keeper }) => without_history(alloc, start_status(cause), keeper),
     }
 }
@@ -138,9 +146,9 @@ pub fn start_status(cause: StartCause) -> Status
 }
 
 // Answers the lines behind the users.
-fn replay_from<S: Source, O: Sink, K: Keeper>(
+fn replay_from<S: Source, O: Sink, K: Keeper, W: Watcher>(
     alloc: Global,
-    core: Core<K>,
+    watched: WatchedCore<K, W>,
     next: NextLine,
     outbox: &mut Outbox,
     reader: &mut LineReader,
@@ -148,25 +156,28 @@ fn replay_from<S: Source, O: Sink, K: Keeper>(
     out: &mut O,
 ) -> Outcome<K>
     requires empty { outbox.old ≡ [] }
-    requires first { core.state.history ≡ [] }
+    requires first { watched.core.state.history ≡ [] }
     ensures late { is_early result.status ≡ false }
     ensures at { result.at ≡ place_of result.status }
     ensures run { (left : Option (List ℕ))
-        → IsAt next left (S.left input.old) core.state.users [] reader.old
-        → IsRun core.state.users core.state.start result.status left (S.left input.new)
+        → IsAt next left (S.left input.old) watched.core.state.users [] reader.old
+        → IsRun watched.core.state.users watched.core.state.start result.status left
+        (S.left input.new)
         result.history (O.written out.old) (O.written out.new) }
-    ensures keeper { KeepsRecords core.state.users core.state.start result.status result.history
-        core.kept.opening (K.records result.keeper) core.kept.before (K.failures result.keeper) }
+    ensures keeper { KeepsRecords watched.core.state.users watched.core.state.start result.status
+        result.history
+        watched.core.kept.opening (K.records result.keeper) watched.core.kept.before
+        (K.failures result.keeper) }
     ensures read_later { S.faults input.old ≤ S.faults input.new }
     ensures read_fault { result.status ≡ Status.ReadFault
         → Rose (S.faults input.old) (S.faults input.new) }
     ensures write_fault { result.status ≡ Status.WriteFault
         → Rose (O.faults out.old) (O.faults out.new) }
 {
-    let mut core = core;
-    let served = serve(alloc, &mut core, outbox, reader, next, input, out);
+    let mut watched = watched;
+    let served = serve(alloc, &mut watched, outbox, reader, next, input, out);
     let status = finish(served, outbox, out);
-    let Finished { history, keeper } = core.finish();
+    let Finished { history, keeper } = watched.finish();
     Outcome {
         status,
         at: status.place(),

@@ -10,7 +10,7 @@ ghost use Rattle.grist_serve.specs.Requests.{line_entries};
 
 use crate::requests::event_in;
 use crate::sending::send_lines;
-use bundle_core::{Core, Event, Given};
+use bundle_core::{Event, Given};
 use cell_types::Name;
 use doc_keeper::Keeper;
 use io_edges::{LineReader, Link, Outbox, SessionEnd, Sink, Source};
@@ -18,6 +18,8 @@ use session_gate::{Gate, Pass};
 use std::alloc::Global;
 use std::sync::Wait;
 use std::thread::Threads;
+use watch_box::Watcher;
+use watched_core::WatchedCore;
 
 /// The two buffers of a link: what came and was not given yet, and what waits to be written.
 #[derive(Drop)]
@@ -27,11 +29,11 @@ pub(crate) struct Buffers {
 }
 
 /// Answers the line that was read last. Says whether that closed the session.
-pub(crate) fn answer<R: Threads + Wait + Sync, K: Keeper, L: Link>(
+pub(crate) fn answer<R: Threads + Wait + Sync, K: Keeper, W: Watcher, L: Link>(
     rt: &R,
     alloc: Global,
-    gate: &Gate<Core<K>>,
-    pass: &mut Pass<Core<K>>,
+    gate: &Gate<WatchedCore<K, W>>,
+    pass: &mut Pass<WatchedCore<K, W>>,
     session: &Name,
     buffers: &mut Buffers,
     link: &mut L,
@@ -58,10 +60,10 @@ pub(crate) fn answer<R: Threads + Wait + Sync, K: Keeper, L: Link>(
 }
 
 // Answers a request.
-fn answer_event<R: Threads + Wait + Sync, K: Keeper, O: Sink>(
+fn answer_event<R: Threads + Wait + Sync, K: Keeper, W: Watcher, O: Sink>(
     rt: &R,
-    gate: &Gate<Core<K>>,
-    pass: &mut Pass<Core<K>>,
+    gate: &Gate<WatchedCore<K, W>>,
+    pass: &mut Pass<WatchedCore<K, W>>,
     event: Event,
     outbox: &mut Outbox,
     out: &mut O,

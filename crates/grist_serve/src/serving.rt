@@ -8,7 +8,7 @@ ghost use Rattle.grist_serve.specs.Link.{DoesNothing, EndsBy, HasFewBytes, IsInn
 ghost use Rattle.grist_serve.specs.Turns.{CorePass};
 
 use crate::answering::{Buffers, answer};
-use bundle_core::{Core, Event};
+use bundle_core::Event;
 use cell_types::Name;
 use doc_keeper::Keeper;
 use doc_model::Request;
@@ -17,17 +17,19 @@ use session_gate::{Gate, Pass};
 use std::alloc::{AllocError, Global};
 use std::sync::Wait;
 use std::thread::Threads;
+use watch_box::Watcher;
+use watched_core::WatchedCore;
 
 /// Serves one connection: answers its lines as requests of the session, and then tells its end.
 ///
 /// It may wait for turns. Memory: what it needs for itself is taken first; where there is none, the
 /// end is `NoMemory`, and nothing was read, asked or written. Whatever the end else is, an open
 /// session is closed by it.
-pub fn serve_link<R: Threads + Wait + Sync, K: Keeper, L: Link>(
+pub fn serve_link<R: Threads + Wait + Sync, K: Keeper, W: Watcher, L: Link>(
     rt: &R,
     alloc: Global,
-    gate: &Gate<Core<K>>,
-    pass: &mut Pass<Core<K>>,
+    gate: &Gate<WatchedCore<K, W>>,
+    pass: &mut Pass<WatchedCore<K, W>>,
     session: &Name,
     link: &mut L,
 ) -> SessionEnd
@@ -75,10 +77,10 @@ fn new_buffers(alloc: Global) -> Result<Buffers, AllocError>
 }
 
 // Tells the core that the connection ended.
-fn tell_gone<R: Threads + Wait + Sync, K: Keeper>(
+fn tell_gone<R: Threads + Wait + Sync, K: Keeper, W: Watcher>(
     rt: &R,
-    gate: &Gate<Core<K>>,
-    pass: &mut Pass<Core<K>>,
+    gate: &Gate<WatchedCore<K, W>>,
+    pass: &mut Pass<WatchedCore<K, W>>,
     session: Name,
 )
     requires { IsPassOf gate.now pass.old }
@@ -95,11 +97,11 @@ fn tell_gone<R: Threads + Wait + Sync, K: Keeper>(
 }
 
 // Answers the lines of a link.
-fn serve_lines<R: Threads + Wait + Sync, K: Keeper, L: Link>(
+fn serve_lines<R: Threads + Wait + Sync, K: Keeper, W: Watcher, L: Link>(
     rt: &R,
     alloc: Global,
-    gate: &Gate<Core<K>>,
-    pass: &mut Pass<Core<K>>,
+    gate: &Gate<WatchedCore<K, W>>,
+    pass: &mut Pass<WatchedCore<K, W>>,
     session: &Name,
     buffers: &mut Buffers,
     link: &mut L,
@@ -126,11 +128,11 @@ fn serve_lines<R: Threads + Wait + Sync, K: Keeper, L: Link>(
 }
 
 // Reads the next line and answers it, or says how the link ends.
-fn take_turn<R: Threads + Wait + Sync, K: Keeper, L: Link>(
+fn take_turn<R: Threads + Wait + Sync, K: Keeper, W: Watcher, L: Link>(
     rt: &R,
     alloc: Global,
-    gate: &Gate<Core<K>>,
-    pass: &mut Pass<Core<K>>,
+    gate: &Gate<WatchedCore<K, W>>,
+    pass: &mut Pass<WatchedCore<K, W>>,
     session: &Name,
     buffers: &mut Buffers,
     link: &mut L,

@@ -40,11 +40,17 @@ abbrev pub asks : List ℕ → Request → Entry
 asks session r = record { session = session; request = r; size = 0; kept = true }
 
 -- the owner's session and the editor's
+abbrev pub first_session : List ℕ
+first_session = codes "s1"
+
+abbrev pub second_session : List ℕ
+second_session = codes "s2"
+
 abbrev pub first_asks : Request → Entry
-first_asks r = asks (codes "s1") r
+first_asks r = asks first_session r
 
 abbrev pub second_asks : Request → Entry
-second_asks r = asks (codes "s2") r
+second_asks r = asks second_session r
 
 abbrev pub bundle : UserAction → Request
 bundle action = Apply (action ∷ [])

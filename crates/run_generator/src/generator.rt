@@ -187,6 +187,7 @@ fn make(alloc: Global, rows: u32, number: u64, stage: Stage) -> Result<Option<Ma
 impl Generator {
     ghost use Rattle.std.specs.Prelude.{◌≡◌, ◌<◌, ◌≤◌, ◌∷◌, [], true, IfOk, IfSome, None, OnErr, MatchOption};
     ghost use Rattle.doc_model.specs.WellFormed.{asks_well_formed};
+    ghost use Rattle.doc_model.specs.declared.request.Request.TheVariants.{Gone};
     ghost use Rattle.run_generator.specs.Script.{script};
     ghost use Rattle.run_generator.specs.Stages.{row_bound};
 
@@ -215,6 +216,8 @@ impl Generator {
         ensures err { OnErr result (self.new ≡ self.old) }
         ensures well_formed { IfOk result (λ o.
             IfSome o (λ e. asks_well_formed e.request ≡ true)) }
+        ensures kept { IfOk result (λ o. IfSome o (λ e. e.kept ≡ true)) }
+        ensures stays { IfOk result (λ o. IfSome o (λ e. e.request ≡ Gone → ⊥)) }
     {
         match make(alloc, self.rows, self.number, self.stage)? {
             Some(

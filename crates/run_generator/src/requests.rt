@@ -2,7 +2,7 @@
 ghost use Rattle.std.specs.Prelude.{◌≡◌, ◌∷◌, [], Some, None, IfOk, codes, pos, true, false};
 ghost use Rattle.doc_model.specs.WellFormed.{asks_well_formed, is_well_formed};
 ghost use Rattle.doc_model.specs.declared.request.Request.TheVariants.{Open, Apply};
-ghost use Rattle.run_generator.specs.Script.{adds_memo_rule, adds_record, adds_resource, adds_rule, adds_table, bundle, column, data_column, first_asks, formula_column, second_asks, text_column};
+ghost use Rattle.run_generator.specs.Script.{adds_memo_rule, adds_record, adds_resource, adds_rule, adds_table, bundle, column, data_column, first_asks, first_session, formula_column, second_asks, second_session, text_column};
 
 use cell_types::{CellText, CellValue, Name, ValueList};
 use doc_model::{
@@ -21,20 +21,32 @@ fn asked(session: Name, request: Request) -> Entry
     }
 }
 
+/// The owner's session.
+pub fn first_session(alloc: Global) -> Result<Name, AllocError>
+    ensures { IfOk result (λ n. n ≡ first_session) }
+{
+    Ok(Name::new(CellText::copy_of(alloc, "s1")?))
+}
+
+/// The editor's session.
+pub fn second_session(alloc: Global) -> Result<Name, AllocError>
+    ensures { IfOk result (λ n. n ≡ second_session) }
+{
+    Ok(Name::new(CellText::copy_of(alloc, "s2")?))
+}
+
 /// The owner's session asks for that.
 pub(crate) fn first_asks(alloc: Global, request: Request) -> Result<Entry, AllocError>
     ensures { IfOk result (λ e. e ≡ first_asks request) }
 {
-    let session = Name::new(CellText::copy_of(alloc, "s1")?);
-    Ok(asked(session, request))
+    Ok(asked(first_session(alloc)?, request))
 }
 
 /// The editor's session asks for that.
 pub(crate) fn second_asks(alloc: Global, request: Request) -> Result<Entry, AllocError>
     ensures { IfOk result (λ e. e ≡ second_asks request) }
 {
-    let session = Name::new(CellText::copy_of(alloc, "s2")?);
-    Ok(asked(session, request))
+    Ok(asked(second_session(alloc)?, request))
 }
 
 /// The document is asked for by a token.

@@ -1,4 +1,5 @@
+mod OptionLemmas
+pub mod SaidOptions
 pub mod ClapLemmas
-mod ServeLemmas
 pub mod ReplayLemmas
-mod LaneLemmas
+mod CommandLemmas

@@ -2,24 +2,24 @@
 use Rattle.std.proofs.Common.{◌≡◌, ℕ, Bool, true, false, cond, codes, List, [], ◌∷◌, Option, Some, None, option_map, refl, sym, ap, subst, ◌∙◌, bytes_eq}
 use Rattle.std.specs.Prelude.{is_some, nat_le, ◌+◌, option_and_then, if◌then◌else◌}
 use Rattle.std.proofs.lemmas.Slice.Eq.{bytes_eq-Decides}
-use Rattle.cell_types.specs.NameRule.{is_name}
 use Rattle.run_words.specs.declared.plans.Plan.{Plan}
-use Rattle.run_words.specs.declared.plans.Plan.TheVariants.{Gen, Replay, Serve}
-use Rattle.run_words.specs.ServeWords.{complete, nothing_found, number_up_to, options_in, serve_of}
-use Rattle.run_words.specs.Words.{doc_text, gen_of, is_replay, plan_of, replay_in, replay_of, replay_over}
+use Rattle.run_words.specs.declared.plans.Plan.TheVariants.{Gen, Serve}
+use Rattle.run_words.specs.Options.{Found, nothing_found, number_up_to, options_in}
+use Rattle.run_words.specs.ServeWords.{complete, serve_of}
+use Rattle.run_words.specs.Words.{gen_of, is_replay, plan_of, replay_in, replay_of, replay_with}
 
 none_then : {A : Type 0} (next : A → Option Plan) → ((a : A) → is_replay (next a) ≡ false) → (o : Option A) → is_replay (option_and_then next o) ≡ false
 none_then next none None = refl
 none_then next none (Some a) = none a
 
-none_either : (b : Bool) (lanes port conns : ℕ) (doc : Option (List ℕ)) → is_replay (if b then Some (Serve lanes port conns doc None) else None) ≡ false
-none_either true lanes port conns doc = refl
-none_either false lanes port conns doc = refl
+none_either : (b : Bool) (lanes port conns : ℕ) (doc watch : Option (List ℕ)) → is_replay (if b then Some (Serve lanes port conns doc watch) else None) ≡ false
+none_either true lanes port conns doc watch = refl
+none_either false lanes port conns doc watch = refl
 
 -- a server is no replay
 server_apart : (options : List (List ℕ)) → is_replay (serve_of options) ≡ false
 server_apart options =
-    none_then complete (λ f. none_then _ (λ lanes. none_then _ (λ port. none_then _ (λ conns. none_either (nat_le (port + lanes) 65536) lanes port conns f.doc) f.conns) f.port) f.lanes) (options_in nothing_found options)
+    none_then complete (λ f. none_then _ (λ lanes. none_then _ (λ port. none_then _ (λ conns. none_either (nat_le (port + lanes) 65536) lanes port conns f.doc f.watch) f.conns) f.port) f.lanes) (options_in true nothing_found options)
 
 none_mapped : (o : Option ℕ) → is_replay (option_map Gen o) ≡ false
 none_mapped None = refl
@@ -31,17 +31,12 @@ generated_apart [] = refl
 generated_apart (text ∷ []) = none_mapped (number_up_to 20000 text)
 generated_apart (text ∷ word ∷ more) = refl
 
-named : (b : Bool) (text : List ℕ) → is_replay (if b then Some (Replay (Some text) None) else None) ≡ is_some (if b then Some (Replay (Some text) None) else None)
-named true text = refl
-named false text = refl
-
-over : (o : Option (List ℕ)) → is_replay (option_and_then replay_over o) ≡ is_some (option_and_then replay_over o)
-over None = refl
-over (Some text) = named (is_name text) text
+said : (o : Option Found) → is_replay (option_map replay_with o) ≡ is_some (option_map replay_with o)
+said None = refl
+said (Some f) = refl
 
 behind_command : (options : List (List ℕ)) → is_replay (replay_of options) ≡ is_some (replay_of options)
-behind_command [] = refl
-behind_command (word ∷ more) = over (doc_text (word ∷ more))
+behind_command options = said (options_in false nothing_found options)
 
 alone : (b : Bool) (o : Option Plan) → is_replay o ≡ is_some o → is_replay (cond b o None) ≡ is_some (cond b o None)
 alone true o same = same

@@ -11,7 +11,8 @@ abbrev pub option_rule : List ℕ → Rule
 option_rule name = record (new_rule name) { long = Some name; action = Some Set }
 
 abbrev pub replay_app : App
-replay_app = with_rule (new_app (codes "replay")) (option_rule (codes "doc"))
+replay_app = with_rule (with_rule (new_app (codes "replay")) (option_rule (codes "doc")))
+    (option_rule (codes "watch"))
 
 -- no word stands before the command, and clap adds none of its own
 abbrev pub bare_app : App
@@ -26,12 +27,18 @@ bare_app = on_top (λ s. record s {
 abbrev pub words_app : App
 words_app = with_subcommand bare_app replay_app.top
 
--- the value of the option `--doc`, of a command and its rows
-abbrev pub found_doc : Option (List ℕ × List Row) → Option (List ℕ)
-found_doc = option_and_then (λ p. first_of (codes "doc") p.1)
+-- the value of an option, of a command and its rows
+abbrev pub found_in : List ℕ → Option (List ℕ × List Row) → Option (List ℕ)
+found_in name = option_and_then (λ p. first_of name p.1)
 
 -- the document that a plan names
 abbrev pub doc_of : Plan → Option (List ℕ)
 doc_of (Replay doc watch) = doc
 doc_of (Serve lanes port conns doc watch) = doc
 doc_of (Gen n) = None
+
+-- the watched session that a plan names
+abbrev pub watch_of : Plan → Option (List ℕ)
+watch_of (Replay doc watch) = watch
+watch_of (Serve lanes port conns doc watch) = watch
+watch_of (Gen n) = None

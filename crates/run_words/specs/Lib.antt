@@ -1,4 +1,5 @@
+pub mod Options
 pub mod ServeWords
-pub mod ServeViews
+pub mod OptionViews
 pub mod Words
 pub mod Clap

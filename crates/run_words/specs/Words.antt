@@ -1,33 +1,20 @@
 -- What the words of a command line ask for.
-use Rattle.std.specs.Prelude.{ℕ, Bool, true, false, List, [], ◌∷◌, codes, length, take, drop, Option, Some, None, option_and_then, option_map, if◌then◌else◌}
+use Rattle.std.specs.Prelude.{ℕ, Bool, true, false, List, [], ◌∷◌, codes, Option, Some, None, option_map, if◌then◌else◌}
 use Rattle.std.specs.Str.{bytes_eq}
-use Rattle.cell_types.specs.NameRule.{is_name}
 use Rattle.run_words.specs.declared.plans.Plan.{Plan}
 use Rattle.run_words.specs.declared.plans.Plan.TheVariants.{Gen, Replay, Serve}
-use Rattle.run_words.specs.ServeWords.{number_up_to, serve_of}
+use Rattle.run_words.specs.Options.{Found, nothing_found, number_up_to, options_in}
+use Rattle.run_words.specs.ServeWords.{serve_of}
 
--- what stands behind a front, where the text begins with it
-abbrev pub behind : List ℕ → List ℕ → Option (List ℕ)
-behind front text =
-    if bytes_eq (take (length front) text) front then Some (drop (length front) text) else None
-
--- the text that names a document: `--doc NAME` or `--doc=NAME`
-abbrev pub doc_text : List (List ℕ) → Option (List ℕ)
-doc_text [] = None
-doc_text (word ∷ []) = behind (codes "--doc=") word
-doc_text (word ∷ text ∷ []) = if bytes_eq word (codes "--doc") then Some text else None
-doc_text (word ∷ text ∷ one ∷ more) = None
-
--- a replay over the document of that name
-abbrev pub replay_over : List ℕ → Option Plan
-replay_over text = if is_name text then Some (Replay (Some text) None) else None
+-- a replay over the document and with the watched session that options name
+abbrev pub replay_with : Found → Plan
+replay_with f = Replay f.doc f.watch
 
 -- what `replay` asks for with these words behind it
 abbrev pub replay_of : List (List ℕ) → Option Plan
-replay_of [] = Some (Replay None None)
-replay_of (word ∷ more) = option_and_then replay_over (doc_text (word ∷ more))
+replay_of options = option_map replay_with (options_in false nothing_found options)
 
--- what words ask for that are of the form replay [--doc NAME]
+-- what words ask for that are of the form replay [--doc NAME] [--watch NAME]
 abbrev pub replay_in : List (List ℕ) → Option Plan
 replay_in [] = None
 replay_in (word ∷ options) = if bytes_eq word (codes "replay") then replay_of options else None
@@ -60,3 +47,10 @@ lanes_of None = None
 lanes_of (Some (Replay doc watch)) = None
 lanes_of (Some (Serve lanes port conns doc watch)) = Some lanes
 lanes_of (Some (Gen n)) = None
+
+-- of how many rows a script is asked for, where one is
+abbrev pub rows_of : Option Plan → Option ℕ
+rows_of None = None
+rows_of (Some (Replay doc watch)) = None
+rows_of (Some (Serve lanes port conns doc watch)) = None
+rows_of (Some (Gen n)) = Some n

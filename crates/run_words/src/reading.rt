@@ -6,22 +6,19 @@ ghost use Rattle.clap.specs.Walk.{rule_of};
 ghost use Rattle.clap.specs.Words.{kind_of, subcommand_rows_of};
 ghost use Rattle.clap.specs.declared.builder.command.Command.TheViews.{out-Command as fields_of};
 ghost use Rattle.clap.specs.declared.error.kind.ErrorKind.TheVariants.{OutOfMemory};
-ghost use Rattle.run_words.specs.Clap.{doc_of, found_doc, option_rule, replay_app, words_app};
-ghost use Rattle.run_words.specs.ServeViews.{HasFewLanes};
+ghost use Rattle.run_words.specs.Clap.{doc_of, found_in, option_rule, replay_app, watch_of, words_app};
+ghost use Rattle.run_words.specs.OptionViews.{HasFewLanes};
 ghost use Rattle.run_words.specs.ServeWords.{serve_of};
 ghost use Rattle.run_words.specs.Words.{gen_of, plan_of, replay_in};
 ghost use Rattle.run_words.specs.declared.plans.PlanFault.TheVariants.{Usage};
 
-use crate::form::is_replay_form;
+use crate::form::{is_replay_form, rows_behind};
 use crate::plans::{Plan, PlanFault};
-use crate::serve_form::{number_up_to, serve_words};
+use crate::serve_form::serve_words;
 use cell_types::Name;
 use clap::{Arg, ArgAction, ArgMatches, Command, Error};
 use name_rules::name_of;
 use std::alloc::{AllocError, Global};
-
-/// How many rows a generated script may have.
-const MAX_ROWS: u32 = 20_000;
 
 fn option<'a>(alloc: Global, name: &'a str) -> Arg<'a>
     ensures rule { rule_of result ≡ option_rule name.entry.now }
@@ -34,7 +31,9 @@ fn replay<'a>(alloc: Global) -> Result<Command<'a>, AllocError>
     ensures app { IfOk result (λ c. app_of c ≡ replay_app) }
     ensures local { IfOk result (λ c. (fields_of c).has_globals ≡ false) }
 {
-    Command::new(alloc, "replay").arg(option(alloc, "doc"))
+    Command::new(alloc, "replay")
+        .arg(option(alloc, "doc"))?
+        .arg(option(alloc, "watch"))
 }
 
 fn command<'a>(alloc: Global) -> Result<Command<'a>, AllocError>
@@ -52,20 +51,23 @@ fn command<'a>(alloc: Global) -> Result<Command<'a>, AllocError>
 // What clap finds in words that are of a form. It refuses none of them.
 fn matched<'a>(alloc: Global, words: &'a [String]) -> Result<ArgMatches<'a>, Error>
     requires form { is_some (replay_in (map string_bytes words.now)) ≡ true }
-    ensures doc { IfOk result (λ m. found_doc (subcommand_rows_of m)
+    ensures doc { IfOk result (λ m. found_in (codes "doc") (subcommand_rows_of m)
         ≡ option_and_then doc_of (replay_in (map string_bytes words.entry.now))) }
+    ensures watch { IfOk result (λ m. found_in (codes "watch") (subcommand_rows_of m)
+        ≡ option_and_then watch_of (replay_in (map string_bytes words.entry.now))) }
     ensures err { IfErr result (λ e. kind_of e ≡ OutOfMemory) }
 {
     let command = command(alloc)?;
     command.try_get_matches_from(words)
 }
 
-// The value of `--doc`.
-fn doc_in<'a>(matches: &ArgMatches<'a>) -> Option<&'a str>
-    ensures { option_map (λ s. s.now) result ≡ found_doc (subcommand_rows_of matches.now) }
+// The value of an option.
+fn value_in<'a>(matches: &ArgMatches<'a>, name: &str) -> Option<&'a str>
+    ensures { option_map (λ s. s.now) result
+        ≡ found_in name.now (subcommand_rows_of matches.now) }
 {
     match matches.subcommand() {
-        Some((_, options)) => options.get_str("doc"),
+        Some((_, options)) => options.get_str(name),
         None => None,
     }
 }
@@ -92,10 +94,13 @@ fn replay_plan(alloc: Global, words: &[String]) -> Result<Plan, PlanFault>
     let Ok(matches) = matched(alloc, words) else {
         return Err(PlanFault::NoMemory);
     };
-    let Ok(doc) = named(alloc, doc_in(&matches)) else {
+    let Ok(doc) = named(alloc, value_in(&matches, "doc")) else {
         return Err(PlanFault::NoMemory);
     };
-    Ok(Plan::Replay { doc, watch: None })
+    let Ok(watch) = named(alloc, value_in(&matches, "watch")) else {
+        return Err(PlanFault::NoMemory);
+    };
+    Ok(Plan::Replay { doc, watch })
 }
 
 // What the words behind `serve` ask for.
@@ -110,12 +115,15 @@ fn serve_plan(alloc: Global, options: &[String]) -> Result<Plan, PlanFault>
     let Ok(doc) = named(alloc, words.doc) else {
         return Err(PlanFault::NoMemory);
     };
+    let Ok(watch) = named(alloc, words.watch) else {
+        return Err(PlanFault::NoMemory);
+    };
     Ok(Plan::Serve {
         lanes: words.lanes,
         port: words.port,
         conns: words.conns,
         doc,
-        watch: None,
+        watch,
     })
 }
 
@@ -124,10 +132,7 @@ fn gen_plan(options: &[String]) -> Result<Plan, PlanFault>
     ensures ok { IfOk result (λ p. gen_of (map string_bytes options.now) ≡ Some p) }
     ensures usage { (result ≡ Err Usage) ↔ (gen_of (map string_bytes options.now) ≡ None) }
 {
-    let [text] = options else {
-        return Err(PlanFault::Usage);
-    };
-    match number_up_to(MAX_ROWS, text.as_str()) {
+    match rows_behind(options) {
         Some(n) => Ok(Plan::Gen { n }),
         None => Err(PlanFault::Usage),
     }

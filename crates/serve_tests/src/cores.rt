@@ -10,6 +10,8 @@ use doc_model::UserList;
 use grist_json::{UserLine, read_user};
 use session_gate::{Gate, NoGate, PassList};
 use std::alloc::{AllocError, Global};
+use watch_box::SureWatcher;
+use watched_core::WatchedCore;
 
 const USER: &str = r#"{"user":{"access":"editors","email":"e","id":2,"name":"Ed","token":"te"}}"#;
 
@@ -29,12 +31,15 @@ fn users(alloc: Global) -> Result<UserList, AllocError> {
     }
 }
 
-/// A core over the new document.
-pub(crate) fn new_core(alloc: Global) -> Result<Core<SureKeeper>, AllocError>
-    ensures { IfOk result (λ c. c.state.history ≡ []) }
+/// A core whose watchers, where it has some, never fail.
+pub(crate) type TestCore = WatchedCore<SureKeeper, SureWatcher>;
+
+/// A core over the new document, without watchers.
+pub(crate) fn new_core(alloc: Global) -> Result<TestCore, AllocError>
+    ensures { IfOk result (λ c. c.core.state.history ≡ []) }
 {
     match Core::start(alloc, users(alloc)?, SureKeeper::new(alloc)) {
-        Ok(core) => Ok(core),
+        Ok(core) => Ok(WatchedCore::new(alloc, core)),
         Err(_) => Err(AllocError),
     }
 }
@@ -42,9 +47,9 @@ pub(crate) fn new_core(alloc: Global) -> Result<Core<SureKeeper>, AllocError>
 /// A gate round a core.
 pub(crate) fn gate_round(
     alloc: Global,
-    core: Core<SureKeeper>,
+    core: TestCore,
     passes: u32,
-) -> Result<(Gate<Core<SureKeeper>>, PassList<Core<SureKeeper>>), AllocError>
+) -> Result<(Gate<TestCore>, PassList<TestCore>), AllocError>
     requires { (0 < passes) × (passes ≤ 64) }
     ensures own { IfOk result (λ r. All (IsPassOf r.0) r.1) }
 {
@@ -58,7 +63,7 @@ pub(crate) fn gate_round(
 pub(crate) fn new_gate(
     alloc: Global,
     passes: u32,
-) -> Result<(Gate<Core<SureKeeper>>, PassList<Core<SureKeeper>>), AllocError>
+) -> Result<(Gate<TestCore>, PassList<TestCore>), AllocError>
     requires { (0 < passes) × (passes ≤ 64) }
     ensures own { IfOk result (λ r. All (IsPassOf r.0) r.1) }
 {

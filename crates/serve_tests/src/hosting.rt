@@ -3,16 +3,19 @@
 //! counts two bundles, two connections and the entries of both; words for three lanes serve
 //! nobody.
 
+ghost use Rattle.std.specs.Prelude.{◌≡◌, vec_len};
+
 use crate::lanes::two_ports;
 use crate::links::{CASES, coming};
 use doc_keeper::SureKeeper;
 use grist_hosting::run;
-use grist_run::Status;
+use grist_run::{Status, WatchedSession};
 use io_edges::{MemSink, MemSource};
 use std::alloc::{AllocError, Global};
 use std::sync::Wait;
 use std::test::Fail;
 use std::thread::Threads;
+use watch_box::SureWatcher;
 
 const USERS: &str = r#"{"user":{"access":"editors","email":"e","id":2,"name":"Ed","token":"te"}}"#;
 
@@ -27,6 +30,12 @@ fn words_for(alloc: Global, lanes: &str) -> Result<Vec<String>, AllocError> {
     }
     words.push(String::from_str(alloc, lanes)?)?;
     Ok(words)
+}
+
+fn no_watchers(alloc: Global) -> Vec<WatchedSession<SureWatcher>>
+    ensures { vec_len result ≡ 0 }
+{
+    Vec::new(alloc)
 }
 
 // How a server of two ports ends with words for so many lanes, and what it writes.
@@ -51,6 +60,7 @@ fn hosted<R: Threads + Wait + Sync>(
         &mut out,
         keeper,
         &mut ports,
+        no_watchers(alloc),
     );
     Ok((outcome.status, Vec::from_slice(alloc, out.bytes())?))
 }

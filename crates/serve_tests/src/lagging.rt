@@ -2,13 +2,16 @@
 //! 4,096 lines waiting, and one more was due. Its link is then given these lines and that it lags,
 //! and ends; what stands behind in it is not answered (`a_session_that_lags_is_closed`).
 
-use crate::cores::{gate_round, name_of, new_core};
-use bundle_core::{Answer, Core};
+ghost use Rattle.std.specs.Prelude.{IfOk};
+ghost use Rattle.session_gate.specs.Gate.{IsPassOf};
+
+use crate::cores::{TestCore, gate_round, name_of, new_core};
+use bundle_core::Answer;
 use cell_types::CellText;
-use doc_keeper::SureKeeper;
 use doc_model::Request;
 use grist_serve::serve_link;
 use io_edges::{MemLink, MemSink, MemSource, SessionEnd};
+use session_gate::{Gate, Pass};
 use std::alloc::{AllocError, Global};
 use std::sync::Wait;
 use std::test::Fail;
@@ -27,7 +30,7 @@ const LAST_LINE: &str = r#"{"error":{"code":21,"name":"Lagged"}}
 "#;
 
 // A core in which the session `slow` is open.
-fn watched_core(alloc: Global) -> Result<Core<SureKeeper>, AllocError> {
+fn slow_core(alloc: Global) -> Result<TestCore, AllocError> {
     let mut core = new_core(alloc)?;
     let token = CellText::copy_of(alloc, "te")?;
     match core.step(&name_of(alloc, "slow")?, Request::Open { token }, 0)? {
@@ -51,16 +54,24 @@ fn wide_link(alloc: Global, bytes: Vec<u8>) -> Result<MemLink, AllocError> {
     Ok(MemLink::new(MemSource::new(bytes, Vec::new(alloc)), sink))
 }
 
+// A gate round such a core, and its one pass.
+fn slow_gate(alloc: Global) -> Result<(Gate<TestCore>, Pass<TestCore>), AllocError>
+    ensures { IfOk result (λ r. IsPassOf r.0 r.1) }
+{
+    let (gate, passes) = gate_round(alloc, slow_core(alloc)?, 1)?;
+    let mut passes = passes.into_vec();
+    match passes.pop() {
+        Some(pass) => Ok((gate, pass)),
+        None => Err(AllocError),
+    }
+}
+
 // How the link of the session `slow` ends after the changes of another, with what it was written.
 fn slow_link<R: Threads + Wait + Sync>(
     rt: &R,
     alloc: Global,
 ) -> Result<(SessionEnd, MemLink), AllocError> {
-    let (gate, passes) = gate_round(alloc, watched_core(alloc)?, 1)?;
-    let mut passes = passes.into_vec();
-    let Some(mut pass) = passes.pop() else {
-        return Err(AllocError);
-    };
+    let (gate, mut pass) = slow_gate(alloc)?;
     let mut busy = wide_link(alloc, many_changes(alloc)?)?;
     let busy_name = name_of(alloc, "busy")?;
     let _end = serve_link(rt, alloc, &gate, &mut pass, &busy_name, &mut busy);

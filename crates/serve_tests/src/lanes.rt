@@ -56,11 +56,16 @@ fn lanes_over<R: Threads + Wait + Sync>(
     let second = coming(alloc, CASES[0].script)?;
     let mut ports = two_ports(alloc, first, second)?;
     match serve_lanes(rt, alloc, new_core(alloc)?, &mut ports) {
-        Ok(Served { core, connections }) => Ok((
+        Ok(
+            Served {
+                watched,
+                connections,
+            },
+        ) => Ok((
             connections == 2 && ports.iter().all(|port| was_served(port, want.as_slice())),
-            core.history().len(),
+            watched.history().len(),
         )),
-        Err(NoServe { core: _ }) => Err(AllocError),
+        Err(NoServe { watched: _ }) => Err(AllocError),
     }
 }
 

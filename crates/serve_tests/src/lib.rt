@@ -21,4 +21,6 @@ mod lanes;
 #[cfg(test)]
 mod links;
 #[cfg(test)]
+mod meeting;
+#[cfg(test)]
 mod threads;

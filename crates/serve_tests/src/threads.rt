@@ -6,10 +6,9 @@
 ghost use Rattle.std.specs.Prelude.{◌≡◌, true, IfOk};
 ghost use Rattle.doc_model.specs.WellFormed.{asks_well_formed};
 
-use crate::cores::new_core;
+use crate::cores::{TestCore, new_core};
 use crate::lanes::two_ports;
-use bundle_core::{Answer, Core};
-use doc_keeper::SureKeeper;
+use bundle_core::Answer;
 use doc_model::{Entry, EntryList, Request};
 use grist_json::read_request;
 use grist_lanes::{NoServe, Served, serve_lanes};
@@ -46,14 +45,14 @@ fn served_by_two<R: Threads + Wait + Sync>(rt: &R, alloc: Global) -> Result<Shar
     match serve_lanes(rt, alloc, new_core(alloc)?, &mut ports) {
         Ok(
             Served {
-                core,
+                watched,
                 connections: _,
             },
         ) => Ok(Shared {
             ports,
-            history: core.finish().history,
+            history: watched.finish().history,
         }),
-        Err(NoServe { core: _ }) => Err(AllocError),
+        Err(NoServe { watched: _ }) => Err(AllocError),
     }
 }
 
@@ -92,7 +91,7 @@ impl Alone {
     fn step(
         &mut self,
         alloc: Global,
-        core: &mut Core<SureKeeper>,
+        core: &mut TestCore,
         entry: &Entry,
     ) -> Result<(), AllocError> {
         let request = next_request(alloc, &mut self.lines)?;

@@ -1,2 +1,2 @@
-mod TellingLemmas
+pub mod TellingLemmas
 mod NumberLemmas

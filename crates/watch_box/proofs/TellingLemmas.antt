@@ -1,11 +1,11 @@
--- A line told to the watchers of a list, one after the other.
-use Rattle.std.proofs.Common.{◌≡◌, inl, inr, arith, ℕ, ◌+◌, ◌<◌, List, [], ◌∷◌, ◌++◌, sym, ap, subst, refl, ◌∙◌, append_assoc, append-nil, length}
+-- Lines told to the watchers of a list, one after the other.
+use Rattle.std.proofs.Common.{◌≡◌, inl, inr, arith, ℕ, ◌+◌, ◌<◌, List, [], ◌∷◌, ◌++◌, sym, ap, subst, refl, ◌∙◌, append_assoc, append-nil, length, Option}
 use Rattle.std.proofs.lemmas.List.{length-append}
 use Rattle.watch_box.specs.Watching.{WatcherState, Stays, IsDropped, Tells}
 
-module _ (session line : List ℕ) where
-  Tells-append : (old new old_more new_more : List WatcherState) → Tells session line old new → Tells session line old_more new_more → Tells session line (old ++ old_more) (new ++ new_more)
-  Tells-append [] new old_more new_more a b = subst (λ z. Tells session line old_more (z ++ new_more)) (sym a) b
+module _ (line_of : List ℕ → Option (List ℕ)) where
+  Tells-append : (old new old_more new_more : List WatcherState) → Tells line_of old new → Tells line_of old_more new_more → Tells line_of (old ++ old_more) (new ++ new_more)
+  Tells-append [] new old_more new_more a b = subst (λ z. Tells line_of old_more (z ++ new_more)) (sym a) b
   Tells-append (w ∷ ws) new old_more new_more (inl (now, rest, is, stays, more)) b =
       inl (now, rest ++ new_more, ap (λ z. z ++ new_more) is, stays, Tells-append ws rest old_more new_more more b)
   Tells-append (w ∷ ws) new old_more new_more (inr (dropped, more)) b =
@@ -19,18 +19,21 @@ module _ (session line : List ℕ) where
     pub before : all ≡ told ++ back
     pub after : current ≡ now ++ back
     pub here : length now ≡ place
-    pub tells : Tells session line told now
+    pub tells : Tells line_of told now
+
+  pub told_none_yet : (all : List WatcherState) → ToldUpTo all all 0
+  told_none_yet all = record { told = []; now = []; back = all; before = refl; after = refl; here = refl; tells = refl }
 
   module _ (all current new : List WatcherState) (place : ℕ) where
     -- nothing is behind the place
     ends : (t : ToldUpTo all current place) → t.back ≡ [] → length current ≡ place
     ends t e = ap length (t.after ∙ ap (λ b. t.now ++ b) e ∙ append-nil t.now) ∙ t.here
 
-    pub told_stays : ToldUpTo all current place → place < length current → ((front back : List WatcherState) (w : WatcherState) → current ≡ front ++ w ∷ back → length front ≡ place → (now : WatcherState) × Stays session line w now × (new ≡ front ++ now ∷ back)) → ToldUpTo all new (place + 1)
+    pub told_stays : ToldUpTo all current place → place < length current → ((told front back : List WatcherState) (w : WatcherState) → all ≡ told ++ w ∷ back → current ≡ front ++ w ∷ back → length front ≡ place → (now : WatcherState) × Stays (line_of w.session) w now × (new ≡ front ++ now ∷ back)) → ToldUpTo all new (place + 1)
     told_stays t inside stays = elim t.back as (λ b. t.back ≡ b → ToldUpTo all new (place + 1)) [
       | [] ↦ λ e. let l : length current ≡ place = ends t e in absurd (omega arith)
       | w ∷ back ↦ λ e.
-          let s = stays t.now back w (t.after ∙ ap (λ b. t.now ++ b) e) t.here in
+          let s = stays t.told t.now back w (t.before ∙ ap (λ b. t.told ++ b) e) (t.after ∙ ap (λ b. t.now ++ b) e) t.here in
           record {
             told = t.told ++ w ∷ [];
             now = t.now ++ s.0 ∷ [];
@@ -42,11 +45,11 @@ module _ (session line : List ℕ) where
           }
     ] refl
 
-    pub told_drops : ToldUpTo all current place → place < length current → ((front back : List WatcherState) (w : WatcherState) → current ≡ front ++ w ∷ back → length front ≡ place → IsDropped session line w × (new ≡ front ++ back)) → ToldUpTo all new place
+    pub told_drops : ToldUpTo all current place → place < length current → ((told front back : List WatcherState) (w : WatcherState) → all ≡ told ++ w ∷ back → current ≡ front ++ w ∷ back → length front ≡ place → IsDropped (line_of w.session) w × (new ≡ front ++ back)) → ToldUpTo all new place
     told_drops t inside drops = elim t.back as (λ b. t.back ≡ b → ToldUpTo all new place) [
       | [] ↦ λ e. let l : length current ≡ place = ends t e in absurd (omega arith)
       | w ∷ back ↦ λ e.
-          let s = drops t.now back w (t.after ∙ ap (λ b. t.now ++ b) e) t.here in
+          let s = drops t.told t.now back w (t.before ∙ ap (λ b. t.told ++ b) e) (t.after ∙ ap (λ b. t.now ++ b) e) t.here in
           record {
             told = t.told ++ w ∷ [];
             now = t.now ++ [];
@@ -58,11 +61,11 @@ module _ (session line : List ℕ) where
           }
     ] refl
 
-    told_none : (t : ToldUpTo all current place) → t.back ≡ [] → Tells session line all current
+    told_none : (t : ToldUpTo all current place) → t.back ≡ [] → Tells line_of all current
     told_none t e =
         let p : all ≡ t.told = t.before ∙ ap (λ b. t.told ++ b) e ∙ append-nil t.told in
         let q : current ≡ t.now = t.after ∙ ap (λ b. t.now ++ b) e ∙ append-nil t.now in
-        subst (λ a. Tells session line a current) (sym p) (subst (λ n. Tells session line t.told n) (sym q) t.tells)
+        subst (λ a. Tells line_of a current) (sym p) (subst (λ n. Tells line_of t.told n) (sym q) t.tells)
 
     told_some : (t : ToldUpTo all current place) (w : WatcherState) (back : List WatcherState) → t.back ≡ w ∷ back → place < length current
     told_some t w back e =
@@ -70,8 +73,8 @@ module _ (session line : List ℕ) where
         let h : length t.now ≡ place = t.here in
         omega arith
 
-    pub told_all : ToldUpTo all current place → (place < length current → ⊥) → Tells session line all current
-    told_all t outside = elim t.back as (λ b. t.back ≡ b → Tells session line all current) [
+    pub told_all : ToldUpTo all current place → (place < length current → ⊥) → Tells line_of all current
+    told_all t outside = elim t.back as (λ b. t.back ≡ b → Tells line_of all current) [
       | [] ↦ λ e. told_none t e
       | w ∷ back ↦ λ e. absurd (outside (told_some t w back e))
     ] refl

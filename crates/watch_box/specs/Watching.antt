@@ -1,5 +1,5 @@
 -- A list of watchers, and what a line does to it.
-use Rattle.std.specs.Prelude.{◌≡◌, ◌⊎◌, ℕ, ◌≤◌, true, false, List, [], ◌∷◌, ◌++◌, Bool, length, Option, option_map, IfSome, nat_eq, if◌then◌else◌}
+use Rattle.std.specs.Prelude.{◌≡◌, ◌⊎◌, ℕ, ◌≤◌, List, [], ◌∷◌, ◌++◌, Bool, length, Option, Some, None, option_map, IfSome, nat_eq, if◌then◌else◌}
 use Rattle.std.specs.Str.{bytes_eq}
 
 -- what a watcher tells: the lines that it took, from which length on it refuses the next one, and
@@ -26,27 +26,28 @@ pub record TookLine (line : List ℕ) (old new : WatcherState) : Type 0 where
 abbrev pub RefusedLine : List ℕ → WatcherState → Type 0
 RefusedLine line w = IfSome w.telling.refused_from (λ n. n ≤ length line)
 
--- whether it is of that session
-abbrev pub is_of : List ℕ → WatcherState → Bool
-is_of session w = bytes_eq w.session session
+-- it stays: no line was told to it and it is as it was, or it took the line
+abbrev pub Stays : Option (List ℕ) → WatcherState → WatcherState → Type 0
+Stays None old new = new ≡ old
+Stays (Some line) old new = TookLine line old new
 
--- it stays: it is of another session and as it was, or it took the line
-abbrev pub Stays : List ℕ → List ℕ → WatcherState → WatcherState → Type 0
-Stays session line old new =
-    ((is_of session old ≡ false) × (new ≡ old))
-    ⊎ ((is_of session old ≡ true) × TookLine line old new)
+-- it is dropped: it refused the line that was told to it
+abbrev pub IsDropped : Option (List ℕ) → WatcherState → Type 0
+IsDropped None w = ⊥
+IsDropped (Some line) w = RefusedLine line w
 
--- it is dropped: it is of the session, and refused the line
-abbrev pub IsDropped : List ℕ → List ℕ → WatcherState → Type 0
-IsDropped session line w = (is_of session w ≡ true) × RefusedLine line w
-
--- a line of a session was told: of the watchers before, each stays or is dropped, in their order
-abbrev pub Tells : List ℕ → List ℕ → List WatcherState → List WatcherState → Type 0
-Tells session line [] new = new ≡ []
-Tells session line (w ∷ ws) new =
+-- each watcher was told the line of its session, where there is one: of the watchers before, each
+-- stays or is dropped, in their order
+abbrev pub Tells : (List ℕ → Option (List ℕ)) → List WatcherState → List WatcherState → Type 0
+Tells line_of [] new = new ≡ []
+Tells line_of (w ∷ ws) new =
     ((now : WatcherState) × (rest : List WatcherState) × (new ≡ now ∷ rest)
-    × Stays session line w now × Tells session line ws rest)
-    ⊎ (IsDropped session line w × Tells session line ws new)
+    × Stays (line_of w.session) w now × Tells line_of ws rest)
+    ⊎ (IsDropped (line_of w.session) w × Tells line_of ws new)
+
+-- a line of one session, and none of others
+abbrev pub line_for : List ℕ → List ℕ → List ℕ → Option (List ℕ)
+line_for session line other = if bytes_eq other session then Some line else None
 
 -- whether it has that number
 abbrev pub has_number : ℕ → WatcherState → Bool

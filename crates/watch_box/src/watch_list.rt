@@ -3,7 +3,7 @@ ghost use Rattle.std.specs.Prelude.{◌≡◌, ◌<◌, ◌+◌, ◌++◌, [], �
 ghost use Rattle.std.specs.List.{find, position};
 ghost use Rattle.io_edges.specs.Causes.{HasCause};
 ghost use Rattle.watch_box.specs.Taking.{Takes, RefusesFrom};
-ghost use Rattle.watch_box.specs.Watching.{WatcherState, Stays, IsDropped, Tells, TookLine, RefusedLine, has_number, without};
+ghost use Rattle.watch_box.specs.Watching.{WatcherState, Stays, IsDropped, Tells, TookLine, RefusedLine, has_number, line_for, without};
 
 use crate::watcher::Watcher;
 use cell_types::Name;
@@ -61,40 +61,12 @@ fn place_of<W: Watcher>(watched: &[Watched<W>], number: u32) -> Option<usize>
     watched.iter().position(|one| one.number == number)
 }
 
-// Gives a watcher the line, if it is of the session, and says whether it stays.
-fn hears<W: Watcher>(watched: &mut Watched<W>, session: &Name, line: &[u8]) -> bool
-    ensures stays { result ≡ true → Stays session.now line.now watched.old watched.new }
-    ensures dropped { result ≡ false → IsDropped session.now line.now watched.old }
+// Gives a watcher the line, and says whether it took it.
+fn takes<W: Watcher>(watched: &mut Watched<W>, line: &[u8]) -> bool
+    ensures took { result ≡ true → TookLine line.now watched.old watched.new }
+    ensures refused { result ≡ false → RefusedLine line.now watched.old }
 {
-    watched.session != *session || watched.watcher.take(line).is_ok()
-}
-
-// Gives the line to the watcher at that place, if it is of the session. Where it fails it is
-// dropped.
-fn tell_at<W: Watcher>(
-    watched: &mut Vec<Watched<W>>,
-    place: usize,
-    session: &Name,
-    line: &[u8],
-) -> bool
-    requires { place < length watched.old.items }
-    ensures count { length watched.old.items
-        ≡ length watched.new.items + (if result then 0 else 1) }
-    ensures stays { result ≡ true
-        → (front back : List WatcherState) (w : WatcherState)
-        → watched.old.items ≡ front ++ w ∷ back → length front ≡ place
-        → (now : WatcherState) × Stays session.now line.now w now
-        × (watched.new.items ≡ front ++ now ∷ back) }
-    ensures dropped { result ≡ false
-        → (front back : List WatcherState) (w : WatcherState)
-        → watched.old.items ≡ front ++ w ∷ back → length front ≡ place
-        → IsDropped session.now line.now w × (watched.new.items ≡ front ++ back) }
-{
-    let stays = hears(&mut watched[place], session, line);
-    if !stays {
-        watched.remove(place);
-    }
-    stays
+    watched.watcher.take(line).is_ok()
 }
 
 impl<W: Watcher> WatchList<W> {
@@ -143,19 +115,77 @@ impl<W: Watcher> WatchList<W> {
         }
     }
 
+    /// How many watchers there are.
+    pub fn len(&self) -> usize
+        ensures { result ≡ length self.now }
+    {
+        self.watched.len()
+    }
+
+    /// The session of the watcher at that place.
+    pub fn session_at(&self, place: usize) -> &Name
+        requires { place < length self.now }
+        ensures { (front back : List WatcherState) (w : WatcherState)
+            → self.now ≡ front ++ w ∷ back → length front ≡ place → result.now ≡ w.session }
+    {
+        &self.watched[place].session
+    }
+
+    /// Gives a line to the watcher at that place, and says whether it stays. Where it fails it is
+    /// dropped then and there.
+    ///
+    /// Memory: none.
+    pub fn tell_at(&mut self, place: usize, line: &[u8]) -> bool
+        requires { place < length self.old }
+        ensures count { length self.old ≡ length self.new + (if result then 0 else 1) }
+        ensures stays { result ≡ true → (front back : List WatcherState) (w : WatcherState)
+            → self.old ≡ front ++ w ∷ back → length front ≡ place
+            → (now : WatcherState) × TookLine line.now w now
+            × (self.new ≡ front ++ now ∷ back) }
+        ensures dropped { result ≡ false → (front back : List WatcherState) (w : WatcherState)
+            → self.old ≡ front ++ w ∷ back → length front ≡ place
+            → RefusedLine line.now w × (self.new ≡ front ++ back) }
+    {
+        let stays = takes(&mut self.watched[place], line);
+        if !stays {
+            self.watched.remove(place);
+        }
+        stays
+    }
+
     /// Gives a line to each watcher of that session. One that fails is dropped then and there; the
     /// others keep their numbers.
     ///
     /// Memory: none.
     pub fn tell(&mut self, session: &Name, line: &[u8])
-        ensures { Tells session.now line.now self.old self.new }
+        ensures { Tells (line_for session.now line.now) self.old self.new }
     {
         let mut place = 0;
         while place < self.watched.len() {
-            if tell_at(&mut self.watched, place, session, line) {
+            if self.hears_at(place, session, line) {
                 place += 1;
             }
         }
+    }
+
+    // Gives the line to the watcher at that place, if it is of the session, and says whether it
+    // stays.
+    fn hears_at(&mut self, place: usize, session: &Name, line: &[u8]) -> bool
+        requires { place < length self.old }
+        ensures count { length self.old ≡ length self.new + (if result then 0 else 1) }
+        ensures stays { result ≡ true → (front back : List WatcherState) (w : WatcherState)
+            → self.old ≡ front ++ w ∷ back → length front ≡ place
+            → (now : WatcherState) × Stays (line_for session.now line.now w.session) w now
+            × (self.new ≡ front ++ now ∷ back) }
+        ensures dropped { result ≡ false → (front back : List WatcherState) (w : WatcherState)
+            → self.old ≡ front ++ w ∷ back → length front ≡ place
+            → IsDropped (line_for session.now line.now w.session) w
+            × (self.new ≡ front ++ back) }
+    {
+        if self.session_at(place) != session {
+            return true;
+        }
+        self.tell_at(place, line)
     }
 
     /// Takes the watcher of that number out, as it is.

@@ -17,8 +17,8 @@ returns-in-Ok-clause-late g c = ap is_late (c.finish.ensures.status ∙ c.end_st
 pub returns-in-Ok-clause-hosts : goal.returns-in-Ok-clause-hosts
 returns-in-Ok-clause-hosts g c =
     let t = telling g.P.Conn.Source.left g.P.Conn.Sink.written g.P.Conn.Source.faults g.P.Conn.Sink.faults in
-    let old = c.args.core in
-    let new = c.in-Ok.field-0.served.core in
+    let old = c.args.watched.core in
+    let new = c.in-Ok.field-0.served.watched.core in
     let made = c.in-Ok.field-0.served.connections in
     let before = map g.P.Port.state c.args.ports.now.items in
     let after = map g.P.Port.state c.serve_ports.new.ports.items in
@@ -40,14 +40,14 @@ returns-in-Ok-clause-hosts g c =
 pub returns-clause-hosts : goal.returns-clause-hosts
 returns-clause-hosts g c =
     let t = telling g.P.Conn.Source.left g.P.Conn.Sink.written g.P.Conn.Source.faults g.P.Conn.Sink.faults in
-    let old = c.args.core in
-    let new = c.in-Err.field-0.core in
+    let old = c.args.watched.core in
+    let new = c.in-Err.field-0.watched.core in
     let end = c.finish-in-Err in
     let before = map g.P.Port.state c.args.ports.now.items in
     let after = map g.P.Port.state c.serve_ports.new.ports.items in
     let w = g.O.Sink.written c.args.out.now in
     let f = g.O.Sink.faults c.args.out.now in
-    let same : new ≡ old = c.in-Err.ensures.err.0 in
+    let same : new ≡ old = ap (λ w. w.core) c.in-Err.ensures.err.0 in
     let none : end.result.history ≡ [] = end.ensures.history ∙ ap (λ k. k.state.history) same ∙ c.requires.first in
     record {
       hosts = λ l m says.

@@ -1,10 +1,11 @@
-use Rattle.std.proofs.Common.{rules, ◌≡◌, true, false, [], map, refl, string_bytes, vec_len, arith}
+use Rattle.std.proofs.Common.{rules, ◌≡◌, ◌∙◌, true, false, [], Some, None, sym, subst, map, refl, string_bytes, vec_len, arith}
 use Rattle.grist_lanes.specs.Services.{telling}
-use Rattle.run_words.specs.Words.{is_replay, lanes_of, plan_of}
+use Rattle.run_words.specs.Words.{is_replay, lanes_of, plan_of, rows_of}
 use Rattle.grist_run.specs.declared.status.Status.TheVariants.{Usage}
+use Rattle.grist_run.specs.Generated.{IsGenerated}
 use Rattle.grist_run.proofs.ReplayLaws.{replays_told, usage_replays}
 use Rattle.grist_hosting.specs.Hosting.{asks_lanes, is_done_over, is_serve}
-use Rattle.grist_hosting.proofs.RunLemmas.{hosting_told, not_both, not_done, replay_done, serve_done, usage_hosted}
+use Rattle.grist_hosting.proofs.RunLemmas.{generated_done, generated_no_replay, generates_none, hosting_told, not_both, not_done, replay_done, replay_no_rows, same_rows, serve_done, serve_no_rows, usage_hosted}
 use Rattle.grist_hosting.proofs.hosting.run.Goals as goal
 
 pub returns-then-asks_for_replay-clause-usage : goal.returns-then-asks_for_replay-clause-usage
@@ -18,6 +19,48 @@ returns-then-asks_for_replay-clause-serve g c e =
     let asked : is_replay (plan_of (map string_bytes c.args.words.now)) ≡ true = search rules in
     not_both (is_serve (plan_of (map string_bytes c.args.words.now))) e (replay_done (vec_len c.args.ports.now) (plan_of (map string_bytes c.args.words.now)) asked).1
 
+pub returns-then-asks_for_replay-clause-generated : goal.returns-then-asks_for_replay-clause-generated
+returns-then-asks_for_replay-clause-generated g c rows e =
+    let asked : is_replay (plan_of (map string_bytes c.args.words.now)) ≡ true = search rules in
+    replay_no_rows (plan_of (map string_bytes c.args.words.now)) rows asked e
+
+pub returns-in-Some-clause-usage : goal.returns-in-Some-clause-usage
+returns-in-Some-clause-usage g c =
+    let plan = plan_of (map string_bytes c.args.words.now) in
+    let is : rows_of plan ≡ Some c.in-Some.rows = sym c.rows_asked.ensures.rows ∙ c.in-Some.is in
+    let n = vec_len c.args.ports.now in
+    ((λ u. absurd (generates_none c.generate.result.status _ _ _ _ _ _ c.generate.ensures.generated.generates u)), (λ e. not_both (is_done_over n plan) (generated_done n plan c.in-Some.rows is).0 e))
+
+pub returns-in-Some-clause-replay : goal.returns-in-Some-clause-replay
+returns-in-Some-clause-replay g c e none =
+    let plan = plan_of (map string_bytes c.args.words.now) in
+    let is : rows_of plan ≡ Some c.in-Some.rows = sym c.rows_asked.ensures.rows ∙ c.in-Some.is in
+    generated_no_replay plan c.in-Some.rows is none
+
+pub returns-in-Some-clause-generated : goal.returns-in-Some-clause-generated
+returns-in-Some-clause-generated g c rows e =
+    let plan = plan_of (map string_bytes c.args.words.now) in
+    let is : rows_of plan ≡ Some c.in-Some.rows = sym c.rows_asked.ensures.rows ∙ c.in-Some.is in
+    (subst (λ n. IsGenerated n c.generate.result.status c.generate.result.history (g.O.Sink.written c.args.out.now) (g.O.Sink.written c.generate.new.out) (g.K.Keeper.records c.args.keeper) (g.K.Keeper.records c.generate.result.keeper) (g.K.Keeper.failures c.args.keeper) (g.K.Keeper.failures c.generate.result.keeper)) (same_rows plan c.in-Some.rows rows is e) c.generate.ensures.generated, refl, refl)
+
+pub returns-in-Some-clause-serve : goal.returns-in-Some-clause-serve
+returns-in-Some-clause-serve g c e =
+    let plan = plan_of (map string_bytes c.args.words.now) in
+    let is : rows_of plan ≡ Some c.in-Some.rows = sym c.rows_asked.ensures.rows ∙ c.in-Some.is in
+    not_both (is_serve plan) e (generated_done (vec_len c.args.ports.now) plan c.in-Some.rows is).1
+
+pub returns-then-asks_for_lanes-clause-generated : goal.returns-then-asks_for_lanes-clause-generated
+returns-then-asks_for_lanes-clause-generated g c rows e =
+    let n = vec_len c.args.ports.now in
+    let asked : asks_lanes n (lanes_of (plan_of (map string_bytes c.args.words.now))) ≡ true = search rules in
+    serve_no_rows n (plan_of (map string_bytes c.args.words.now)) rows asked e
+
+pub returns-else-asks_for_lanes-clause-generated : goal.returns-else-asks_for_lanes-clause-generated
+returns-else-asks_for_lanes-clause-generated g c rows e =
+    let plan = plan_of (map string_bytes c.args.words.now) in
+    let none : rows_of plan ≡ None = search rules in
+    generated_no_replay plan rows e none
+
 pub returns-then-asks_for_lanes-clause-usage : goal.returns-then-asks_for_lanes-clause-usage
 returns-then-asks_for_lanes-clause-usage g c =
     let n = vec_len c.args.ports.now in
@@ -25,7 +68,7 @@ returns-then-asks_for_lanes-clause-usage g c =
     ((λ u. absurd (c.host.ensures.usage u)), (λ e. not_both (is_done_over n (plan_of (map string_bytes c.args.words.now))) (serve_done n (plan_of (map string_bytes c.args.words.now)) asked).0 e))
 
 pub returns-then-asks_for_lanes-clause-replay : goal.returns-then-asks_for_lanes-clause-replay
-returns-then-asks_for_lanes-clause-replay g c e =
+returns-then-asks_for_lanes-clause-replay g c e none =
     let n = vec_len c.args.ports.now in
     let asked : asks_lanes n (lanes_of (plan_of (map string_bytes c.args.words.now))) ≡ true = search rules in
     not_both (is_serve (plan_of (map string_bytes c.args.words.now))) (serve_done n (plan_of (map string_bytes c.args.words.now)) asked).1 e
@@ -35,10 +78,11 @@ returns-else-asks_for_lanes-clause-usage g c =
     let n = vec_len c.args.ports.now in
     let none : is_replay (plan_of (map string_bytes c.args.words.now)) ≡ false = search rules in
     let other : asks_lanes n (lanes_of (plan_of (map string_bytes c.args.words.now))) ≡ false = search rules in
-    ((λ u. not_done n (plan_of (map string_bytes c.args.words.now)) none other), (λ e. c.without_history.ensures.status))
+    let rows : rows_of (plan_of (map string_bytes c.args.words.now)) ≡ None = search rules in
+    ((λ u. not_done n (plan_of (map string_bytes c.args.words.now)) none rows other), (λ e. c.without_history.ensures.status))
 
 pub returns-else-asks_for_lanes-clause-replay : goal.returns-else-asks_for_lanes-clause-replay
-returns-else-asks_for_lanes-clause-replay g c e =
+returns-else-asks_for_lanes-clause-replay g c e rows =
     let none = c.without_history in (
       replays_told Usage none.result.status [] none.result.history (g.K.Keeper.records none.result.keeper) (g.K.Keeper.failures none.result.keeper) none.ensures.status none.ensures.history
           (usage_replays (g.S.Source.left c.args.input.now) (g.O.Sink.written c.args.out.now) (g.K.Keeper.records c.args.keeper) (g.K.Keeper.records none.result.keeper) none.ensures.records (g.K.Keeper.failures c.args.keeper) (g.K.Keeper.failures none.result.keeper) (omega (arith, none.ensures.faults))),

@@ -43,12 +43,12 @@ returns-clause-serves g c =
     let joined : map (λ l. l.pass) first ≡ c.in-Ok-new.made.1 = c.join_lanes.ensures.passes ∙ c.into_vec-passes.ensures in
     let parted : c.from.result ≡ map (λ l. l.pass) last = search rules in
     let ports : length first ≡ length c.args.ports.now.items = sym (length-map first (λ l. l.port)) ∙ ap length c.join_lanes.ensures.ports in
-    let served = gate_served t (λ m. m.state.history) opening_of _ _ gate c.args.core c.in-Ok-close.core (λ l. g.P.Port.state l.port) (λ l. l.pass) first last c.in-Ok-new.made.1 c.from.result c.in-Ok-close.ensures.ok.0
+    let served = gate_served t (λ m. m.core.state.history) (λ m. opening_of m.core) _ _ gate c.args.watched c.in-Ok-close.watched (λ l. g.P.Port.state l.port) (λ l. l.pass) first last c.in-Ok-new.made.1 c.from.result c.in-Ok-close.ensures.ok.0
     c.in-Ok-new.ensures.gate.0 c.in-Ok-new.ensures.each joined parted c.serve_all.ensures.count c.serve_all.ensures.serves (omega (arith, ports, c.requires.count.1)) c.requires.none c.in-Ok-close.ensures.ok.1 in
     let before = map_twice (λ l. l.port) g.P.Port.state first ∙ ap (map g.P.Port.state) c.join_lanes.ensures.ports in
     let after = map_twice (λ l. l.port) g.P.Port.state last ∙ ap (map g.P.Port.state) (sym c.part_lanes.ensures.ports) in
-    subst (ServesLanes t (opening_of c.args.core) c.args.core.state.history c.in-Ok-close.core.state.history (map g.P.Port.state c.args.ports.now.items)) after
-    (subst (λ ps. ServesLanes t (opening_of c.args.core) c.args.core.state.history c.in-Ok-close.core.state.history ps (map (λ l. g.P.Port.state l.port) last)) before served)
+    subst (ServesLanes t (opening_of c.args.watched.core) c.args.watched.core.state.history c.in-Ok-close.watched.core.state.history (map g.P.Port.state c.args.ports.now.items)) after
+    (subst (λ ps. ServesLanes t (opening_of c.args.watched.core) c.args.watched.core.state.history c.in-Ok-close.watched.core.state.history ps (map (λ l. g.P.Port.state l.port) last)) before served)
 
 pub connections_of-connections-requires-clause-few : goal.connections_of-connections-requires-clause-few
 connections_of-connections-requires-clause-few g c =

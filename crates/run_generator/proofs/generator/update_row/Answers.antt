@@ -3,6 +3,7 @@ use Rattle.doc_model.specs.declared.entry.Entry.{Entry}
 use Rattle.doc_model.specs.WellFormed.{asks_well_formed}
 use Rattle.run_generator.specs.Left.{updates_from}
 use Rattle.run_generator.specs.Script.{updates_row, bundle, second_asks}
+use Rattle.run_generator.proofs.MakingLemmas.{stays, stays_there}
 use Rattle.run_generator.proofs.ScriptLemmas.{left_updates}
 use Rattle.run_generator.proofs.generator.update_row.Goals as goal
 
@@ -19,4 +20,6 @@ returns c =
       number = search rules;
       next = c.behind_update.ensures.stage c.in_ok-action.field-0.number c.in_ok-action.ensures.drawn;
       well_formed = ap (λ (e : Entry). asks_well_formed e.request) is;
+      kept = ap (λ (e : Entry). e.kept) is;
+      stays = stays_there entry.request (ap (λ (e : Entry). stays e.request) is);
     }

@@ -1,5 +1,5 @@
 use Rattle.std.proofs.Common.{rules, string_bytes, sym}
-use Rattle.run_words.proofs.LaneLemmas.{no_lanes_asked}
+use Rattle.run_words.proofs.CommandLemmas.{no_lanes_asked}
 use Rattle.run_words.proofs.form.lanes_asked.Goals as goal
 
 pub returns-in_default-2-clause-lanes : goal.returns-in_default-2-clause-lanes

@@ -1,4 +1,4 @@
-use Rattle.std.proofs.Common.{◌≡◌, ◌-◌, ◌≤◌, arith, subst}
+use Rattle.std.proofs.Common.{◌≡◌, ◌-◌, arith, subst}
 use Rattle.bundle_core.specs.KeptCore.{KeptCore}
 use Rattle.bundle_core.specs.State.{opening, records_kept}
 use Rattle.bundle_core.proofs.history_core.Core.bundles.Goals as goal

@@ -3,7 +3,7 @@ use Rattle.bundle_core.specs.Core.{document_of, is_open_in}
 use Rattle.bundle_core.specs.Dispatch.{Finds, Misses}
 use Rattle.bundle_core.specs.KeptCore.{KeptCore}
 use Rattle.bundle_core.specs.SessionState.{SessionState}
-use Rattle.bundle_core.proofs.MachineLaws.{open_told}
+use Rattle.bundle_core.proofs.GoneLaws.{open_told}
 use Rattle.bundle_core.proofs.history_core.Core.has_open.Goals as goal
 
 pub returns : goal.returns

@@ -1,9 +1,10 @@
 use Rattle.std.proofs.Common.{rules, refl}
+use Rattle.watch_box.specs.Watching.{line_for}
 use Rattle.watch_box.proofs.TellingLemmas.{told_stays, told_drops}
 use Rattle.watch_box.proofs.watch_list.WatchList.tell.Goals as goal
 
-pub loop-place-preserved-then-tell_at : goal.loop-place-preserved-then-tell_at
-loop-place-preserved-then-tell_at g c = told_stays c.args.session.now c.args.line.now c.self.inside.watched.items c.loop-place.self-inside.watched.items c.tell_at.new.watched.items c.loop-place.place c.loop-place.invariant (search rules) (c.if-tell_at.ensures.stays refl)
+pub loop-place-preserved-then-hears_at : goal.loop-place-preserved-then-hears_at
+loop-place-preserved-then-hears_at g c = told_stays (line_for c.args.session.now c.args.line.now) c.args.self.now c.loop-place.self c.hears_at.new.self c.loop-place.place c.loop-place.invariant (search rules) (λ told front back w _ e l. c.if-hears_at.ensures.stays refl front back w e l)
 
 pub loop-place-preserved : goal.loop-place-preserved
-loop-place-preserved g c = told_drops c.args.session.now c.args.line.now c.self.inside.watched.items c.loop-place.self-inside.watched.items c.tell_at.new.watched.items c.loop-place.place c.loop-place.invariant (search rules) (c.if-tell_at.ensures.dropped refl)
+loop-place-preserved g c = told_drops (line_for c.args.session.now c.args.line.now) c.args.self.now c.loop-place.self c.hears_at.new.self c.loop-place.place c.loop-place.invariant (search rules) (λ told front back w _ e l. c.if-hears_at.ensures.dropped refl front back w e l)

@@ -1,9 +1,0 @@
-use Rattle.std.proofs.Common.{◌≡◌, ◌≤◌, ◌+◌, ◌++◌, take, vec_len, vec_capacity}
-use Rattle.grist_hosting.proofs.summary.append.Given as goal
-
-abbrev pub invariant-loop-byte : goal.invariant-loop-byte
-invariant-loop-byte l = record {
-  items : l.line.items ≡ l.fn.line.items ++ take l.byte-index l.piece;
-  len : vec_len l.line ≡ vec_len l.fn.line + l.byte-index;
-  room : vec_capacity l.line ≡ vec_capacity l.fn.line;
-}

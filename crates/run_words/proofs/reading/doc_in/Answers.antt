@@ -1,8 +1,0 @@
-use Rattle.std.proofs.Common.{sym, ◌∙◌}
-use Rattle.clap.specs.Words.{found_of, subcommand_rows_of}
-use Rattle.run_words.proofs.ClapLemmas.{doc_found}
-use Rattle.run_words.proofs.reading.doc_in.Goals as goal
-
-pub returns-in-Some : goal.returns-in-Some
-returns-in-Some c =
-    c.get_str.ensures ∙ sym (doc_found (subcommand_rows_of c.args.matches.now) (found_of c.in-Some.options.now) c.in-Some.ensures.rows)

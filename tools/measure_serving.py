@@ -13,11 +13,12 @@ each record synced). They take turns, three each; the most requests a second cou
 Last, one more connection opens the document and then reads nothing while the sixteen add their rows.
 """
 import os
-import socket
 import subprocess
 import sys
 import tempfile
 import time
+
+from loopback import joined
 
 HERE = os.path.dirname(os.path.abspath(__file__))
 PROGRAM = os.path.join(HERE, "..", "crates", "grist_main", "out", "grist_main")
@@ -149,15 +150,6 @@ def served(folder, clients, requests, *doc, idle=False):
     if server.wait() or f'"bundles":{LANES * requests},' not in line:
         raise SystemExit(f"the server told {line!r} and ended with {server.returncode}")
     return speed
-
-
-def joined(port):
-    for _ in range(1000):
-        try:
-            return socket.create_connection(("127.0.0.1", port))
-        except ConnectionRefusedError:
-            time.sleep(0.005)
-    raise SystemExit("the server does not listen")
 
 
 def main():

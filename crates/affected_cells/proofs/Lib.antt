@@ -1,4 +1,5 @@
 pub mod Tests
+pub mod MetAlike
 pub mod Unaffected
 pub mod Touches
 pub mod KeptLaws

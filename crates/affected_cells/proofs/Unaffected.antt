@@ -1,22 +1,31 @@
 -- Formula cells that are not affected.
-use Rattle.std.proofs.Common.{ℕ, Bool, false, zero, suc, List, length, ◌≡◌, inl, inr, refl, sym, ap, ◌∙◌, subst, Some, None, unwrap_or}
+use Rattle.std.proofs.Common.{ℕ, Bool, true, false, cond, zero, suc, List, length, ◌≡◌, inl, inr, refl, sym, ap, ◌∙◌, subst, Option, Some, None, unwrap_or}
 use Rattle.std.specs.List.{AllByRecursion}
+use Rattle.std.specs.Option.{is_some}
 use Rattle.cell_types.specs.declared.cell.CellId.{CellId}
+use Rattle.cell_types.specs.declared.cell.KeyItem.{KeyItem}
 use Rattle.cell_types.specs.declared.value.CellValue.{CellValue}
 use Rattle.cell_types.specs.declared.value.CellValue.TheVariants.{Err}
 use Rattle.cell_types.specs.declared.value.ErrKind.TheVariants.{Circular}
 use Rattle.cell_types.specs.declared.cell.Read.{Read}
 use Rattle.cell_types.specs.declared.cell.Read.TheVariants.{Cell, Key, Rows}
+use Rattle.formula_eval.specs.declared.note.Note.{Note}
+use Rattle.formula_eval.specs.declared.note.Note.TheVariants as note
+use Rattle.formula_eval.specs.Lookup.{matched}
 use Rattle.formula_eval.specs.Reader.{known, needed}
 use Rattle.formula_eval.specs.Run.{Stop, Out, gives, raises, stops, reads_of}
 use Rattle.recalc.specs.Cells.{cell_of}
 use Rattle.formula_eval.specs.Reading.{told_out}
-use Rattle.formula_eval.specs.Likeness.{StopsBy, IsAlikeOut, IsAlikeRun, IsAlikeRead, IsJoined}
-use Rattle.formula_eval.proofs.TextLaws.{text_alike, text_covers}
+use Rattle.formula_eval.specs.Likeness.{StopsBy, IsAlikeOut, IsAlikeRun, IsAlikeNote, IsAlikeRead, IsJoined}
+use Rattle.formula_eval.proofs.MatchedAlike.{matched_alike}
+use Rattle.formula_eval.proofs.TextLaws.{text_alike, text_notes}
 use Rattle.recalc.specs.Sheet.{Sheet, Values, IsListed, told_by, over, finished, row_of, run_of, value_by, eval, evaluated, reads_by, reads}
 use Rattle.affected_cells.proofs.Tests.{all_weaker}
+use Rattle.affected_cells.specs.Met.{IsSameKey, IsSameKind}
+use Rattle.affected_cells.specs.Noted.{Agree, IsUntouchedMet, IsUntouchedNote, IsClosedByNotes, UnaffectedNotesLaw, notes, notes_by}
 use Rattle.affected_cells.specs.Untouched.{IsUntouchedCell, IsUntouched, IsClosed, UnaffectedLaw}
-use Rattle.recalc.proofs.Over.{IsAlikeCell, over_alike, same_out, finished_same, finished_stop}
+use Rattle.affected_cells.proofs.MetAlike.{matched_same, told_apart}
+use Rattle.recalc.proofs.Over.{IsAlikeCell, all_each, over_alike, same_out, finished_same, finished_stop}
 use Rattle.recalc.proofs.Fuel.{any_stop, none_some}
 use Rattle.recalc.proofs.Settled.{value_law, fixed}
 
@@ -32,12 +41,12 @@ right_none (gives v) h = h
 right_none (raises v) h = h
 right_none (stops v) h = h
 
--- where a run over the first of two finishes, it has the reads of the second
-reads_of_more : (s : Sheet) (k : Values) → ((d : CellId) → IsAlikeCell any_stop ⊥ s k (all_values s) d)
-    → (c : CellId) (f : List ℕ) (v : CellValue) → finished (s.kind c.table c.column) (run_of (over s k) c f).out ≡ Some v → reads_of (run_of (over s k) c f).notes ≡ reads_of (run_of (over s (all_values s)) c f).notes
-reads_of_more s k h c f v e =
+-- where a run over the first of two finishes, it has the notes of the second
+notes_more : (s : Sheet) (k : Values) → ((d : CellId) → IsAlikeCell any_stop ⊥ s k (all_values s) d)
+    → (c : CellId) (f : List ℕ) (v : CellValue) → finished (s.kind c.table c.column) (run_of (over s k) c f).out ≡ Some v → (run_of (over s k) c f).notes ≡ (run_of (over s (all_values s)) c f).notes
+notes_more s k h c f v e =
     elim (over_alike any_stop ⊥ s k (all_values s) (λ cs ds a b. tt) h c f) [
-      | inl g ↦ ap reads_of g.1
+      | inl g ↦ g.1
       | inr g ↦ elim g [
         | inl w ↦ absurd (none_some (sym (finished_stop any_stop (s.kind c.table c.column) (run_of (over s k) c f).out w.0) ∙ e))
         | inr w ↦ absurd (right_none (run_of (over s (all_values s)) c f).out w.0)
@@ -59,10 +68,10 @@ module _ (s : Sheet) (listed : IsListed s) where
         | Some v ↦ same_out no_stop ⊥ (told_out d (known v)) (told_out d (known v)) refl
       ]
 
-  -- with as much fuel as there are formula cells the reads are those over the evaluated cells
-  pub whole_reads : (c : CellId) (f : List ℕ) → reads_of (run_of (over s (eval (length s.cells) s)) c f).notes ≡ reads_of (run_of (over s (all_values s)) c f).notes
-  whole_reads c f = elim (over_alike no_stop ⊥ s (eval (length s.cells) s) (all_values s) (λ cs ds a b. a) whole_cell c f) [
-    | inl g ↦ ap reads_of g.1
+  -- with as much fuel as there are formula cells the notes are those over the evaluated cells
+  pub whole_notes : (c : CellId) (f : List ℕ) → (run_of (over s (eval (length s.cells) s)) c f).notes ≡ (run_of (over s (all_values s)) c f).notes
+  whole_notes c f = elim (over_alike no_stop ⊥ s (eval (length s.cells) s) (all_values s) (λ cs ds a b. a) whole_cell c f) [
+    | inl g ↦ g.1
     | inr g ↦ elim g [ inl w ↦ absurd (right_none (run_of (over s (eval (length s.cells) s)) c f).out w.0) | inr w ↦ absurd (right_none (run_of (over s (all_values s)) c f).out w.0) ]
   ]
 
@@ -77,20 +86,45 @@ module _ (s t : Sheet) (affected : CellId → Bool) where
         subst (λ o. IsAlikeOut L R (told_out d (told_by o (s.base d) (k d))) (told_out d (told_by (t.formula d) (t.base d) (j d)))) (sym h.1)
         (subst (λ o. IsAlikeOut L R (told_out d (told_by (Some h.0) (s.base d) (k d))) (told_out d (told_by o (t.base d) (j d)))) (sym h.2) (cell d h.0 h.2 h.3))
 
-    untouched_read : (q : Read) → IsUntouched s t affected q → IsAlikeRead L R (over s k) (over t j) q
-    untouched_read (Cell d) h = (h.0, untouched_cell d h.1)
-    untouched_read (Key u c) h = (h.0, λ r. untouched_cell (cell_of u c r) (h.1 r))
-    untouched_read (Rows u) h = h
+    -- the values before of cells that are not affected, and those after of the others
+    mixed : Values
+    mixed d = cond (affected d) (j d) (k d)
 
-    -- a formula whose reads are untouched runs alike over the two sheets
-    pub untouched_run : (c : CellId) (f : List ℕ) → AllByRecursion (IsUntouched s t affected) (reads_of (run_of (over s k) c f).notes) → IsAlikeRun L R (run_of (over s k) c f) (run_of (over t j) c f)
+    mixed_agrees : Agree s t affected k mixed
+    unfolding mixed
+    mixed_agrees d f e free = sym (ap (λ b. cond b (j d) (k d)) free)
+
+    mixed_cell : (d : CellId) → IsAlikeOut L R (told_out d ((over t mixed).cell d)) (told_out d ((over t j).cell d))
+    unfolding mixed
+    mixed_cell d = by_formula (t.formula d) refl
+      where
+        by_affected : (f : List ℕ) → t.formula d ≡ Some f → (b : Bool) → affected d ≡ b → IsAlikeOut L R (told_out d (told_by (Some f) (t.base d) (cond b (j d) (k d)))) (told_out d (told_by (Some f) (t.base d) (j d)))
+        by_affected f e true is = same_out L R (told_out d (told_by (Some f) (t.base d) (j d))) (told_out d (told_by (Some f) (t.base d) (j d))) refl
+        by_affected f e false is = subst (λ o. IsAlikeOut L R (told_out d o) (told_out d (told_by (Some f) (t.base d) (j d)))) (told_apart f (s.base d) (t.base d) (k d)) (cell d f e is)
+
+        by_formula : (o : Option (List ℕ)) → t.formula d ≡ o → IsAlikeOut L R (told_out d (told_by o (t.base d) (cond (affected d) (j d) (k d)))) (told_out d (told_by o (t.base d) (j d)))
+        by_formula None e = same_out L R (told_out d (t.base d)) (told_out d (t.base d)) refl
+        by_formula (Some f) e = by_affected f e (affected d) refl
+
+    untouched_note : (n : Note) → IsUntouchedNote s t affected n → IsAlikeNote L R (over s k) (over t j) n
+    untouched_note (note.Read (Cell d)) h = (h.0, untouched_cell d h.1)
+    untouched_note (note.Read (Key u c)) h = h
+    untouched_note (note.Read (Rows u)) h = h
+    untouched_note (note.All u) h = h
+    untouched_note (note.Met u ks) h =
+        subst (λ o. IsAlikeOut L R o (matched (over t j) u ks)) (sym (h k mixed mixed_agrees))
+        (matched_alike L R joined (over t mixed) (over t j) u ks refl
+        (all_each (λ (key : KeyItem). IsAlikeRead L R (over t mixed) (over t j) (Key u key.column)) (λ key. (refl, λ r. mixed_cell (cell_of u key.column r))) ks))
+
+    -- a formula whose notes are untouched runs alike over the two sheets
+    pub untouched_run : (c : CellId) (f : List ℕ) → AllByRecursion (IsUntouchedNote s t affected) (run_of (over s k) c f).notes → IsAlikeRun L R (run_of (over s k) c f) (run_of (over t j) c f)
     untouched_run c f h =
         text_alike L R (over s k) (over t j) (row_of c) f
-        (text_covers L R (over s k) (over t j) (row_of c) joined f (all_weaker (IsUntouched s t affected) (IsAlikeRead L R (over s k) (over t j)) untouched_read (reads_of (run_of (over s k) c f).notes) h))
+        (all_weaker (IsUntouchedNote s t affected) (IsAlikeNote L R (over s k) (over t j)) untouched_note (run_of (over s k) c f).notes h)
 
-  module _ (ls : IsListed s) (lt : IsListed t) (closed : IsClosed s t affected) where
-    reads_untouched : (c : CellId) (f : List ℕ) → t.formula c ≡ Some f → affected c ≡ false → AllByRecursion (IsUntouched s t affected) (reads_of (run_of (over s (all_values s)) c f).notes)
-    reads_untouched c f e free = subst (λ o. AllByRecursion (IsUntouched s t affected) (reads_by s (all_values s) c o)) (closed.was c f e free) (closed.untouched c f e free)
+  module _ (ls : IsListed s) (lt : IsListed t) (closed : IsClosedByNotes s t affected) where
+    notes_untouched : (c : CellId) (f : List ℕ) → t.formula c ≡ Some f → affected c ≡ false → AllByRecursion (IsUntouchedNote s t affected) (run_of (over s (all_values s)) c f).notes
+    notes_untouched c f e free = subst (λ o. AllByRecursion (IsUntouchedNote s t affected) (notes_by s (all_values s) c o)) (closed.was c f e free) (closed.untouched c f e free)
 
     -- what the cells had with some fuel they have after
     abbrev Keeps : Values → Values → Type 0
@@ -111,8 +145,8 @@ module _ (s t : Sheet) (affected : CellId → Bool) where
         before : finished (s.kind c.table c.column) (run_of (over s (eval n s)) c f).out ≡ Some v
         before = sym (ap (value_by s (eval n s) c) (closed.was c f e free)) ∙ h
 
-        all : AllByRecursion (IsUntouched s t affected) (reads_of (run_of (over s (eval n s)) c f).notes)
-        all = subst (λ l. AllByRecursion (IsUntouched s t affected) l) (sym (reads_of_more s (eval n s) (part_cell s ls n) c f v before)) (reads_untouched c f e free)
+        all : AllByRecursion (IsUntouchedNote s t affected) (run_of (over s (eval n s)) c f).notes
+        all = subst (λ l. AllByRecursion (IsUntouchedNote s t affected) l) (sym (notes_more s (eval n s) (part_cell s ls n) c f v before)) (notes_untouched c f e free)
 
         ends : IsAlikeRun any_stop ⊥ (run_of (over s (eval n s)) c f) (run_of (over t (eval n t)) c f) → finished (t.kind c.table c.column) (run_of (over t (eval n t)) c f).out ≡ Some v
         ends (inl g) =
@@ -146,8 +180,8 @@ module _ (s t : Sheet) (affected : CellId → Bool) where
         before : finished (s.kind c.table c.column) (run_of (over s (eval (length s.cells) s)) c f).out ≡ None
         before = sym (ap (value_by s (eval (length s.cells) s) c) (closed.was c f e free)) ∙ sym (fixed s ls c) ∙ h
 
-        all : AllByRecursion (IsUntouched s t affected) (reads_of (run_of (over s (eval (length s.cells) s)) c f).notes)
-        all = subst (λ l. AllByRecursion (IsUntouched s t affected) l) (sym (whole_reads s ls c f)) (reads_untouched c f e free)
+        all : AllByRecursion (IsUntouchedNote s t affected) (run_of (over s (eval (length s.cells) s)) c f).notes
+        all = subst (λ l. AllByRecursion (IsUntouchedNote s t affected) l) (sym (whole_notes s ls c f)) (notes_untouched c f e free)
 
         ends : IsAlikeRun no_stop (Unit {0}) (run_of (over s (eval (length s.cells) s)) c f) (run_of (over t (eval n t)) c f) → finished (t.kind c.table c.column) (run_of (over t (eval n t)) c f).out ≡ None
         ends (inl g) =
@@ -163,17 +197,53 @@ module _ (s t : Sheet) (affected : CellId → Bool) where
           | Some v ↦ λ w. value_law t lt c v (length s.cells) (keeps (length s.cells) c f v e free w)
         ] refl
 
-    same_reads : (c : CellId) (f : List ℕ) → t.formula c ≡ Some f → affected c ≡ false → reads t c ≡ reads s c
-    same_reads c f e free =
-        ap (reads_by t (all_values t) c) e
-        ∙ (elim (untouched_run no_stop ⊥ (λ cs ds a b. a) (all_values s) (all_values t) cell c f (reads_untouched c f e free)) [
-          | inl g ↦ sym (ap reads_of g.1)
+    same_notes : (c : CellId) (f : List ℕ) → t.formula c ≡ Some f → affected c ≡ false → notes t c ≡ notes s c
+    same_notes c f e free =
+        ap (notes_by t (all_values t) c) e
+        ∙ (elim (untouched_run no_stop ⊥ (λ cs ds a b. a) (all_values s) (all_values t) cell c f (notes_untouched c f e free)) [
+          | inl g ↦ sym g.1
           | inr g ↦ elim g [ inl w ↦ absurd (right_none (run_of (over s (all_values s)) c f).out w.0) | inr w ↦ absurd (right_none (run_of (over t (all_values t)) c f).out w.0) ]
         ])
-        ∙ sym (ap (reads_by s (all_values s) c) (closed.was c f e free))
+        ∙ sym (ap (notes_by s (all_values s) c) (closed.was c f e free))
       where
         cell : (d : CellId) (g : List ℕ) → t.formula d ≡ Some g → affected d ≡ false → IsAlikeOut no_stop ⊥ (told_out d (known (evaluated s d))) (told_out d (known (evaluated t d)))
         cell d g i h = same_out no_stop ⊥ (told_out d (known (evaluated s d))) (told_out d (known (evaluated t d))) (ap (λ w. told_out d (known w)) (sym (same_value d g i h)))
 
+pub unaffected_notes_law : UnaffectedNotesLaw
+unaffected_notes_law s t affected ls lt closed c f e free = (same_value s t affected ls lt closed c f e free, same_notes s t affected ls lt closed c f e free)
+
+-- ---- the same by reads
+
+pub reads_noted : (s : Sheet) (c : CellId) → reads s c ≡ reads_of (notes s c)
+reads_noted s c = by (s.formula c)
+  where
+    by : (o : Option (List ℕ)) → reads_by s (all_values s) c o ≡ reads_of (notes_by s (all_values s) c o)
+    by None = refl
+    by (Some f) = refl
+
+module _ (s t : Sheet) (affected : CellId → Bool) where
+  at_note : (q : Read) → IsUntouched s t affected q → IsUntouchedNote s t affected (note.Read q)
+  at_note (Cell d) h = h
+  at_note (Key u c) h = h.0
+  at_note (Rows u) h = ap is_some h
+
+  at_met : (u : List ℕ) (ks : List KeyItem) → s.rows u ≡ t.rows u → AllByRecursion (λ (key : KeyItem). IsUntouched s t affected (Key u key.column)) ks → IsUntouchedMet s t affected u ks
+  at_met u ks rows h v w agree =
+      matched_same s t affected u v w agree ks rows (all_weaker (λ (key : KeyItem). IsUntouched s t affected (Key u key.column)) (IsSameKind s t affected u) (λ key g. g.0) ks h)
+      (λ r. all_weaker (λ (key : KeyItem). IsUntouched s t affected (Key u key.column)) (IsSameKey s t affected u r) (λ key g. inr (inl (g.1 r))) ks h)
+
+  -- a run whose reads are untouched notes nothing that is touched
+  pub noted_untouched : (c : CellId) → AllByRecursion (IsUntouched s t affected) (reads s c) → AllByRecursion (IsUntouchedNote s t affected) (notes s c)
+  noted_untouched c = by (s.formula c)
+    where
+      by : (o : Option (List ℕ)) → AllByRecursion (IsUntouched s t affected) (reads_by s (all_values s) c o) → AllByRecursion (IsUntouchedNote s t affected) (notes_by s (all_values s) c o)
+      by None h = tt
+      by (Some f) h = text_notes (IsUntouched s t affected) (IsUntouchedNote s t affected) at_note (λ u rows. rows) at_met (over s (all_values s)) (row_of c) f h
+
+  pub closed_by_notes : IsClosed s t affected → IsClosedByNotes s t affected
+  closed_by_notes closed = record { was = closed.was; kind = closed.kind; untouched = λ c f e free. noted_untouched c (closed.untouched c f e free) }
+
 pub unaffected_law : UnaffectedLaw
-unaffected_law s t affected ls lt closed c f e free = (same_value s t affected ls lt closed c f e free, same_reads s t affected ls lt closed c f e free)
+unaffected_law s t affected ls lt closed c f e free =
+    let same = unaffected_notes_law s t affected ls lt (closed_by_notes s t affected closed) c f e free in
+    (same.0, reads_noted t c ∙ ap reads_of same.1 ∙ sym (reads_noted s c))

@@ -6,11 +6,13 @@
 //! evaluate only what they affect.
 //!
 //! Promises: `unaffected_law` speaks of any two sheets: a formula cell outside of a closed set has
-//! the value and the reads that it had. `keeps_law` is the same of a document and an action, for
-//! the cells that specs/Affected.antt says; it asks that the action touches no other reads than
+//! the value and the reads that it had. `unaffected_notes_law` is finer, by what runs note: a
+//! lookup is left alone where the same rows meet its keys, as `met_law` says of rows that come, go
+//! or change and do not meet them. `keeps_law` speaks of a document and an action, for the cells
+//! that specs/Affected.antt says; it asks that the action touches no other reads than
 //! specs/Touched.antt says, and the laws of actions prove that for each of the ten actions.
 //! Not promised: how these cells are found.
-//! Read first: specs/Untouched.antt, specs/Touched.antt and specs/Affected.antt.
+//! Read first: specs/Untouched.antt, specs/Noted.antt, specs/Touched.antt and specs/Affected.antt.
 #![tactic(auto)]
 
 mod actions;
@@ -20,4 +22,4 @@ pub use actions::{
     add_column_law, add_table_law, modify_column_law, remove_column_law, remove_table_law,
     rename_column_law, rename_table_law, rows_law, update_law,
 };
-pub use laws::{keeps_law, still_known_law, unaffected_law};
+pub use laws::{keeps_law, met_law, still_known_law, unaffected_law, unaffected_notes_law};

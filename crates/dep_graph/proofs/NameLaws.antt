@@ -11,7 +11,7 @@ use Rattle.dep_graph.specs.declared.numbers.ReadNumber.TheVariants as read
 use Rattle.dep_graph.specs.declared.numbers.CellNumber.{CellNumber}
 use Rattle.dep_graph.specs.declared.numbers.ColumnNumber.{ColumnNumber}
 use Rattle.dep_graph.specs.Names.{IsGrown, NumberLaw, number_in}
-use Rattle.dep_graph.specs.Sources.{AreNumbers, Source, cell_in, column_in, column_of, part_source, read_source, source_in, sources, sources_of, value_source}
+use Rattle.dep_graph.specs.Sources.{AreNumbers, Source, all_source, cell_in, column_in, column_of, part_source, read_source, source_in, sources, sources_of, value_source}
 
 -- ---- names
 
@@ -112,6 +112,7 @@ module _ (old new : List (List ℕ)) (grown : IsGrown old new) where
   source_stays (read_source (Cell c)) q = mapped_stays read.Cell (cell_in old c) (cell_in new c) q (cell_stays c)
   source_stays (read_source (Key t c)) q = mapped_stays read.Key (column_in old t c) (column_in new t c) q (column_stays t c)
   source_stays (read_source (Rows t)) q = mapped_stays read.Rows (number_in old t) (number_in new t) q (grown.stays t)
+  source_stays (all_source t) q = mapped_stays read.All (number_in old t) (number_in new t) q (grown.stays t)
   source_stays (value_source t c b) q = mapped_stays (λ k. read.Value (record { column = k; bucket = b })) (column_in old t c) (column_in new t c) q (column_stays t c)
   source_stays (part_source t c b) q = mapped_stays (λ k. read.Part (record { column = k; bucket = b })) (column_in old t c) (column_in new t c) q (column_stays t c)
 

@@ -1,17 +1,24 @@
 -- A graph of reads: the names that have numbers, and the reads of each cell by numbers.
-use Rattle.std.specs.Prelude.{ℕ, List, [], Some, None, Vec, ◌≡◌}
+use Rattle.std.specs.Prelude.{ℕ, List, [], length, Some, None, Vec, ◌≡◌}
 use Rattle.std.specs.Global.{Global}
 use Rattle.cell_types.specs.declared.cell.CellId.{CellId}
 use Rattle.formula_eval.specs.declared.note.Note.{Note}
 use Rattle.dep_graph.specs.declared.numbers.CellNumber.{CellNumber}
 use Rattle.dep_graph.specs.declared.numbers.ReadNumber.{ReadNumber}
 use Rattle.dep_graph.specs.Names.{IsGrown}
-use Rattle.dep_graph.specs.Records.{HasSameReads, IsRecorded}
+use Rattle.dep_graph.specs.Records.{HasSameReads, IsRecorded, reads_under}
 use Rattle.dep_graph.specs.Sources.{AreNumbers, cell_in, sources}
 
 pub record Graph : Type 0 where
   pub names : List (List ℕ)
   pub reads : List (CellNumber × Vec ReadNumber Global)
+
+-- how many reads are recorded of a cell
+abbrev pub reads_count : Graph → CellId → ℕ
+reads_count graph c = elim (cell_in graph.names c) [
+  | None ↦ 0
+  | Some k ↦ length (reads_under graph.reads k)
+]
 
 -- the cell reads what the notes say, and each other cell what it read; numbers stay
 pub record IsSet (old new : Graph) (reader : CellId) (notes : List Note) : Type 0 where

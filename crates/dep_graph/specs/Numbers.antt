@@ -20,6 +20,7 @@ abbrev pub is_read : ReadNumber → ReadNumber → Bool
 is_read (read.Cell c) (read.Cell d) = is_cell c d
 is_read (read.Key c) (read.Key d) = is_column c d
 is_read (read.Rows t) (read.Rows u) = nat_eq t u
+is_read (read.All t) (read.All u) = nat_eq t u
 is_read (read.Value v) (read.Value w) = is_value v w
 is_read (read.Part v) (read.Part w) = is_value v w
 is_read q p = false

@@ -14,10 +14,11 @@ use Rattle.dep_graph.specs.declared.numbers.ReadNumber.{ReadNumber}
 use Rattle.dep_graph.specs.declared.numbers.ReadNumber.TheVariants as read
 use Rattle.dep_graph.specs.Names.{number_in}
 
--- a cell, every cell of a key column, which rows a table has, or the cells of a key column that a
--- value of the bucket finds, each whole or by a part
+-- a cell, every cell of a key column, which rows a table has, all these rows, or the cells of a key
+-- column that a value of the bucket finds, each whole or by a part
 pub data Source : Type 0 where
   read_source : Read → Source
+  all_source : List ℕ → Source
   value_source : List ℕ → List ℕ → ℕ → Source
   part_source : List ℕ → List ℕ → ℕ → Source
 
@@ -26,10 +27,16 @@ abbrev pub source_of_key : List ℕ → KeyItem → Source
 source_of_key t k = cond k.contains (part_source t k.column (bucket_of k.value))
     (value_source t k.column (bucket_of k.value))
 
+-- what the keys of a lookup read of a table: without a key it takes all rows
+abbrev pub sources_of_keys : List ℕ → List KeyItem → List Source
+sources_of_keys t [] = all_source t ∷ []
+sources_of_keys t (k ∷ ks) = map (source_of_key t) (k ∷ ks)
+
 -- what a note reads: of a lookup each of its keys
 abbrev pub sources_of : Note → List Source
 sources_of (note.Read r) = read_source r ∷ []
-sources_of (note.Met t ks) = map (source_of_key t) ks
+sources_of (note.All t) = all_source t ∷ []
+sources_of (note.Met t ks) = sources_of_keys t ks
 
 -- what notes read
 abbrev pub sources : List Note → List Source
@@ -56,6 +63,7 @@ module _ (names : List (List ℕ)) where
   source_in (read_source (Cell c)) = option_map read.Cell (cell_in c)
   source_in (read_source (Key t c)) = option_map read.Key (column_in t c)
   source_in (read_source (Rows t)) = option_map read.Rows (number_in names t)
+  source_in (all_source t) = option_map read.All (number_in names t)
   source_in (value_source t c b) =
       option_map (λ k. read.Value (record { column = k; bucket = b })) (column_in t c)
   source_in (part_source t c b) =

@@ -4,7 +4,7 @@ ghost use Rattle.std.specs.Prelude.{◌≡◌, [], ℕ, true, OnOk, OnErr, Some,
 ghost use Rattle.std.specs.Option.{option_copied};
 ghost use Rattle.doc_model.specs.Rows.{has, IsAscending};
 ghost use Rattle.std.specs.List.{list_any};
-ghost use Rattle.dep_graph.specs.Graph.{IsDropped, IsKept, IsSet};
+ghost use Rattle.dep_graph.specs.Graph.{IsDropped, IsKept, IsSet, reads_count};
 ghost use Rattle.dep_graph.specs.Names.{number_in};
 ghost use Rattle.dep_graph.specs.Numbers.{is_column};
 ghost use Rattle.dep_graph.specs.Records.{holds, reads_under};
@@ -15,7 +15,7 @@ use crate::names::NameNumbers;
 use crate::noting::{cell_number, note_numbers};
 use crate::numbers::{CellNumber, ColumnNumber, ReadNumber};
 use crate::readers::Readers;
-use crate::records::{Records, forget, record};
+use crate::records::{Records, forget, record, recorded};
 use cell_types::{CellId, Name};
 use formula_eval::NoteList;
 use std::alloc::{AllocError, Global};
@@ -136,5 +136,24 @@ impl DepGraph {
         ensures ascending { IsAscending result.now }
     {
         self.readers.rows(read, column)
+    }
+
+    /// How many reads are recorded of a cell: none of one that has no number.
+    ///
+    /// Memory: none.
+    pub fn reads_count(&self, cell: &CellId) -> usize
+        ensures { result ≡ reads_count self.now cell.now }
+    {
+        match self.column_number(&cell.table, &cell.column) {
+            Some(column) => recorded(
+                &self.reads,
+                CellNumber {
+                    column,
+                    row: cell.row,
+                },
+            )
+            .len(),
+            None => 0,
+        }
     }
 }

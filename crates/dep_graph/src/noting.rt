@@ -2,7 +2,7 @@
 
 ghost use Rattle.std.specs.Prelude.{◌≡◌, ◌∷◌, ◌++◌, [], List, Some, IfOk, OnOk, map};
 ghost use Rattle.dep_graph.specs.Names.{IsGrown, number_in};
-ghost use Rattle.dep_graph.specs.Sources.{AreNumbers, Source, cell_in, column_in, read_source, source_in, source_of_key, sources, sources_of};
+ghost use Rattle.dep_graph.specs.Sources.{AreNumbers, Source, all_source, cell_in, column_in, read_source, source_in, source_of_key, sources, sources_of, sources_of_keys};
 
 use crate::names::NameNumbers;
 use crate::numbers::{CellNumber, ColumnNumber, ReadNumber, ValueNumber};
@@ -86,6 +86,37 @@ fn push_keys(
     Ok(())
 }
 
+fn push_all(
+    names: &mut NameNumbers,
+    table: &Name,
+    reads: &mut Vec<ReadNumber>,
+) -> Result<(), AllocError>
+    ensures ok { (done : List Source) → AreNumbers names.old done reads.old.items → OnOk result
+        (AreNumbers names.new (done ++ all_source table.now ∷ []) reads.new.items) }
+    ensures grown { IsGrown names.old names.new }
+{
+    let number = ReadNumber::All(names.add(table)?);
+    reads.push(number)?;
+    Ok(())
+}
+
+fn push_met(
+    names: &mut NameNumbers,
+    table: &Name,
+    keys: &[KeyItem],
+    reads: &mut Vec<ReadNumber>,
+) -> Result<(), AllocError>
+    ensures ok { (done : List Source) → AreNumbers names.old done reads.old.items → OnOk result
+        (AreNumbers names.new (done ++ sources_of_keys table.now keys.now) reads.new.items) }
+    ensures grown { IsGrown names.old names.new }
+{
+    if keys.is_empty() {
+        push_all(names, table, reads)
+    } else {
+        push_keys(names, table, keys, reads)
+    }
+}
+
 fn push_read(
     names: &mut NameNumbers,
     read: &Read,
@@ -111,7 +142,8 @@ fn push_note(
 {
     match note {
         Note::Read(read) => push_read(names, read, reads),
-        Note::Met { table, keys } => push_keys(names, table, keys.as_slice(), reads),
+        Note::All { table } => push_all(names, table, reads),
+        Note::Met { table, keys } => push_met(names, table, keys.as_slice(), reads),
     }
 }
 

@@ -25,13 +25,14 @@ pub struct ValueNumber {
     pub bucket: u64,
 }
 
-/// What is read: a cell, every cell of a key column, which rows a table has, or which cells of a
-/// key column a value finds.
+/// What is read: a cell, every cell of a key column, which rows a table has, all these rows, or
+/// which cells of a key column a value finds.
 #[derive(Clone, Copy, Debug, Hash)]
 pub enum ReadNumber {
     Cell(CellNumber),
     Key(ColumnNumber),
     Rows(u32),
+    All(u32),
     Value(ValueNumber),
     Part(ValueNumber),
 }
@@ -46,6 +47,7 @@ impl PartialEq for ReadNumber {
             (ReadNumber::Cell(left), ReadNumber::Cell(right)) => left == right,
             (ReadNumber::Key(left), ReadNumber::Key(right)) => left == right,
             (ReadNumber::Rows(left), ReadNumber::Rows(right)) => left == right,
+            (ReadNumber::All(left), ReadNumber::All(right)) => left == right,
             (ReadNumber::Value(left), ReadNumber::Value(right)) => left == right,
             (ReadNumber::Part(left), ReadNumber::Part(right)) => left == right,
             _ => false,

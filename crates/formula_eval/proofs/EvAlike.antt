@@ -1,5 +1,6 @@
 -- The evaluator over two readers.
-use Rattle.std.proofs.Common.{ℕ, zero, suc, pos, true, false, ◌&&◌, ◌||◌, cond, List, [], ◌∷◌, ◌≡◌, refl, ap, Option, Some, None, map}
+use Rattle.std.proofs.Common.{ℕ, zero, suc, pos, Bool, true, false, ◌&&◌, ◌||◌, cond, List, [], ◌∷◌, ◌≡◌, refl, sym, ap, Option, Some, None, map}
+use Rattle.std.proofs.lemmas.Bool.{false≢true}
 use Rattle.std.specs.List.{AllByRecursion, list_all}
 use Rattle.std.specs.Option.{is_some}
 use Rattle.cell_types.specs.declared.cell.CellId.{CellId}
@@ -20,7 +21,7 @@ use Rattle.value_ops.specs.Truth.{truth_of}
 use Rattle.formula_eval.specs.declared.function.Function.{Function}
 use Rattle.formula_eval.specs.declared.function.Function.TheVariants as fn
 use Rattle.formula_eval.specs.Reader.{Reader, cell_at}
-use Rattle.formula_eval.specs.Run.{Stop, Out, gives, raises, Run, out_of, done, seq, collect}
+use Rattle.formula_eval.specs.Run.{Stop, Out, gives, raises, Run, out_of, done, after, seq, collect}
 use Rattle.formula_eval.specs.Reading.{told_out, value_in, read_cell}
 use Rattle.formula_eval.specs.Attribute.{item_of, as_item, listed, column_runs, attribute_of}
 use Rattle.formula_eval.specs.Operator.{is_decided, operated, combined, prefixed, chosen, constant_value}
@@ -120,11 +121,17 @@ module _ (L : Stop → Type 0) (R : Type 0) (x y : Reader) where
   columns_same t (c ∷ cs) h = λ i. (is_id c || is_some (h.0 i)) && columns_same t cs h.1 i
 
   opened_alike : (t : List ℕ) (cs : List (List ℕ)) → IsAlike L R x y (opened x t cs) (opened y t cs)
-  opened_alike t cs =
-      note_alike L R x y (note.Read (Rows t)) _ _
-      (λ rows. seq_alike L R x y (done (in_table (x.rows t))) (done (in_table (y.rows t))) _ _ (done_same L R x y (in_table (x.rows t)) (in_table (y.rows t)) (ap in_table rows))
-      (λ rs. notes_alike L R x y (key_notes t cs) _ _
-      (λ keys. done_same L R x y (with_columns x t cs) (with_columns y t cs) (ap (λ b. cond b (gives true) (raises err.Key)) (columns_same t cs keys)))))
+  opened_alike t cs = note_alike L R x y (note.Read (Rows t)) _ _ (there (x.rows t) (y.rows t))
+    where
+      -- which rows a table has is not looked at here, but that it is there
+      there : (o p : Option (List ℕ)) → is_some o ≡ is_some p
+          → IsAlike L R x y (seq (done (in_table o)) (λ rs. after (key_notes t cs) (done (with_columns x t cs)))) (seq (done (in_table p)) (λ rs. after (key_notes t cs) (done (with_columns y t cs))))
+      there None None e = done_same L R x y {A = Bool} (raises err.Name) (raises err.Name) refl
+      there None (Some q) e = absurd (false≢true e)
+      there (Some q) None e = absurd (false≢true (sym e))
+      there (Some q) (Some r) e =
+          notes_alike L R x y (key_notes t cs) (done (with_columns x t cs)) (done (with_columns y t cs))
+          (λ keys. done_same L R x y (with_columns x t cs) (with_columns y t cs) (ap (λ b. cond b (gives true) (raises err.Key)) (columns_same t cs keys)))
 
   keys_met_alike : (t : List ℕ) (ks : List KeyItem) → IsAlike L R x y (met x t ks) (met y t ks)
   keys_met_alike t ks = note_alike L R x y (note.Met t ks) (done (matched x t ks)) (done (matched y t ks)) (done_alike L R x y (matched x t ks) (matched y t ks))
@@ -137,8 +144,8 @@ module _ (L : Stop → Type 0) (R : Type 0) (x y : Reader) where
 
   all_rows_alike : (t : List ℕ) → IsAlike L R x y (all_rows x t) (all_rows y t)
   all_rows_alike t =
-      note_alike L R x y (note.Read (Rows t)) _ _
-      (λ rows. seq_alike L R x y (done (in_table (x.rows t))) (done (in_table (y.rows t))) _ _ (done_same L R x y (in_table (x.rows t)) (in_table (y.rows t)) (ap in_table rows))
+      notes_alike L R x y (note.Read (Rows t) ∷ note.All t ∷ []) _ _
+      (λ rows. seq_alike L R x y (done (in_table (x.rows t))) (done (in_table (y.rows t))) _ _ (done_same L R x y (in_table (x.rows t)) (in_table (y.rows t)) (ap in_table rows.1.0))
       (λ rs. same (gives (value.RecSet (record { table = t; rows = rs })))))
 
   mutual

@@ -349,7 +349,7 @@ module _ (x : Reader) where
 
   all_rows_named : (pre : List Read) (t : List ℕ) → Named x pre (all_rows x t)
   all_rows_named pre t =
-      after_named pre (note.Read (Rows t) ∷ []) (seq (done (in_table (x.rows t))) (λ rs. done (gives (found look.Records t rs))))
+      after_named pre (note.Read (Rows t) ∷ note.All t ∷ []) (seq (done (in_table (x.rows t))) (λ rs. done (gives (found look.Records t rs))))
       (seq_named (pre ++ Rows t ∷ []) (done (in_table (x.rows t))) _ (table_named (pre ++ Rows t ∷ []) (x.rows t)) (λ rs. tt))
 
   mutual

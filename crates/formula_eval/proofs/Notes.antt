@@ -17,6 +17,7 @@ all_join P (x ∷ xs) ys h g = (h.0, all_join P xs ys h.1 g)
 pub reads_of-append : (l m : List Note) → reads_of (l ++ m) ≡ reads_of l ++ reads_of m
 reads_of-append [] m = refl
 reads_of-append (note.Read q ∷ l) m = ap (λ (qs : List Read). q ∷ qs) (reads_of-append l m)
+reads_of-append (note.All t ∷ l) m = reads_of-append l m
 reads_of-append (note.Met t ks ∷ l) m = reads_of-append l m
 
 -- there is a value

@@ -1,11 +1,14 @@
 -- Readers that tell the same at what the evaluator reads tell the same at all that it notes.
-use Rattle.std.proofs.Common.{ℕ, zero, suc, pos, Bool, true, false, cond, List, [], ◌∷◌, ◌++◌, subst, Option, Some, None, map}
+use Rattle.std.proofs.Common.{ℕ, zero, suc, pos, Bool, true, false, cond, List, [], ◌∷◌, ◌++◌, ap, subst, Option, Some, None, map}
 use Rattle.std.specs.List.{AllByRecursion}
+use Rattle.std.specs.Option.{is_some}
 use Rattle.std.proofs.lemmas.List.{append-nil}
 use Rattle.cell_types.specs.declared.cell.CellId.{CellId}
+use Rattle.cell_types.specs.declared.cell.KeyItem.{KeyItem}
+use Rattle.cell_types.specs.declared.cell.Read.{Read}
 use Rattle.formula_eval.specs.declared.note.Note.{Note}
 use Rattle.formula_eval.specs.declared.note.Note.TheVariants as note
-use Rattle.cell_types.specs.declared.cell.Read.TheVariants.{Cell, Rows}
+use Rattle.cell_types.specs.declared.cell.Read.TheVariants.{Cell, Key, Rows}
 use Rattle.cell_types.specs.declared.value.CellValue.{CellValue}
 use Rattle.cell_types.specs.declared.value.CellValue.TheVariants as value
 use Rattle.cell_types.specs.declared.value.ErrKind.TheVariants as err
@@ -30,26 +33,29 @@ use Rattle.formula_eval.specs.Lookup.{in_table, with_columns, KeyForm, columns_o
 use Rattle.formula_eval.specs.Eval.{is_containing, count_of, forms_of, ev, ev_each, ev_keys, ev_arguments, as_result, evaluated}
 use Rattle.formula_eval.specs.Likeness.{IsJoined, IsAlikeNote, IsAlikeRead}
 use Rattle.formula_eval.proofs.Notes.{all_append, all_join, reads_of-append, IsGives}
-use Rattle.formula_eval.proofs.MatchedAlike.{AreAlikeKeys, matched_alike}
+use Rattle.formula_eval.proofs.MatchedAlike.{matched_alike}
 
-module _ (L : Stop → Type 0) (R : Type 0) (joined : IsJoined L) (x y : Reader) where
+-- what holds at each read among notes holds, in another form, at each note: of rows that are all taken by the read of
+-- rows, and of keys that are met by that and the reads of their columns
+module _ (P : Read → Type 0) (Q : Note → Type 0) (of_read : (q : Read) → P q → Q (note.Read q)) (of_all : (t : List ℕ) → P (Rows t) → Q (note.All t))
+    (of_met : (t : List ℕ) (ks : List KeyItem) → P (Rows t) → AllByRecursion (λ k. P (Key t k.column)) ks → Q (note.Met t ks)) (x : Reader) where
   abbrev AtReads : List Note → Type 0
-  AtReads l = AllByRecursion (IsAlikeRead L R x y) (reads_of l)
+  AtReads l = AllByRecursion P (reads_of l)
 
   abbrev AtNotes : List Note → Type 0
-  AtNotes l = AllByRecursion (IsAlikeNote L R x y) l
+  AtNotes l = AllByRecursion Q l
 
   -- what is told alike at the reads among notes is told alike at them all
   abbrev Covers : List Note → Type 0
   Covers l = AtReads l → AtNotes l
 
   split : (l m : List Note) → AtReads (l ++ m) → AtReads l × AtReads m
-  split l m all = all_append (IsAlikeRead L R x y) (reads_of l) (reads_of m) (subst (λ qs. AllByRecursion (IsAlikeRead L R x y) qs) (reads_of-append l m) all)
+  split l m all = all_append P (reads_of l) (reads_of m) (subst (λ qs. AllByRecursion P qs) (reads_of-append l m) all)
 
   onward_covers : {A B : Type 0} (o : Out A) (l : List Note) (k : A → Run B) → Covers l → ((v : A) → IsGives o → AtReads l → Covers (k v).notes) → Covers (onward o l k).notes
   onward_covers (gives v) l k h each all =
       let parts = split l (k v).notes all in
-      all_join (IsAlikeNote L R x y) l (k v).notes (h parts.0) (each v tt parts.0 parts.1)
+      all_join Q l (k v).notes (h parts.0) (each v tt parts.0 parts.1)
   onward_covers (raises e) l k h each all = h all
   onward_covers (stops s) l k h each all = h all
 
@@ -60,7 +66,7 @@ module _ (L : Stop → Type 0) (R : Type 0) (joined : IsJoined L) (x y : Reader)
   after_covers : {A : Type 0} (l : List Note) (a : Run A) → Covers l → Covers a.notes → Covers (after l a).notes
   after_covers l a h g all =
       let parts = split l a.notes all in
-      all_join (IsAlikeNote L R x y) l a.notes (h parts.0) (g parts.1)
+      all_join Q l a.notes (h parts.0) (g parts.1)
 
   caught_covers : {A : Type 0} (o : Out A) (l : List Note) (b : Run A) → Covers l → Covers b.notes → Covers (caught o l b).notes
   caught_covers (gives v) l b h g all = h all
@@ -81,7 +87,7 @@ module _ (L : Stop → Type 0) (R : Type 0) (joined : IsJoined L) (x y : Reader)
 
   read_covers : (c : CellId) → Covers (read_cell x c).notes
   read_covers c =
-      after_covers (note.Read (Cell c) ∷ []) (seq (done (told_out c (x.cell c))) (λ o. done (value_in (x.kind c.table c.column) o))) (λ all. (all.0, tt))
+      after_covers (note.Read (Cell c) ∷ []) (seq (done (told_out c (x.cell c))) (λ o. done (value_in (x.kind c.table c.column) o))) (λ all. (of_read (Cell c) all.0, tt))
       (seq_covers (done (told_out c (x.cell c))) (λ o. done (value_in (x.kind c.table c.column) o)) no_notes (λ o. no_notes))
 
   items_covered : (l : List (Run CellValue)) → AreCovered l → AreCovered (map as_item l)
@@ -145,10 +151,13 @@ module _ (L : Stop → Type 0) (R : Type 0) (joined : IsJoined L) (x y : Reader)
 
   keys_covered : (t : List ℕ) (cs : List (List ℕ)) → Covers (key_notes t cs)
   keys_covered t [] = no_notes
-  keys_covered t (c ∷ cs) = λ all. (all.0.0, keys_covered t cs all.1)
+  keys_covered t (c ∷ cs) = λ all. (of_read (Key t c) all.0, keys_covered t cs all.1)
 
   rows_covered : (t : List ℕ) → Covers (note.Read (Rows t) ∷ [])
-  rows_covered t = λ all. (all.0, tt)
+  rows_covered t = λ all. (of_read (Rows t) all.0, tt)
+
+  all_covered : (t : List ℕ) → Covers (note.Read (Rows t) ∷ note.All t ∷ [])
+  all_covered t = λ all. (of_read (Rows t) all.0, (of_all t all.0, tt))
 
   opened_covers : (t : List ℕ) (cs : List (List ℕ)) → Covers (opened x t cs).notes
   opened_covers t cs =
@@ -160,25 +169,25 @@ module _ (L : Stop → Type 0) (R : Type 0) (joined : IsJoined L) (x y : Reader)
   opened_reads : (t : List ℕ) (cs : List (List ℕ)) (o : Option (List ℕ)) (b : Out Bool)
       → IsGives (after (note.Read (Rows t) ∷ []) (seq (done (in_table o)) (λ rs. after (key_notes t cs) (done b)))).out
       → AtReads (after (note.Read (Rows t) ∷ []) (seq (done (in_table o)) (λ rs. after (key_notes t cs) (done b)))).notes
-      → IsAlikeRead L R x y (Rows t) × AtReads (key_notes t cs)
+      → P (Rows t) × AtReads (key_notes t cs)
   opened_reads t cs None b h all = absurd h
   opened_reads t cs (Some rs) b h all = (all.0, subst AtReads (append-nil (key_notes t cs)) all.1)
 
-  keys_alike : (t : List ℕ) (fs : List KeyForm) (vs : List CellValue) → AtReads (key_notes t (columns_of fs)) → AreAlikeKeys L R joined x y t (keyed fs vs)
-  keys_alike t [] vs h = tt
-  keys_alike t (f ∷ fs) [] h = tt
-  keys_alike t (f ∷ fs) (v ∷ vs) h = (h.0, keys_alike t fs vs h.1)
+  keys_hold : (t : List ℕ) (fs : List KeyForm) (vs : List CellValue) → AtReads (key_notes t (columns_of fs)) → AllByRecursion (λ k. P (Key t k.column)) (keyed fs vs)
+  keys_hold t [] vs h = tt
+  keys_hold t (f ∷ fs) [] h = tt
+  keys_hold t (f ∷ fs) (v ∷ vs) h = (h.0, keys_hold t fs vs h.1)
 
   looked_up_covers : (t : List ℕ) (fs : List KeyForm) (l : List (Run CellValue)) → AreCovered l → Covers (looked_up x t fs l).notes
   looked_up_covers t fs l h =
       onward_covers (opened x t (columns_of fs)).out (opened x t (columns_of fs)).notes _ (opened_covers t (columns_of fs))
       (λ b there reads. seq_covers (collect l) (λ vs. met x t (keyed fs vs)) (collect_covers l h)
       (λ vs all. let told = opened_reads t (columns_of fs) (x.rows t) (with_columns x t (columns_of fs)) there reads in
-      (matched_alike L R joined x y t (keyed fs vs) told.0 (keys_alike t fs vs told.1), tt)))
+      (of_met t (keyed fs vs) told.0 (keys_hold t fs vs told.1), tt)))
 
   all_rows_covers : (t : List ℕ) → Covers (all_rows x t).notes
   all_rows_covers t =
-      after_covers (note.Read (Rows t) ∷ []) (seq (done (in_table (x.rows t))) (λ rs. done (gives (found look.Records t rs)))) (rows_covered t)
+      after_covers (note.Read (Rows t) ∷ note.All t ∷ []) (seq (done (in_table (x.rows t))) (λ rs. done (gives (found look.Records t rs)))) (all_covered t)
       (seq_covers (done (in_table (x.rows t))) (λ rs. done (gives (found look.Records t rs))) no_notes (λ rs. no_notes))
 
   mutual
@@ -227,5 +236,15 @@ module _ (L : Stop → Type 0) (R : Type 0) (joined : IsJoined L) (x y : Reader)
     arguments_covered at (atom a) = tt
 
   -- the same of whole formulas
+  pub evaluated_notes : (at : RowRef) (f : Tree) → AllByRecursion P (reads_of (evaluated x at f).notes) → AllByRecursion Q (evaluated x at f).notes
+  evaluated_notes at f = seq_covers (ev x at f) (λ v. done (as_result v)) (ev_covers at f) (λ v. no_notes)
+
+-- readers that tell the same at what a formula reads
+module _ (L : Stop → Type 0) (R : Type 0) (joined : IsJoined L) (x y : Reader) where
+  at_note : (q : Read) → IsAlikeRead L R x y q → IsAlikeNote L R x y (note.Read q)
+  at_note (Cell c) h = h
+  at_note (Key t c) h = h.0
+  at_note (Rows t) h = ap is_some h
+
   pub evaluated_covers : (at : RowRef) (f : Tree) → AllByRecursion (IsAlikeRead L R x y) (reads_of (evaluated x at f).notes) → AllByRecursion (IsAlikeNote L R x y) (evaluated x at f).notes
-  evaluated_covers at f = seq_covers (ev x at f) (λ v. done (as_result v)) (ev_covers at f) (λ v. no_notes)
+  evaluated_covers = evaluated_notes (IsAlikeRead L R x y) (IsAlikeNote L R x y) at_note (λ t h. h) (matched_alike L R joined x y) x

@@ -1,11 +1,16 @@
 -- The laws of evaluation by text.
 use Rattle.std.proofs.Common.{ℕ, List, [], Option, Some, None, refl, ap}
 use Rattle.std.specs.List.{AllByRecursion}
+use Rattle.cell_types.specs.declared.cell.KeyItem.{KeyItem}
+use Rattle.cell_types.specs.declared.cell.Read.{Read}
+use Rattle.cell_types.specs.declared.cell.Read.TheVariants.{Key, Rows}
 use Rattle.cell_types.specs.declared.value.ErrKind.TheVariants as err
 use Rattle.cell_types.specs.declared.value.RowRef.{RowRef}
 use Rattle.formula_parse.specs.FormulaOf.{formula_of}
 use Rattle.formula_parse.specs.Tree.{Tree}
 use Rattle.value_ops.specs.Raising.{IsValue}
+use Rattle.formula_eval.specs.declared.note.Note.{Note}
+use Rattle.formula_eval.specs.declared.note.Note.TheVariants as note
 use Rattle.formula_eval.specs.Reader.{Reader}
 use Rattle.formula_eval.specs.Run.{Stop, raises, reads_of}
 use Rattle.formula_eval.specs.OfText.{evaluated_some, evaluated_text}
@@ -15,7 +20,7 @@ use Rattle.formula_eval.specs.Obeys.{Obeys}
 use Rattle.formula_eval.specs.Laws.{any_stop, IsOfText}
 use Rattle.formula_eval.proofs.Alike.{done_same}
 use Rattle.formula_eval.proofs.EvAlike.{evaluated_alike}
-use Rattle.formula_eval.proofs.ReadsAlike.{evaluated_covers}
+use Rattle.formula_eval.proofs.ReadsAlike.{evaluated_covers, evaluated_notes}
 use Rattle.formula_eval.proofs.Named.{evaluated_named}
 use Rattle.formula_eval.proofs.Obeys.{evaluated_obeys}
 use Rattle.cell_types.specs.declared.value.CellValue.{CellValue}
@@ -38,6 +43,17 @@ module _ (L : Stop → Type 0) (R : Type 0) (x y : Reader) (at : RowRef) where
   pub text_covers : IsJoined L → (text : List ℕ) → AllByRecursion (IsAlikeRead L R x y) (reads_of (evaluated_text x at text).notes) → AllByRecursion (IsAlikeNote L R x y) (evaluated_text x at text).notes
   unfolding evaluated_text
   text_covers joined text = some_covers joined (formula_of text)
+
+-- what holds at each read of a text holds, in another form, at each of its notes
+module _ (P : Read → Type 0) (Q : Note → Type 0) (of_read : (q : Read) → P q → Q (note.Read q)) (of_all : (t : List ℕ) → P (Rows t) → Q (note.All t))
+    (of_met : (t : List ℕ) (ks : List KeyItem) → P (Rows t) → AllByRecursion (λ k. P (Key t k.column)) ks → Q (note.Met t ks)) (x : Reader) (at : RowRef) where
+  some_notes : (o : Option Tree) → AllByRecursion P (reads_of (evaluated_some x at o).notes) → AllByRecursion Q (evaluated_some x at o).notes
+  some_notes None h = tt
+  some_notes (Some f) h = evaluated_notes P Q of_read of_all of_met x at f h
+
+  pub text_notes : (text : List ℕ) → AllByRecursion P (reads_of (evaluated_text x at text).notes) → AllByRecursion Q (evaluated_text x at text).notes
+  unfolding evaluated_text
+  text_notes text = some_notes (formula_of text)
 
 module _ (x : Reader) (at : RowRef) where
   some_named : (o : Option Tree) → Named x [] (evaluated_some x at o)

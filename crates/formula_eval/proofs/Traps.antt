@@ -82,7 +82,7 @@ unfolding X2.id_word X3.function_of X4.contains_word X4.result_bound
 needs = refl
 
 -- Q.all of a table that is not there, and an attribute of P.all
-no_such_table : evaluated small at (every (codes "Q")) ≡ record { out = raises err.Name; notes = note.Read (Rows (codes "Q")) ∷ [] }
+no_such_table : evaluated small at (every (codes "Q")) ≡ record { out = raises err.Name; notes = note.Read (Rows (codes "Q")) ∷ note.All (codes "Q") ∷ [] }
 unfolding X2.id_word X3.function_of X4.contains_word X4.result_bound
 no_such_table = refl
 

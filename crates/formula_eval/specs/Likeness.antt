@@ -1,5 +1,5 @@
 -- When two readers make the evaluator run alike, up to where it stops.
-use Rattle.std.specs.Prelude.{ℕ, List, [], ◌∷◌, ◌++◌, ◌≡◌, ◌⊎◌}
+use Rattle.std.specs.Prelude.{ℕ, List, [], ◌∷◌, ◌++◌, ◌≡◌, ◌⊎◌, is_some}
 use Rattle.std.specs.List.{AllByRecursion}
 use Rattle.cell_types.specs.declared.cell.CellId.{CellId}
 use Rattle.cell_types.specs.declared.cell.Read.{Read}
@@ -56,12 +56,13 @@ module _ (L : Stop → Type 0) (R : Type 0) where
     IsAlikeRead (Key t c) = IsAlikeColumn t c × ((r : ℕ) → IsAlikeCell (cell_at t c r))
     IsAlikeRead (Rows t) = x.rows t ≡ y.rows t
 
-    -- they tell the same at a note: of a key column the type alone, and of keys that are met which
-    -- rows meet them
+    -- they tell the same at a note: of a key column the type alone, of a table that it is there,
+    -- all its rows where these are taken, and of keys that are met which rows meet them
     abbrev pub IsAlikeNote : Note → Type 0
     IsAlikeNote (note.Read (Cell c)) = IsAlikeColumn c.table c.column × IsAlikeCell c
     IsAlikeNote (note.Read (Key t c)) = IsAlikeColumn t c
-    IsAlikeNote (note.Read (Rows t)) = x.rows t ≡ y.rows t
+    IsAlikeNote (note.Read (Rows t)) = is_some (x.rows t) ≡ is_some (y.rows t)
+    IsAlikeNote (note.All t) = x.rows t ≡ y.rows t
     IsAlikeNote (note.Met t ks) = IsAlikeOut (matched x t ks) (matched y t ks)
 
     -- runs that are alike where the readers are at the notes of the first

@@ -164,8 +164,8 @@ found_out k t (stops s) = stops s
 abbrev pub given : LookupKind → List ℕ → Run (List ℕ) → Run CellValue
 given k t a = seq a (λ rs. done (gives (found k t rs)))
 
--- all rows of a table
+-- all rows of a table, which is noted beside the read
 abbrev pub all_rows : Reader → List ℕ → Run CellValue
 all_rows reader t =
-    after (note.Read (Rows t) ∷ [])
+    after (note.Read (Rows t) ∷ note.All t ∷ [])
     (seq (done (in_table (reader.rows t))) (λ rs. done (gives (found look.Records t rs))))

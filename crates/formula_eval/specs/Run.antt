@@ -24,6 +24,7 @@ pub record Run (A : Type 0) : Type 0 where
 abbrev pub reads_of : List Note → List Read
 reads_of [] = []
 reads_of (note.Read q ∷ notes) = q ∷ reads_of notes
+reads_of (note.All t ∷ notes) = reads_of notes
 reads_of (note.Met t ks ∷ notes) = reads_of notes
 
 -- the cell is one of them

@@ -25,6 +25,10 @@ pub trait NoteKeeper {
         ensures { OnOk result
             (noted self.new ≡ noted self.old ++ Note.Read (Rows table.now) ∷ []) };
 
+    /// All rows of a table, taken.
+    fn all(&mut self, table: &Name) -> Result<(), AllocError>
+        ensures { OnOk result (noted self.new ≡ noted self.old ++ Note.All table.now ∷ []) };
+
     /// A read of the keys of a column.
     fn key(&mut self, table: &Name, column: &Name) -> Result<(), AllocError>
         ensures { OnOk result
@@ -46,6 +50,12 @@ impl NoteKeeper for NoteList {
     fn rows(&mut self, table: &Name) -> Result<(), AllocError> {
         let table = table.clone()?;
         self.push(Note::Read(Read::Rows { table }))?;
+        Ok(())
+    }
+
+    fn all(&mut self, table: &Name) -> Result<(), AllocError> {
+        let table = table.clone()?;
+        self.push(Note::All { table })?;
         Ok(())
     }
 
@@ -102,6 +112,12 @@ impl NoteKeeper for LookupNotes {
 
     fn rows(&mut self, table: &Name) -> Result<(), AllocError> {
         let unkept = Unkept::Rows(Snapshot::of(table));
+        self.all.push(Snapshot::of(&unkept))?;
+        Ok(())
+    }
+
+    fn all(&mut self, table: &Name) -> Result<(), AllocError> {
+        let unkept = Unkept::All(Snapshot::of(table));
         self.all.push(Snapshot::of(&unkept))?;
         Ok(())
     }

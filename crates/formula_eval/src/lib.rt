@@ -6,12 +6,13 @@
 //! Promises: `attempt` gives the value that specs/Eval.antt says for a formula in a row, with all
 //! that was read on the way, or a cell that is needed first, in one counted step; `attempt_noting`
 //! the same, where a keeper of the caller's takes what is noted. Beside the reads a run notes the
-//! keys of each lookup with their values. `scan` answers the lookups of every
-//! source of cells, `scan_among` looks at given rows alone. Five laws hold by a formula's text:
-//! readers that tell the same at what a run notes make the same run; those that tell the same at
-//! what it reads do so at all that it notes; cells that are needed are named by a read; no error is
-//! given as a value, and none raised is that of a circular cell; a text without a formula raises a
-//! syntax error and reads nothing.
+//! keys of each lookup with their values, and each table of which it takes all rows. `scan` answers
+//! the lookups of every source of cells, `scan_among` looks at given rows alone. Five laws hold by
+//! a formula's text: readers that tell the same at what a run notes make the same run (a lookup
+//! asks of its table that it is there, and then which rows meet its keys); those that tell the same
+//! at what it reads do so at all that it notes; cells that are needed are named by a read; no error
+//! is given as a value, and none raised is that of a circular cell; a text without a formula raises
+//! a syntax error and reads nothing.
 //! Not promised: which of several needed key cells a lookup names. The value is not yet fitted to
 //! its column.
 //! Read first: reader.rt, then attempting.rt and evaluate.rt.

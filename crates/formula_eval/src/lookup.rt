@@ -27,6 +27,7 @@ pub(crate) fn all_rows<R: CellReader, N: NoteKeeper>(
         (all_rows (R.told reader.now) table.now) }
 {
     notes.rows(table)?;
+    notes.all(table)?;
     match reader.rows(table) {
         Some(rows) => Ok(all_of(alloc, table, rows)?),
         None => Err(Halt::Raised(ErrKind::Name)),

@@ -7,6 +7,7 @@ use std::snapshot::Snapshot;
 #[derive(Drop)]
 pub enum Unkept {
     Rows(Snapshot<Name>),
+    All(Snapshot<Name>),
     Key(Snapshot<Name>, Snapshot<Name>),
     Cell(Snapshot<Name>, Snapshot<Name>, u32),
     Met(Snapshot<Name>, Snapshot<KeyList>),

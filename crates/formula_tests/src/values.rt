@@ -371,7 +371,7 @@ static NOTES: [(&str, &str); 14] = [
     ("$id", ""),
     ("$RL.N", "CCC"),
     ("$Nope", "C"),
-    ("P.all", "R"),
+    ("P.all", "RA"),
     ("Q.lookupRecords(K=1)", "R"),
     ("P.lookupRecords(Nope=$N, K=1)", "RKK"),
     ("P.lookupRecords(K=$N, id=1)", "RKKCM"),
@@ -384,6 +384,7 @@ fn letter(note: &Note) -> char {
         Note::Read(Read::Cell(_)) => 'C',
         Note::Read(Read::Key { .. }) => 'K',
         Note::Read(Read::Rows { .. }) => 'R',
+        Note::All { .. } => 'A',
         Note::Met { .. } => 'M',
     }
 }

@@ -1,5 +1,5 @@
 -- What a search from the reads that an action touches tells of the action.
-use Rattle.std.proofs.Common.{ℕ, Bool, true, false, ◌||◌, List, [], ◌∷◌, ◌≡◌, inl, inr, refl, sym, ap, ◌∙◌, subst, Option, Some, None, Vec, Global, IfSome}
+use Rattle.std.proofs.Common.{Bool, true, false, List, [], ◌∷◌, ◌≡◌, inl, inr, refl, sym, ap, ◌∙◌, subst, Option, Some, None, Vec, Global, IfSome}
 use Rattle.std.proofs.lemmas.Bool.{false≢true, or_cases, or_left, or_right}
 use Rattle.std.specs.List.{list_any}
 use Rattle.std.specs.Option.{is_some}
@@ -25,13 +25,13 @@ use Rattle.dep_graph.specs.Numbers.{is_read}
 use Rattle.dep_graph.specs.Records.{holds, reads_under}
 use Rattle.dep_graph.specs.Sources.{cell_in, read_source, source_in}
 use Rattle.affected_search.specs.Actions.{FindsAffected, HoldsNoOther, KeepsOthers}
-use Rattle.affected_search.specs.Reached.{ReadLists, is_among, reads_one, IsAffected}
-use Rattle.affected_search.specs.Sheets.{has_number, ListsOnlyTouched, ListsTouched}
+use Rattle.affected_search.specs.Reached.{IsAffected}
+use Rattle.affected_search.specs.Sheets.{has_number, HoldsReads, ListsOnlyTouched, ListsTouched}
 use Rattle.affected_search.specs.TouchedReads.{AreTouched}
-use Rattle.affected_search.proofs.SheetLaws.{found_law}
+use Rattle.affected_search.proofs.SheetLaws.{found_keeps}
 use Rattle.affected_search.proofs.WithinLaws.{any_weaker, within_law}
 
-any_at : (p : ReadNumber → Bool) (numbers : List ReadNumber) (n : ReadNumber) → holds numbers n ≡ true → p n ≡ true → list_any p numbers ≡ true
+pub any_at : (p : ReadNumber → Bool) (numbers : List ReadNumber) (n : ReadNumber) → holds numbers n ≡ true → p n ≡ true → list_any p numbers ≡ true
 any_at p [] n there h = absurd (false≢true there)
 any_at p (m ∷ numbers) n there h = elim (or_cases (is_read n m) (holds numbers n) there) [
   | inl here ↦ or_left (p m) (list_any p numbers) (subst (λ q. p q ≡ true) (same_read n m here) h)
@@ -66,6 +66,7 @@ module _ (graph : Graph) (touched : Read → Bool) (numbers : List ReadNumber) (
     by_number c k is (read.Cell d) there h = any_touched c (read.Cell d) there (exact.only.cell c k d is h)
     by_number c k is (read.Key j) there h = any_touched c (read.Key j) there (exact.only.key c k j is h)
     by_number c k is (read.Rows t) there h = any_touched c (read.Rows t) there (exact.rows c k t is h)
+    by_number c k is (read.All t) there h = absurd (false≢true (sym (are.all t) ∙ there))
     by_number c k is (read.Value v) there h = absurd (false≢true (sym (are.value v) ∙ there))
     by_number c k is (read.Part v) there h = absurd (false≢true (sym (are.part v) ∙ there))
 
@@ -78,8 +79,8 @@ module _ (graph : Graph) (a : DocAction) (numbers : List ReadNumber) (cells : Li
     (right : (s : Document) → valid s a ≡ true → TouchesRight s a)
     (are : (s : Document) → AreTouched graph.names (is_touched s a) numbers)
     (found : IsAffected graph.reads numbers cells) where
-  pub keeps_others : KeepsOthers graph a cells
-  keeps_others s ok held = found_law s a graph numbers cells (right s ok) held (lists graph (is_touched s a) numbers (are s)) found.closed
+  pub keeps_others : (s : Document) → HoldsReads graph (sheet_of s) → KeepsOthers s graph a cells
+  keeps_others s held ok = found_keeps s a graph numbers cells (right s ok) held (lists graph (is_touched s a) numbers (are s)) found.closed
 
   pub finds_affected : FindsAffected graph a cells
   finds_affected s ok exact c k f e is there =
@@ -100,7 +101,7 @@ record_right (ModifyColumn t c info) h s ok = absurd (false≢true h)
 
 -- the search from the reads that were listed of an action on records
 pub found_by : (graph : Graph) (a : DocAction) (o : Option (Vec ReadNumber Global)) (reads : Vec ReadNumber Global) (numbers : List ReadNumber) (cells : List CellNumber) → o ≡ Some reads → is_some o ≡ is_record a
-    → IfSome o (λ v. (s : Document) → AreTouched graph.names (is_touched s a) v.items) → numbers ≡ reads.items → IsAffected graph.reads numbers cells → KeepsOthers graph a cells × FindsAffected graph a cells
+    → IfSome o (λ v. (s : Document) → AreTouched graph.names (is_touched s a) v.items) → numbers ≡ reads.items → IsAffected graph.reads numbers cells → ((s : Document) → HoldsReads graph (sheet_of s) → KeepsOthers s graph a cells) × FindsAffected graph a cells
 found_by graph a o reads numbers cells is of_records touched same found =
     let right = record_right a (sym of_records ∙ ap is_some is) in
     let listed : (s : Document) → AreTouched graph.names (is_touched s a) reads.items = subst (λ p. IfSome p (λ (v : Vec ReadNumber Global). (s : Document) → AreTouched graph.names (is_touched s a) v.items)) is touched in

@@ -3,8 +3,13 @@ pub mod ColumnLaws
 pub mod FoundLaws
 pub mod LosingLaws
 pub mod NarrowLaws
+pub mod NotedLaws
 pub mod ReachedLaws
+pub mod RecordReads
 pub mod RecordingLaws
+pub mod RecordsListed
+pub mod RowFlats
+pub mod RowValueLaws
 pub mod SearchLaws
 pub mod SheetLaws
 pub mod TouchedLaws

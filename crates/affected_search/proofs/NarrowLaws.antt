@@ -31,8 +31,8 @@ use Rattle.doc_readers.specs.Parts.{grid_at}
 use Rattle.recalc.specs.Cells.{cell_of}
 use Rattle.recalc.specs.Evaluated.{base_at, filled, formula_at, formula_in, sheet_of, value_of}
 use Rattle.recalc.specs.InOrder.{in_order}
-use Rattle.recalc.specs.Lost.{all_cells, column_after, differs, is_lost, table_after}
-use Rattle.recalc.specs.MayLose.{is_record, may_lose, may_lose_column, may_lose_row}
+use Rattle.recalc.specs.Lost.{all_cells, differs, is_lost}
+use Rattle.recalc.specs.MayLose.{is_record, may_lose, may_lose_row}
 use Rattle.recalc.specs.Seen.{value_told}
 use Rattle.recalc.specs.Sheet.{Values, told_by}
 use Rattle.recalc.specs.Watched.{is_computed}
@@ -40,13 +40,13 @@ use Rattle.recalc.proofs.FilledCells.{filled_told}
 use Rattle.recalc.proofs.FilledLemmas.{filled_table, find_filled}
 use Rattle.recalc.proofs.MayLoseCells.{among_these, row_left}
 use Rattle.recalc.proofs.WatchedCells.{each_cells, filter_watched, grid_filled}
-use Rattle.affected_cells.specs.Affected.{is_fresh_cell, is_modified}
+use Rattle.affected_cells.specs.Affected.{is_fresh_cell}
 use Rattle.affected_cells.proofs.Tests.{found_once}
 use Rattle.dep_graph.specs.declared.numbers.CellNumber.{CellNumber}
 use Rattle.dep_graph.specs.Graph.{Graph}
 use Rattle.affected_search.specs.Actions.{KeepsOthers}
 use Rattle.affected_search.specs.Narrow.{NarrowLaw, is_narrow, is_written}
-use Rattle.affected_search.specs.Sheets.{HoldsReads, is_found}
+use Rattle.affected_search.specs.Sheets.{is_found}
 
 -- ---- where a test in front leaves a filter as it is, it passes all that the filter keeps
 
@@ -97,7 +97,7 @@ same_names (RemoveColumn t c) h w o = absurd (false≢true h)
 same_names (RenameColumn t c new) h w o = absurd (false≢true h)
 same_names (ModifyColumn t c info) h w o = absurd (false≢true h)
 
-old_cell : (s : Document) (a : DocAction) → is_record a ≡ true → (c : _) (f : List ℕ) → (sheet_of s).formula c ≡ Some f → is_fresh_cell s a c ≡ false
+pub old_cell : (s : Document) (a : DocAction) → is_record a ≡ true → (c : _) (f : List ℕ) → (sheet_of s).formula c ≡ Some f → is_fresh_cell s a c ≡ false
 old_cell s (BulkAdd t rows ks) h c f e = ap (λ (o : Option (List ℕ)). not (is_some o) || false) e
 old_cell s (BulkUpdate t rows ks) h c f e = ap (λ (o : Option (List ℕ)). not (is_some o) || false) e
 old_cell s (BulkRemove t rows) h c f e = ap (λ (o : Option (List ℕ)). not (is_some o) || false) e
@@ -182,7 +182,7 @@ module _ (s : Document) (whole : IsWhole s) (t c : List ℕ) (r : ℕ) (x : Tabl
 -- ---- the law
 
 module _ (s : Document) (a : DocAction) (graph : Graph) (cells : List CellNumber) (whole : IsWhole s) (ok : valid s a ≡ true) (of_records : is_record a ≡ true)
-    (held : HoldsReads graph (sheet_of s)) (keeps : KeepsOthers graph a cells) where
+    (keeps : KeepsOthers s graph a cells) where
   abbrev after : Document
   after = apply s a
 
@@ -208,7 +208,7 @@ module _ (s : Document) (a : DocAction) (graph : Graph) (cells : List CellNumber
 
       same : value_of after t c r ≡ value_of s t c r
       unfolding value_of
-      same = (keeps s ok held (cell_of t c r) d.info.formula now (old_cell s a of_records (cell_of t c r) d.info.formula before) parts.0).0
+      same = (keeps ok (cell_of t c r) d.info.formula now (old_cell s a of_records (cell_of t c r) d.info.formula before) parts.0).0
 
       old : (cell_there t c r s).old ≡ value_of s t c r
       old = found_once (cell_there t c r s).old (value_of s t c r) (sym (shown t c r s x d at found here) ∙ value_there t c r s d.info.formula before)
@@ -238,5 +238,5 @@ module _ (s : Document) (a : DocAction) (graph : Graph) (cells : List CellNumber
           by false is = may (ap (λ b. b || is_written (filled s) a o) is ∙ (or_parts (is_found graph cells o.cell) (is_written (filled s) a o) narrow).1)
 
 pub narrow_law : NarrowLaw
-narrow_law s a graph cells whole ok of_records held keeps =
-    filter_watched (is_lost (filled (apply s a)) a) (is_narrow graph cells (filled s) a) (all_cells (filled s)) (each_narrow s a graph cells whole ok of_records held keeps)
+narrow_law s a graph cells whole ok of_records keeps =
+    filter_watched (is_lost (filled (apply s a)) a) (is_narrow graph cells (filled s) a) (all_cells (filled s)) (each_narrow s a graph cells whole ok of_records keeps)

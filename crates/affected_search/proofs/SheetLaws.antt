@@ -1,5 +1,5 @@
 -- What is found by the graph of a sheet's reads is closed in the sheet.
-use Rattle.std.proofs.Common.{ℕ, Bool, true, false, not, ◌&&◌, ◌||◌, List, [], ◌∷◌, ◌++◌, map, ◌≡◌, inl, inr, sym, ap, ◌∙◌, subst, Option, Some, None}
+use Rattle.std.proofs.Common.{ℕ, Bool, true, false, not, ◌&&◌, ◌||◌, List, [], ◌∷◌, ◌++◌, ◌≡◌, inl, inr, sym, ap, ◌∙◌, subst, Option, Some, None}
 use Rattle.std.proofs.lemmas.Bool.{false≢true, or_left, or_right, or_parts, or_from}
 use Rattle.std.specs.List.{AllByRecursion}
 use Rattle.std.specs.Option.{option_map, is_some}
@@ -21,11 +21,11 @@ use Rattle.recalc.specs.Sheet.{Sheet, reads}
 use Rattle.recalc.proofs.SheetLemmas.{is_sheet}
 use Rattle.affected_cells.specs.Affected.{is_fresh_cell, is_modified}
 use Rattle.affected_cells.specs.Touched.{is_touched}
-use Rattle.affected_cells.specs.TouchedRight.{IsSameCell, IsTouchedRight}
+use Rattle.affected_cells.specs.TouchedRight.{IsSameCell, IsTouchedRight, TouchesRight}
 use Rattle.affected_cells.specs.Untouched as sheet
 use Rattle.affected_cells.specs.Untouched.{IsUntouchedCell, IsUntouched}
 use Rattle.affected_cells.proofs.Tests.{all_weaker, found_once}
-use Rattle.affected_cells.proofs.Unaffected.{unaffected_law}
+use Rattle.affected_cells.proofs.Unaffected.{closed_by_notes, reads_noted, unaffected_notes_law}
 use Rattle.dep_graph.specs.declared.numbers.CellNumber.{CellNumber}
 use Rattle.dep_graph.specs.declared.numbers.ColumnNumber.{ColumnNumber}
 use Rattle.dep_graph.specs.declared.numbers.ReadNumber.{ReadNumber}
@@ -34,7 +34,8 @@ use Rattle.dep_graph.specs.Graph.{Graph}
 use Rattle.dep_graph.specs.NumberLaws.{read_itself}
 use Rattle.dep_graph.specs.Numbers.{is_read}
 use Rattle.dep_graph.specs.Records.{holds, reads_under}
-use Rattle.dep_graph.specs.Sources.{AreNumbers, Source, cell_in, column_in, read_source, source_in, source_of_key, sources}
+use Rattle.dep_graph.specs.Sources.{AreNumbers, Source, all_source, cell_in, column_in, read_source, source_in, sources, sources_of_keys}
+use Rattle.affected_search.specs.Noted.{KeepsNotes}
 use Rattle.affected_search.specs.Reached.{is_among, reads_naming, reads_one, IsClosed}
 use Rattle.affected_search.specs.Sheets.{IsHeld, HoldsReads, ListsTouched, is_found, HeldLaw, FoundLaw}
 
@@ -46,14 +47,14 @@ module _ (graph : Graph) (numbers : List ReadNumber) (cells : List CellNumber) (
     apart : (d : CellNumber) → is_among cells d ≡ true → reads_one graph.reads (reads_naming d) k ≡ true → ⊥
     apart d there h = false≢true (sym free ∙ closed.of_cells d k there h)
 
-    not_found : (d : CellId) (n : ReadNumber) → source_in graph.names (read_source (Cell d)) ≡ Some n → holds (reads_under graph.reads k) n ≡ true → is_found graph cells d ≡ false
+    pub not_found : (d : CellId) (n : ReadNumber) → source_in graph.names (read_source (Cell d)) ≡ Some n → holds (reads_under graph.reads k) n ≡ true → is_found graph cells d ≡ false
     not_found d n is h = false_from (is_found graph cells d) (by (cell_in graph.names d) is)
       where
         by : (o : Option CellNumber) → option_map read.Cell o ≡ Some n → elim o as (λ _. Bool) [ None ↦ false | Some j ↦ is_among cells j ] ≡ true → ⊥
         by None e there = false≢true there
         by (Some j) e there = apart j there (or_left (holds (reads_under graph.reads k) (read.Cell j)) (holds (reads_under graph.reads k) (read.Key j.column) || false) (subst (λ q. holds (reads_under graph.reads k) q ≡ true) (sym (found_once (read.Cell j) n e)) h))
 
-    none_found : (u c : List ℕ) (r : ℕ) (n : ReadNumber) → source_in graph.names (read_source (Key u c)) ≡ Some n → holds (reads_under graph.reads k) n ≡ true → is_found graph cells (cell_of u c r) ≡ false
+    pub none_found : (u c : List ℕ) (r : ℕ) (n : ReadNumber) → source_in graph.names (read_source (Key u c)) ≡ Some n → holds (reads_under graph.reads k) n ≡ true → is_found graph cells (cell_of u c r) ≡ false
     none_found u c r n is h = false_from (is_found graph cells (cell_of u c r)) (by (column_in graph.names u c) is)
       where
         by : (o : Option ColumnNumber) → option_map read.Key o ≡ Some n → elim (option_map {U = CellNumber} (λ (j : ColumnNumber). record { column = j; row = r }) o) as (λ _. Bool) [ None ↦ false | Some j ↦ is_among cells j ] ≡ true → ⊥
@@ -131,12 +132,21 @@ key_modified s (AddColumn t e) u c r h = absurd (false≢true h)
 key_modified s (RemoveColumn t k) u c r h = absurd (false≢true h)
 key_modified s (RenameColumn t k new) u c r h = absurd (false≢true h)
 
+module _ (s : Document) (a : DocAction) (graph : Graph) (numbers : List ReadNumber) (cells : List CellNumber) (right : TouchesRight s a) (held : HoldsReads graph (sheet_of s))
+    (lists : ListsTouched graph (is_touched s a) numbers) (closed : IsClosed graph.reads numbers cells) where
+  -- a formula cell that is not found keeps what its run notes
+  pub found_keeps : KeepsNotes (sheet_of s) (sheet_of (apply s a)) (is_fresh_cell s a) graph cells
+  found_keeps c f e new free =
+      unaffected_notes_law (sheet_of s) (sheet_of (apply s a)) (λ d. is_fresh_cell s a d || is_found graph cells d) (is_sheet s).listed (is_sheet (apply s a)).listed
+      (closed_by_notes (sheet_of s) (sheet_of (apply s a)) (λ d. is_fresh_cell s a d || is_found graph cells d)
+      (sheet_closed graph numbers cells closed (sheet_of s) (sheet_of (apply s a)) (is_fresh_cell s a) (is_touched s a) right held lists
+      (λ d g i h. cell_modified s a d (modified s a d g i h)) (λ u k r g i h. key_modified s a u k r (modified s a (cell_of u k r) g i h))))
+      c f e (or_from (is_fresh_cell s a c) (is_found graph cells c) new free)
+
 pub found_law : FoundLaw
 found_law s a graph numbers cells right held lists closed c f e new free =
-    unaffected_law (sheet_of s) (sheet_of (apply s a)) (λ d. is_fresh_cell s a d || is_found graph cells d) (is_sheet s).listed (is_sheet (apply s a)).listed
-    (sheet_closed graph numbers cells closed (sheet_of s) (sheet_of (apply s a)) (is_fresh_cell s a) (is_touched s a) right held lists
-    (λ d g i h. cell_modified s a d (modified s a d g i h)) (λ u k r g i h. key_modified s a u k r (modified s a (cell_of u k r) g i h)))
-    c f e (or_from (is_fresh_cell s a c) (is_found graph cells c) new free)
+    let same = found_keeps s a graph numbers cells right held lists closed c f e new free in
+    (same.0, reads_noted (sheet_of (apply s a)) c ∙ ap reads_of same.1 ∙ sym (reads_noted (sheet_of s) c))
 
 -- ---- what is recorded
 
@@ -156,7 +166,8 @@ module _ (names : List (List ℕ)) where
   held [] numbers h = tt
   held (note.Read q ∷ notes) [] h = absurd h
   held (note.Read q ∷ notes) (n ∷ numbers) h = ((n, h.0, or_left (is_read n n) (holds numbers n) (read_itself n)), held_more numbers n (reads_of notes) (held notes numbers h.1))
-  held (note.Met t ks ∷ notes) numbers h = past_keys (map (source_of_key t) ks) (sources notes) numbers (reads_of notes) (held notes) h
+  held (note.All t ∷ notes) numbers h = past_keys (all_source t ∷ []) (sources notes) numbers (reads_of notes) (held notes) h
+  held (note.Met t ks ∷ notes) numbers h = past_keys (sources_of_keys t ks) (sources notes) numbers (reads_of notes) (held notes) h
 
 pub held_law : HeldLaw
 held_law = held

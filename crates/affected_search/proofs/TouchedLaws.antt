@@ -1,6 +1,6 @@
 -- The reads that an action on records touches, by numbers.
 use Rattle.std.proofs.Common.{ℕ, zero, suc, Bool, true, false, ◌&&◌, ◌||◌, nat_eq, List, [], ◌∷◌, ◌++◌, ◌+◌, map, length, ◌≡◌, ◌<◌, ◌≤◌, ◌⊎◌, inl, inr, refl, sym, ap, ◌∙◌, subst, Option, Some, None, slice_get, Bor, arith}
-use Rattle.std.proofs.lemmas.Bool.{false≢true, true≢false, or_cases, or_left, or_right, and_left, and_right, and_parts, eqb-true, eqb-false, eq-eqb}
+use Rattle.std.proofs.lemmas.Bool.{false≢true, true≢false, or_left, or_right, and_left, and_parts, eqb-true, eqb-false, eq-eqb}
 use Rattle.std.proofs.lemmas.List.{append_assoc}
 use Rattle.std.proofs.lemmas.List.Folds.{list_any-append}
 use Rattle.std.proofs.lemmas.Option.{slice_get_cases, slice_get_within}
@@ -17,15 +17,13 @@ use Rattle.doc_model.specs.declared.column.CellColumn.{CellColumn}
 use Rattle.doc_model.specs.Document.{Document}
 use Rattle.doc_model.specs.Rows.{has}
 use Rattle.doc_model.proofs.Choices.{false_from, or_false}
-use Rattle.doc_model.proofs.RowsLaws.{number_itself}
 use Rattle.affected_cells.proofs.Tests.{found_once}
-use Rattle.affected_cells.specs.Touched.{Touch, rows_come_or_go, cells_written, is_touched, touched_by}
+use Rattle.affected_cells.specs.Touched.{rows_come_or_go, cells_written, is_touched, touched_by}
 use Rattle.dep_graph.proofs.NameLaws.{number_there}
 use Rattle.dep_graph.specs.declared.numbers.CellNumber.{CellNumber}
 use Rattle.dep_graph.specs.declared.numbers.ColumnNumber.{ColumnNumber}
 use Rattle.dep_graph.specs.declared.numbers.ReadNumber.{ReadNumber}
 use Rattle.dep_graph.specs.declared.numbers.ReadNumber.TheVariants as read
-use Rattle.dep_graph.specs.declared.numbers.ValueNumber.{ValueNumber}
 use Rattle.dep_graph.specs.Names.{number_in}
 use Rattle.dep_graph.specs.Numbers.{is_column, is_read}
 use Rattle.dep_graph.specs.Records.{holds}
@@ -34,11 +32,11 @@ use Rattle.affected_search.specs.TouchedReads.{AreTouched, cell_at, cells_reads,
 
 -- ---- tests
 
-spread : (a b c : Bool) → ((a && b) || (a && c)) ≡ (a && (b || c))
+pub spread : (a b c : Bool) → ((a && b) || (a && c)) ≡ (a && (b || c))
 spread true b c = refl
 spread false b c = refl
 
-mixed : (a b c d : Bool) → (((a && b) && d) || ((a && c) && d)) ≡ ((a && (b || c)) && d)
+pub mixed : (a b c d : Bool) → (((a && b) && d) || ((a && c) && d)) ≡ ((a && (b || c)) && d)
 mixed false b c d = refl
 mixed true false c d = refl
 mixed true true c true = refl
@@ -49,7 +47,7 @@ joined : (a b c : Bool) → ((a && b) && c) ≡ (a && (b && c))
 joined true b c = refl
 joined false b c = refl
 
-nothing : (a : Bool) → false ≡ (a && false)
+pub nothing : (a : Bool) → false ≡ (a && false)
 nothing true = refl
 nothing false = refl
 
@@ -67,7 +65,7 @@ no_cells : (q : ReadNumber) (k : ColumnNumber) → ((c : CellNumber) → is_read
 no_cells q k apart [] = refl
 no_cells q k apart (r ∷ rows) = ap (λ b. b || list_any (is_read q) (map (λ r. read.Cell (cell_at k r)) rows)) (apart (cell_at k r)) ∙ no_cells q k apart rows
 
-cells_hold : (c : CellNumber) (k : ColumnNumber) (rows : List ℕ) → list_any (is_read (read.Cell c)) (map (λ r. read.Cell (cell_at k r)) rows) ≡ (is_column c.column k && has rows c.row)
+pub cells_hold : (c : CellNumber) (k : ColumnNumber) (rows : List ℕ) → list_any (is_read (read.Cell c)) (map (λ r. read.Cell (cell_at k r)) rows) ≡ (is_column c.column k && has rows c.row)
 cells_hold c k [] = nothing (is_column c.column k)
 cells_hold c k (r ∷ rows) =
     ap (λ b. (is_column c.column k && nat_eq c.row r) || b) (cells_hold c k rows) ∙ spread (is_column c.column k) (nat_eq c.row r) (has rows c.row)
@@ -83,7 +81,7 @@ column_holds_key k rows j = ap (λ b. is_column j k || b) (no_cells (read.Key j)
 column_holds_none : (q : ReadNumber) → ((c : CellNumber) → is_read q (read.Cell c) ≡ false) → ((k : ColumnNumber) → is_read q (read.Key k) ≡ false) → (k : ColumnNumber) (rows : List ℕ) → holds (column_reads k rows) q ≡ false
 column_holds_none q cells keys k rows = ap (λ b. b || list_any (is_read q) (map (λ r. read.Cell (cell_at k r)) rows)) (keys k) ∙ no_cells q k cells rows
 
-abbrev is_below : ℕ → ℕ → Bool
+abbrev pub is_below : ℕ → ℕ → Bool
 is_below zero c = false
 is_below (suc n) c = is_below n c || nat_eq c n
 
@@ -123,7 +121,7 @@ columns_hold_none q cells keys t rows (suc n) =
 
 -- ---- numbers of names
 
-mapped : {A B : Type 0} (f : A → B) (o : Option A) (y : B) → option_map f o ≡ Some y → (x : A) × (o ≡ Some x) × (f x ≡ y)
+pub mapped : {A B : Type 0} (f : A → B) (o : Option A) (y : B) → option_map f o ≡ Some y → (x : A) × (o ≡ Some x) × (f x ≡ y)
 mapped f None y h = absurd (cc)
 mapped f (Some x) y h = (x, refl, found_once (f x) y h)
 
@@ -131,7 +129,7 @@ module _ (names : List (List ℕ)) where
   none_some : (u : List ℕ) (a : ℕ) → number_in names u ≡ None → number_in names u ≡ Some a → ⊥
   none_some u a p q = let e : None ≡ Some a = sym p ∙ q in absurd (cc)
 
-  same_name : (u t : List ℕ) (a i : ℕ) → number_in names u ≡ Some a → number_in names t ≡ Some i → nat_eq a i ≡ bytes_eq u t
+  pub same_name : (u t : List ℕ) (a i : ℕ) → number_in names u ≡ Some a → number_in names t ≡ Some i → nat_eq a i ≡ bytes_eq u t
   same_name u t a i p q = by (bytes_eq u t) refl
     where
       by : (b : Bool) → bytes_eq u t ≡ b → nat_eq a i ≡ b
@@ -145,7 +143,7 @@ module _ (names : List (List ℕ)) where
   other_name : (u t : List ℕ) (a : ℕ) → number_in names u ≡ Some a → number_in names t ≡ None → bytes_eq u t ≡ false
   other_name u t a p q = false_from (bytes_eq u t) (λ is. none_some t a q (ap (number_in names) (sym ((bytes_eq-Decides u t).0 is)) ∙ p))
 
-  column_parts : (u c : List ℕ) (k : ColumnNumber) → column_in names u c ≡ Some k → (number_in names u ≡ Some k.table) × (number_in names c ≡ Some k.column)
+  pub column_parts : (u c : List ℕ) (k : ColumnNumber) → column_in names u c ≡ Some k → (number_in names u ≡ Some k.table) × (number_in names c ≡ Some k.column)
   column_parts u c k h = by (number_in names u) (number_in names c) refl refl h
     where
       by : (o p : Option ℕ) → number_in names u ≡ o → number_in names c ≡ p → column_of o p ≡ Some k → (number_in names u ≡ Some k.table) × (number_in names c ≡ Some k.column)
@@ -162,7 +160,7 @@ module _ (names : List (List ℕ)) where
       (p.0 ∙ ap (λ (j : CellNumber). Some j.column.table) m.2, p.1 ∙ ap (λ (j : CellNumber). Some j.column.column) m.2, sym (ap (λ (j : CellNumber). j.row) m.2))
 
   -- the number of a column that is read is below the count of names
-  column_below : (u c : List ℕ) (k : ColumnNumber) → column_in names u c ≡ Some k → is_below (length names) k.column ≡ true
+  pub column_below : (u c : List ℕ) (k : ColumnNumber) → column_in names u c ≡ Some k → is_below (length names) k.column ≡ true
   column_below u c k h = below_there (length names) k.column (slice_get_within names k.column c (number_there names c k.column (column_parts u c k h).1))
 
   same_column_name : (u c t d : List ℕ) (k j : ColumnNumber) → column_in names u c ≡ Some k → column_in names t d ≡ Some j → is_column k j ≡ (bytes_eq u t && bytes_eq c d)
@@ -227,6 +225,7 @@ module _ (names : List (List ℕ)) where
     pub rows_touched : AreTouched names (λ q. touched_by (rows_come_or_go t rows) q || false) (rows_reads names (number_in names t) rows)
     rows_touched = record {
       each = λ q n is. rows_each q n is ∙ sym (or_false (touched_by (rows_come_or_go t rows) q));
+      all = λ m. rows_none (read.All m) (λ c. refl) (λ k. refl) (λ i. refl) (number_in names t);
       value = λ v. rows_none (read.Value v) (λ c. refl) (λ k. refl) (λ i. refl) (number_in names t);
       part = λ v. rows_none (read.Part v) (λ c. refl) (λ k. refl) (λ i. refl) (number_in names t);
     }
@@ -277,6 +276,7 @@ module _ (names : List (List ℕ)) where
     pub cells_touched : (ks : List CellColumn) → AreTouched names (λ q. list_any (λ m. touched_by m q) (map (λ (k : CellColumn). cells_written t k.id rows) ks)) (cells_reads names t rows ks)
     cells_touched ks = record {
       each = cells_each ks;
+      all = λ i. cells_none (read.All i) (λ c. refl) (λ k. refl) ks;
       value = λ v. cells_none (read.Value v) (λ c. refl) (λ k. refl) ks;
       part = λ v. cells_none (read.Part v) (λ c. refl) (λ k. refl) ks;
     }

@@ -5,31 +5,29 @@ use Rattle.std.specs.Option.{is_some}
 use Rattle.std.specs.List.{AllByRecursion}
 use Rattle.cell_types.specs.declared.cell.CellId.{CellId}
 use Rattle.cell_types.specs.declared.cell.Read.{Read}
-use Rattle.doc_model.specs.declared.action.DocAction.{DocAction}
 use Rattle.doc_model.specs.Apply.{apply}
-use Rattle.doc_model.specs.Document.{Document}
 use Rattle.formula_eval.specs.declared.note.Note.{Note}
 use Rattle.formula_eval.specs.Run.{reads_of}
 use Rattle.recalc.specs.Evaluated.{sheet_of}
 use Rattle.recalc.specs.Sheet.{Sheet, reads}
 use Rattle.affected_cells.specs.Affected.{is_fresh_cell, is_modified}
 use Rattle.affected_cells.proofs.Tests.{all_weaker, found_once}
+use Rattle.affected_cells.proofs.Unaffected.{reads_noted}
 use Rattle.dep_graph.proofs.NameLaws.{cell_stays, number_there, numbers_stay}
 use Rattle.dep_graph.specs.declared.numbers.CellNumber.{CellNumber}
-use Rattle.dep_graph.specs.declared.numbers.ColumnNumber.{ColumnNumber}
 use Rattle.dep_graph.specs.declared.numbers.ReadNumber.{ReadNumber}
 use Rattle.dep_graph.specs.Graph.{Graph, IsSet}
 use Rattle.dep_graph.specs.NumberLaws.{cell_itself, same_cell}
 use Rattle.dep_graph.specs.Numbers.{is_cell}
-use Rattle.dep_graph.specs.Records.{holds, reads_under}
+use Rattle.dep_graph.specs.Records.{reads_under}
 use Rattle.dep_graph.specs.Sources.{cell_in, read_source}
-use Rattle.affected_search.specs.Sheets.{HoldsReads, IsHeld, is_found}
-use Rattle.affected_search.specs.Upkeep.{CarriedLaw, HoldsReadsOf, IsRecordedOf, SetLaw}
+use Rattle.affected_search.specs.Sheets.{IsHeld, is_found}
+use Rattle.affected_search.specs.Upkeep.{CarriedLaw, HoldsReadsOf, SetLaw}
 use Rattle.affected_search.proofs.SheetLaws.{held}
 use Rattle.affected_search.proofs.TouchedLaws.{cell_parts}
 
 -- a cell of a number is one cell
-one_cell : (names : List (List ℕ)) (c d : CellId) (k : CellNumber) → cell_in names c ≡ Some k → cell_in names d ≡ Some k → c ≡ d
+pub one_cell : (names : List (List ℕ)) (c d : CellId) (k : CellNumber) → cell_in names c ≡ Some k → cell_in names d ≡ Some k → c ≡ d
 one_cell names c d k p q =
     let a = cell_parts names c k p in
     let b = cell_parts names d k q in
@@ -89,4 +87,4 @@ carried_law s a graph new cells ok held keeps anew left c f e = by (is_fresh_cel
     by false false is there =
         let g = was ((sheet_of s).formula c) refl is in
         let h = left c there (held c g.0 g.1) in
-        (h.0, h.1, subst (λ rs. AllByRecursion (IsHeld new.names (reads_under new.reads h.0)) rs) (sym (keeps s ok held c f e is there).1) h.2)
+        (h.0, h.1, subst (λ rs. AllByRecursion (IsHeld new.names (reads_under new.reads h.0)) rs) (sym (reads_noted (sheet_of (apply s a)) c ∙ ap reads_of (keeps ok c f e is there).1 ∙ sym (reads_noted (sheet_of s) c))) h.2)

@@ -1,10 +1,15 @@
 pub mod Actions
 pub mod ByColumn
 pub mod Found
+pub mod Listed
 pub mod Losing
 pub mod Narrow
+pub mod Noted
+pub mod NotedUpkeep
 pub mod Reached
 pub mod Recording
+pub mod RecordsListed
+pub mod RowValues
 pub mod Sheets
 pub mod TouchedReads
 pub mod Upkeep

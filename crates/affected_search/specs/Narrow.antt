@@ -9,11 +9,11 @@ use Rattle.doc_model.specs.DocumentLaws.{IsWhole}
 use Rattle.doc_model.specs.Valid.{valid}
 use Rattle.dep_graph.specs.declared.numbers.CellNumber.{CellNumber}
 use Rattle.dep_graph.specs.Graph.{Graph}
-use Rattle.recalc.specs.Evaluated.{filled, sheet_of}
+use Rattle.recalc.specs.Evaluated.{filled}
 use Rattle.recalc.specs.Lost.{all_cells, is_lost, lost}
 use Rattle.recalc.specs.MayLose.{is_record, may_lose_column, may_lose_row}
 use Rattle.affected_search.specs.Actions.{KeepsOthers}
-use Rattle.affected_search.specs.Sheets.{HoldsReads, is_found}
+use Rattle.affected_search.specs.Sheets.{is_found}
 
 -- whether the action writes or removes the cell
 abbrev pub is_written : Document → DocAction → CellOld → Bool
@@ -26,8 +26,7 @@ is_narrow graph cells v a o = is_found graph cells o.cell || is_written v a o
 -- these are all that an action on records can lose
 abbrev pub NarrowLaw : Type 0
 NarrowLaw = (s : Document) (a : DocAction) (graph : Graph) (cells : List CellNumber)
-    → IsWhole s → valid s a ≡ true → is_record a ≡ true → HoldsReads graph (sheet_of s)
-    → KeepsOthers graph a cells
+    → IsWhole s → valid s a ≡ true → is_record a ≡ true → KeepsOthers s graph a cells
     → lost s (apply s a) a
     ≡ filter (is_lost (filled (apply s a)) a)
     (filter (is_narrow graph cells (filled s) a) (all_cells (filled s)))

@@ -7,15 +7,16 @@ use Rattle.dep_graph.specs.declared.numbers.ColumnNumber.{ColumnNumber}
 use Rattle.dep_graph.specs.declared.numbers.ReadNumber.{ReadNumber}
 use Rattle.dep_graph.specs.declared.numbers.ReadNumber.TheVariants as read
 use Rattle.dep_graph.specs.declared.numbers.ValueNumber.{ValueNumber}
-use Rattle.dep_graph.specs.Names.{number_in}
 use Rattle.dep_graph.specs.Records.{holds}
 use Rattle.dep_graph.specs.Sources.{column_in, read_source, source_in}
 
--- of the reads that have numbers, these are the touched ones; no values are among them
+-- of the reads that have numbers, these are the touched ones; no values are among them, and no rows
+-- that are all taken
 pub record AreTouched (names : List (List ℕ)) (touched : Read → Bool) (numbers : List ReadNumber) :
     Type 0 where
   pub each : (q : Read) (n : ReadNumber) → source_in names (read_source q) ≡ Some n
       → holds numbers n ≡ touched q
+  pub all : (t : ℕ) → holds numbers (read.All t) ≡ false
   pub value : (v : ValueNumber) → holds numbers (read.Value v) ≡ false
   pub part : (v : ValueNumber) → holds numbers (read.Part v) ≡ false
 

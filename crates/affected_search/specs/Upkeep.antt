@@ -36,7 +36,7 @@ SetLaw = (old new : Graph) (s : Sheet) (reader : CellId) (notes : List Note)
 -- that are new or found, and of each other cell those that it had
 abbrev pub CarriedLaw : Type 0
 CarriedLaw = (s : Document) (a : DocAction) (graph new : Graph) (cells : List CellNumber)
-    → valid s a ≡ true → HoldsReads graph (sheet_of s) → KeepsOthers graph a cells
+    → valid s a ≡ true → HoldsReads graph (sheet_of s) → KeepsOthers s graph a cells
     → ((c : CellId) (f : List ℕ) → (sheet_of (apply s a)).formula c ≡ Some f
     → (is_fresh_cell s a c || is_found graph cells c) ≡ true
     → HoldsReadsOf new (sheet_of (apply s a)) c)

@@ -11,15 +11,24 @@
 //! action, a formula cell that is not found keeps its value and its reads, unless it is new or its
 //! column is modified. It asks that the graph holds what formula cells read, which `held_law` says
 //! of what `DepGraph::set` records, and that readers of what the action touches read something
-//! listed. By `within_law` no other formula cell is reached than the action may affect, where the
-//! graph holds nothing else and readers of what is listed read something touched.
-//! Of an action on records `touched_reads` lists exactly the reads that it touches, of those that
-//! have numbers, so that `affected_by_action` has both laws on its contract. What such an action
-//! loses is found, or written or removed (`narrow_law`): `narrow_cells` tells exactly these cells
-//! of a document, in order. `record_cell` records what the formula of a cell reads, by one attempt
-//! at most; once the new and the found cells are recorded anew, the graph holds the reads of each
-//! formula cell again (`set_law`, `carried_law`).
-//! Not promised: which reads a schema action touches, by numbers.
+//! listed. `found_notes_law` is finer: it asks for no key column and no coming or going of rows to
+//! be listed, but for the values by which lookups find the rows that come, go or change, where the
+//! graph holds all that runs note (`set_notes_law`); `row_values` lists these of rows that stand in
+//! a store, and by `row_values_law` the rows then meet no other key. `records_listed_law` says that
+//! with the touched cells they are all that an action on records needs. `record_reads` lists just
+//! this as a document shows the rows: listed before the action and after it, it is all that the
+//! action changes (`record_reads_law`), so a formula cell that `affected_by_records` does not find
+//! keeps its value and what its run notes, unless it is new. By `within_law` no other formula cell
+//! is reached than the action may affect, where the graph holds nothing else and readers of what is
+//! listed read something touched. Of an action on records `touched_reads` lists exactly the reads
+//! that it touches, of those that have numbers, so that `affected_by_action` has both laws on its
+//! contract. What such an action loses is found, or written or removed (`narrow_law`):
+//! `narrow_cells` tells exactly these cells of a document, in order. `record_cell` records what the
+//! formula of a cell reads, by one attempt at most; once the new and the found cells are recorded
+//! anew, the graph holds the reads of each formula cell again (`set_law`, `carried_law`).
+//! Not promised: which reads a schema action touches, by numbers. `touched_reads` lists key columns
+//! and rows whole, not by values. That `affected_by_records` finds affected cells alone: of a
+//! formula column, and of one with an error in one of the rows, whoever looks up by it is found.
 //! Costs: each reader of a touched read, of a found cell and of a found cell's column as a key
 //! column is looked up once for each of these reads; a column is asked for once, however many of
 //! its cells are found. The rest of the document is not gone over. Where rows come or go, each name
@@ -32,16 +41,24 @@ mod acting;
 mod affected;
 mod by_column;
 mod laws;
+mod listed;
 mod losing;
 mod recording;
+mod row_reads;
 mod search;
 mod touched;
 
 pub use acting::affected_by_action;
 pub use affected::AffectedCells;
 pub use by_column::rows_by_column;
-pub use laws::{carried_law, found_law, held_law, least_law, narrow_law, set_law, within_law};
+pub use laws::{
+    carried_law, carried_notes_law, found_law, found_notes_law, held_law, least_law, narrow_law,
+    notes_reads_law, record_reads_law, records_listed_law, row_values_law, set_law, set_notes_law,
+    within_law,
+};
+pub use listed::{affected_by_records, record_reads};
 pub use losing::narrow_cells;
 pub use recording::record_cell;
+pub use row_reads::row_values;
 pub use search::affected_by;
 pub use touched::touched_reads;

@@ -5,6 +5,7 @@ ghost use Rattle.std.specs.Option.{option_copied};
 ghost use Rattle.dep_graph.specs.Graph.{IsKept};
 ghost use Rattle.formula_eval.specs.OfText.{evaluated_some};
 ghost use Rattle.recalc.specs.Sheet.{row_of};
+ghost use Rattle.affected_search.specs.NotedUpkeep.{RecordsNotes};
 ghost use Rattle.affected_search.specs.Recording.{NeedsNone, RecordsCell};
 
 use cell_types::{CellId, RowRef};
@@ -57,6 +58,8 @@ pub fn record_cell<R: CellReader, L: Ledger>(
     requires here { at.now ≡ row_of cell.now }
     requires known { NeedsNone (R.told reader.now) }
     ensures ok { OnOk result (RecordsCell (R.told reader.now) (option_copied tree.entry)
+        graph.old graph.new cell.now) }
+    ensures noted { OnOk result (RecordsNotes (R.told reader.now) (option_copied tree.entry)
         graph.old graph.new cell.now) }
     ensures notes { IfOk result (λ notes.
         (evaluated_some (R.told reader.now) at.now (option_copied tree.entry)).notes ≡ notes) }

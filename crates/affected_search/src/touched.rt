@@ -29,7 +29,7 @@ fn push_column(
 }
 
 // The number after one; none follows the last one of all.
-fn number_after(number: u32) -> Result<u32, AllocError>
+pub(crate) fn number_after(number: u32) -> Result<u32, AllocError>
     ensures { IfOk result (λ n. n ≡ number + 1) }
 {
     match number.checked_add(1) {

@@ -34,7 +34,7 @@ use Rattle.recalc.proofs.Turn.{same_true}
 use Rattle.affected_cells.specs.Affected.{is_modified}
 use Rattle.affected_search.specs.Actions.{KeepsOthers}
 use Rattle.affected_search.specs.Reached.{is_among}
-use Rattle.affected_search.specs.Sheets.{HoldsReads, is_found}
+use Rattle.affected_search.specs.Sheets.{is_found}
 use Rattle.affected_values.specs.Carried.{AreRightStill, RightOverLaw, kept_before, moved_table, rows_before}
 use Rattle.affected_values.proofs.HeldNone.{held_none}
 
@@ -93,7 +93,7 @@ moved_parts s (RenameColumn u c n) t h = absurd (none_some t h)
 moved_parts s (ModifyColumn u c i) t h = absurd (none_some t h)
 
 module _ (s : Document) (a : DocAction) (t : List ℕ) (ks : List KeptTable) (graph : Graph) (found : List CellNumber)
-    (moved : moved_table a ≡ Some t) (ok : valid s a ≡ true) (holds : HoldsReads graph (sheet_of s)) (keeps : KeepsOthers graph a found) (known : IsEvaluated s ks) where
+    (moved : moved_table a ≡ Some t) (ok : valid s a ≡ true) (keeps : KeepsOthers s graph a found) (known : IsEvaluated s ks) where
   abbrev next : Document
   next = apply s a
 
@@ -137,7 +137,7 @@ module _ (s : Document) (a : DocAction) (t : List ℕ) (ks : List KeptTable) (gr
       by_after : (f : List ℕ) → formula_at s c ≡ Some f → (o : Option (List ℕ)) → formula_at next c ≡ o → is_some o ≡ true → evaluated (sheet_of next) c ≡ v
       by_after f e None n h = absurd (false≢true h)
       by_after f e (Some g) n h =
-          (keeps s ok holds c g n (ap (λ o. not (is_some o) || is_modified a c) e ∙ (moved_parts s a t moved).2 c) other).0
+          (keeps ok c g n (ap (λ o. not (is_some o) || is_modified a c) e ∙ (moved_parts s a t moved).2 c) other).0
           ∙ some_same (evaluated (sheet_of s) c) v (sym (known.values c f e) ∙ was)
 
       by_before : (o : Option (List ℕ)) → formula_at s c ≡ o → evaluated (sheet_of next) c ≡ v
@@ -145,4 +145,4 @@ module _ (s : Document) (a : DocAction) (t : List ℕ) (ks : List KeptTable) (gr
       by_before (Some f) e = by_after f e (formula_at next c) refl there
 
 pub right_over : RightOverLaw
-right_over s a t ks graph found moved ok holds keeps known = right_still s a t ks graph found moved ok holds keeps known
+right_over s a t ks graph found moved ok keeps known = right_still s a t ks graph found moved ok keeps known

@@ -1,8 +1,10 @@
 mod TakenLemmas
-mod RefreshedLemmas
+pub mod RefreshedLemmas
 mod NamedLemmas
 pub mod SamePlaces
 mod WaysBack
 pub mod HeldNone
 mod CarriedLemmas
 mod RowCellLemmas
+pub mod IndexLemmas
+pub mod LeftIndexes

@@ -33,15 +33,19 @@ each_taken s ks (h ∷ taken) all c e = by_cell (each_taken s ks taken all.1 c) 
     by_cell later true same e = subst (IsHeldWhere s ks) (same_true h.cell c same) all.0
     by_cell later false same e = later e
 
+-- so they are once all of the list are
+pub taken_known : (s : Document) (ks : List KeptTable) (taken : List HeldValue) (n : ℕ) → length taken ≤ n → EachOf (IsHeldOf s ks) taken n → (c : CellId) → is_some (taken_of taken c) ≡ true → IsHeldWhere s ks c
+taken_known s ks taken n le all = each_taken s ks taken (each_all (IsHeldOf s ks) taken n le all)
+
 -- so all cells are
-pub all_refreshed : (s : Document) (old new : List KeptTable) (taken : List HeldValue) (n : ℕ) → IsHeldBut s old taken → IsFurther s old new → length taken ≤ n → EachOf (IsHeldOf s new) taken n → IsEvaluated s new
-all_refreshed s old new taken n others further le all = record {
+pub all_refreshed : (s : Document) (old new : List KeptTable) (taken : List HeldValue) → IsHeldBut s old taken → IsFurther s old new → ((c : CellId) → is_some (taken_of taken c) ≡ true → IsHeldWhere s new c) → IsEvaluated s new
+all_refreshed s old new taken others further known = record {
   of_document = further.settled.of_document;
   values = λ c f e. known_value s new further.settled c (cases c (is_some (taken_of taken c)) refl (ap is_some e));
 }
   where
     cases : (c : CellId) (b : Bool) → is_some (taken_of taken c) ≡ b → is_some (formula_at s c) ≡ true → is_some (held_at s new c) ≡ true
-    cases c true e there = each_taken s new taken (each_all (IsHeldOf s new) taken n le all) c e there
+    cases c true e there = known c e there
     cases c false e there = further.stays c (others c e there)
 
 -- ---- values taken out, cells evaluated, and values put back

@@ -24,7 +24,7 @@ use Rattle.recalc.specs.Stack.{on}
 use Rattle.dep_graph.specs.declared.numbers.CellNumber.{CellNumber}
 use Rattle.dep_graph.specs.Graph.{Graph}
 use Rattle.affected_search.specs.Actions.{KeepsOthers}
-use Rattle.affected_search.specs.Sheets.{HoldsReads, is_found}
+use Rattle.affected_search.specs.Sheets.{is_found}
 use Rattle.affected_cells.proofs.UpdateTouches.{after, find_updated, same_columns, same_formula, same_id, same_rows, updated}
 use Rattle.affected_values.specs.SamePlaces.{HasSamePlaces, LeftRightLaw, SamePlacesLaw}
 use Rattle.affected_values.specs.Taken.{IsRightBut}
@@ -67,7 +67,7 @@ same_places s t rows ks kept =
 -- ---- values that are right still
 
 module _ (s : Document) (id rows : List ℕ) (ks : List CellColumn) (graph : Graph) (found : List CellNumber) (cells : List CellId) (kept : List KeptTable)
-    (ok : valid s (BulkUpdate id rows ks) ≡ true) (holds : HoldsReads graph (sheet_of s)) (keeps : KeepsOthers graph (BulkUpdate id rows ks) found)
+    (ok : valid s (BulkUpdate id rows ks) ≡ true) (keeps : KeepsOthers s graph (BulkUpdate id rows ks) found)
     (named : (c : CellId) → is_found graph found c ≡ true → on cells c ≡ true) (known : IsEvaluated s kept) where
   abbrev next : Document
   next = apply s (BulkUpdate id rows ks)
@@ -90,7 +90,7 @@ module _ (s : Document) (id rows : List ℕ) (ks : List CellColumn) (graph : Gra
   value_now c f e = places.held c ∙ known.values c f e
 
   same_value : (c : CellId) (f : List ℕ) → formula_at s c ≡ Some f → on cells c ≡ false → evaluated (sheet_of next) c ≡ evaluated (sheet_of s) c
-  same_value c f e other = (keeps s ok holds c f (formula_same c ∙ e) (ap (λ o. not (is_some o) || false) e) (not_found c other)).0
+  same_value c f e other = (keeps ok c f (formula_same c ∙ e) (ap (λ o. not (is_some o) || false) e) (not_found c other)).0
 
   known_by : (c : CellId) (o : Option (List ℕ)) → formula_at s c ≡ o → is_some o ≡ true → is_some (held_at next kept c) ≡ true
   known_by c None e there = absurd (false≢true there)
@@ -113,4 +113,4 @@ module _ (s : Document) (id rows : List ℕ) (ks : List CellColumn) (graph : Gra
   }
 
 pub left_right : LeftRightLaw
-left_right s id rows ks graph found cells kept ok holds keeps named known = right_left s id rows ks graph found cells kept ok holds keeps named known
+left_right s id rows ks graph found cells kept ok keeps named known = right_left s id rows ks graph found cells kept ok keeps named known

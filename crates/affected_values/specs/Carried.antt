@@ -22,7 +22,7 @@ use Rattle.recalc.specs.Kept.{IsEvaluated, held_table, kept_table_id}
 use Rattle.recalc.specs.Sheet.{evaluated}
 use Rattle.recalc.specs.Stack.{on}
 use Rattle.affected_search.specs.Actions.{KeepsOthers}
-use Rattle.affected_search.specs.Sheets.{HoldsReads, is_found}
+use Rattle.affected_search.specs.Sheets.{is_found}
 
 -- the rows of a table before rows of the table of this id came or went, which had these
 abbrev pub rows_before : Document → List ℕ → List ℕ → List ℕ → List ℕ
@@ -67,6 +67,5 @@ abbrev pub RightOverLaw : Type 0
 RightOverLaw =
     (s : Document) (a : DocAction) (t : List ℕ) (ks : List KeptTable) (graph : Graph)
     (found : List CellNumber)
-    → moved_table a ≡ Some t → valid s a ≡ true → HoldsReads graph (sheet_of s)
-    → KeepsOthers graph a found → IsEvaluated s ks
+    → moved_table a ≡ Some t → valid s a ≡ true → KeepsOthers s graph a found → IsEvaluated s ks
     → AreRightStill (apply s a) t (grid_at s t).rows ks graph found

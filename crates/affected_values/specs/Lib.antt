@@ -2,3 +2,4 @@ pub mod Taken
 pub mod SamePlaces
 pub mod WaysBack
 pub mod Carried
+pub mod Indexing

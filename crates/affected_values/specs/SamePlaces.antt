@@ -7,13 +7,12 @@ use Rattle.doc_model.specs.Apply.{apply}
 use Rattle.doc_model.specs.Document.{Document}
 use Rattle.recalc.specs.declared.kept.KeptTable.{KeptTable}
 use Rattle.doc_model.specs.Valid.{valid}
-use Rattle.recalc.specs.Evaluated.{sheet_of}
 use Rattle.recalc.specs.Kept.{IsEvaluated, IsKeptOf, held_at}
 use Rattle.recalc.specs.Stack.{on}
 use Rattle.dep_graph.specs.declared.numbers.CellNumber.{CellNumber}
 use Rattle.dep_graph.specs.Graph.{Graph}
 use Rattle.affected_search.specs.Actions.{KeepsOthers}
-use Rattle.affected_search.specs.Sheets.{HoldsReads, is_found}
+use Rattle.affected_search.specs.Sheets.{is_found}
 use Rattle.affected_values.specs.Taken.{IsRightBut}
 
 -- what is kept of one document is kept of the other, each value in the same cell
@@ -32,7 +31,6 @@ abbrev pub LeftRightLaw : Type 0
 LeftRightLaw =
     (s : Document) (t rows : List ℕ) (ks : List CellColumn) (graph : Graph)
     (found : List CellNumber) (cells : List CellId) (kept : List KeptTable)
-    → valid s (BulkUpdate t rows ks) ≡ true → HoldsReads graph (sheet_of s)
-    → KeepsOthers graph (BulkUpdate t rows ks) found
+    → valid s (BulkUpdate t rows ks) ≡ true → KeepsOthers s graph (BulkUpdate t rows ks) found
     → ((c : CellId) → is_found graph found c ≡ true → on cells c ≡ true)
     → IsEvaluated s kept → IsRightBut (apply s (BulkUpdate t rows ks)) kept cells

@@ -1,4 +1,4 @@
-//! Values carried over rows that come or go, and the others found.
+//! Values carried over rows that come or go.
 
 ghost use Rattle.std.specs.Prelude.{ℕ, ◌≡◌, true, false, Some, IfOk, OnOk};
 ghost use Rattle.std.specs.Option.{is_some};
@@ -12,7 +12,7 @@ ghost use Rattle.doc_readers.specs.Parts.{grid_at};
 ghost use Rattle.dep_graph.specs.Sources.{column_in};
 ghost use Rattle.recalc.specs.Cells.{cell_of};
 ghost use Rattle.recalc.specs.Evaluated.{formula_at, sheet_of};
-ghost use Rattle.recalc.specs.Kept.{IsEvaluated, IsSettled, held_in, held_table, kept_table_id};
+ghost use Rattle.recalc.specs.Kept.{IsSettled, held_in, held_table, kept_table_id};
 ghost use Rattle.recalc.specs.Sheet.{evaluated};
 ghost use Rattle.affected_search.specs.Sheets.{is_found};
 ghost use Rattle.affected_values.specs.Carried.{AreRightStill, rows_before};
@@ -23,8 +23,7 @@ use dep_graph::{CellNumber, ColumnNumber, DepGraph};
 use doc_model::{ColDef, DocTables};
 use doc_readers::rows_in;
 use recalc::{
-    KeptColumn, KeptTable, blank_tables, cell_id, column_at, evaluate_rest, exchange_value,
-    value_beside,
+    KeptColumn, KeptTable, blank_tables, cell_id, column_at, exchange_value, value_beside,
 };
 use std::alloc::{AllocError, Global};
 
@@ -187,13 +186,12 @@ fn carry_tables<D: DocTables>(
     Ok(())
 }
 
-/// The values of the formula cells of a document, of which those were kept from before rows of one
-/// table came or went: what was kept of a cell that is not found is copied, any other is evaluated.
+/// What was kept of the formula cells of a document from before rows of one table came or went: of
+/// a cell that is not found it is copied, of any other nothing is known.
 ///
-/// Errors: out of memory.
-/// Memory: the values, and as to evaluate a document.
-/// Cost: for each formula cell a search for its place, and that of the cells that are evaluated.
-pub fn evaluate_carrying<D: DocTables>(
+/// Errors: out of memory. Memory: a place for each formula cell, the formulas, and the values.
+/// Cost: for each formula cell a search for its place.
+pub fn carry_values<D: DocTables>(
     alloc: Global,
     tables: &D,
     old: &[KeptTable],
@@ -206,10 +204,9 @@ pub fn evaluate_carrying<D: DocTables>(
     requires ascending { IsAscending rows.now }
     requires right { AreRightStill (D.document tables.now) moved.now rows.now old.now graph.now
         found.now }
-    ensures { IfOk result (λ v. IsEvaluated (D.document tables.now) v.items) }
+    ensures { IfOk result (λ v. IsSettled (D.document tables.now) v.items) }
 {
     let mut kept = blank_tables(alloc, tables)?;
     carry_tables(tables, &mut kept, old, moved, rows, graph, found)?;
-    evaluate_rest(alloc, tables, &mut kept)?;
     Ok(kept)
 }

@@ -55,7 +55,7 @@ fn take_value<D: DocTables>(
 /// Takes out what is known of these cells, so that it can be put back.
 ///
 /// Memory: none. Cost: linear in the cells, for each a search for its column and its row.
-pub(crate) fn take_values<D: DocTables>(
+pub fn take_values<D: DocTables>(
     tables: &D,
     kept: &mut Vec<KeptTable>,
     cells: Vec<CellId>,

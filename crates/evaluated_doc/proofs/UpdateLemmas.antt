@@ -1,6 +1,7 @@
 -- An update of a document of which values are kept.
 use Rattle.std.proofs.Common.{ℕ, true, false, cond, filter, ◌||◌, List, [], ◌∷◌, ◌≡◌, refl, sym, ap, ◌∙◌, subst, Option, unwrap_or}
-use Rattle.std.proofs.lemmas.Bool.{false≢true}
+use Rattle.std.proofs.lemmas.Bool.{false≢true, true≢false}
+use Rattle.std.specs.List.{AllByRecursion}
 use Rattle.std.specs.Option.{is_some}
 use Rattle.cell_types.specs.declared.cell.CellId.{CellId}
 use Rattle.doc_model.specs.declared.action.DocAction.{DocAction}
@@ -12,22 +13,26 @@ use Rattle.doc_model.specs.DocumentLaws.{IsWhole}
 use Rattle.doc_model.specs.Valid.{valid}
 use Rattle.dep_graph.specs.declared.numbers.CellNumber.{CellNumber}
 use Rattle.dep_graph.specs.Graph.{Graph}
+use Rattle.dep_graph.specs.Records.{reads_under}
+use Rattle.dep_graph.specs.Sources.{sources}
 use Rattle.recalc.specs.declared.kept.KeptTable.{KeptTable}
 use Rattle.recalc.specs.Current.{IsCurrent, has_formula, has_formulas}
-use Rattle.recalc.specs.Evaluated.{filled, formula_at, sheet_of}
+use Rattle.recalc.specs.Evaluated.{filled, formula_at}
 use Rattle.recalc.specs.Kept.{IsEvaluated, IsKeptOf, held_at}
 use Rattle.recalc.specs.Lost.{all_cells, is_lost, lost}
 use Rattle.recalc.specs.MayLose.{is_record}
+use Rattle.recalc.specs.Stack.{on}
 use Rattle.affected_cells.proofs.UpdateTouches.{after, same_columns, same_formula}
 use Rattle.affected_search.specs.Actions.{KeepsOthers}
 use Rattle.affected_search.specs.Narrow.{NarrowLaw, is_narrow}
-use Rattle.affected_search.specs.Sheets.{HoldsReads}
+use Rattle.affected_search.specs.Noted.{IsHeldSource}
 use Rattle.affected_values.specs.declared.taking.HeldValue.{HeldValue}
 use Rattle.affected_values.specs.SamePlaces.{HasSamePlaces}
 use Rattle.affected_values.specs.Taken.{IsRightBut, LeadsBack, taken_of}
 use Rattle.affected_values.specs.WaysBack.{LeadsOver, LeadsOverLaw, WayBackLaw}
 use Rattle.affected_values.proofs.SamePlaces.{left_right, same_places}
 use Rattle.known_reads.specs.Beside.{Beside, IsNoted, KnowsOthers, ReadsSameBut, StaleLaw}
+use Rattle.known_reads.specs.Recorded.{KnowsBut}
 use Rattle.known_reads.proofs.BesideLemmas.{reads_same}
 use Rattle.evaluated_doc.specs.Update.{HasFound, LeadsFrom, is_update}
 
@@ -48,10 +53,14 @@ pub of_records : (a : DocAction) → is_update a ≡ true → is_record a ≡ tr
 of_records a update = let u = update_parts a update in ap is_record u.3
 
 -- the cells that an action on records loses are among the found and the written ones
-pub lost_narrow : NarrowLaw → (s next : Document) (a : DocAction) → valid s a ≡ true → is_record a ≡ true → next ≡ apply s a → (graph : Graph) (found : List CellNumber) → IsWhole s → HoldsReads graph (sheet_of s) → KeepsOthers graph a found
+pub lost_narrow : NarrowLaw → (s next : Document) (a : DocAction) → valid s a ≡ true → is_record a ≡ true → next ≡ apply s a → (graph : Graph) (found : List CellNumber) → IsWhole s → KeepsOthers s graph a found
     → filter (is_lost (filled next) a) (filter (is_narrow graph found (filled s) a) (all_cells (filled s))) ≡ lost s next a
-lost_narrow law s next a ok records done graph found whole holds keeps =
-    subst (λ d. filter (is_lost (filled d) a) (filter (is_narrow graph found (filled s) a) (all_cells (filled s))) ≡ lost s d a) (sym done) (sym (law s a graph found whole ok records holds keeps))
+lost_narrow law s next a ok records done graph found whole keeps =
+    subst (λ d. filter (is_lost (filled d) a) (filter (is_narrow graph found (filled s) a) (all_cells (filled s))) ≡ lost s d a) (sym done) (sym (law s a graph found whole ok records keeps))
+
+-- where all cells are stale, nothing is said of the graph
+pub none_known : (s : Document) (known : Beside) → known.are_all_stale ≡ true → KnowsOthers s known
+none_known s known all c fresh = absurd (true≢false (sym (ap (λ b. b || on known.stale c) all) ∙ fresh))
 
 module _ (s next : Document) (a : DocAction) (ok : valid s a ≡ true) (update : is_update a ≡ true) (done : next ≡ apply s a) where
   abbrev t : List ℕ
@@ -75,28 +84,32 @@ module _ (s next : Document) (a : DocAction) (ok : valid s a ≡ true) (update :
   pub places : (kept : List KeptTable) → HasSamePlaces s next kept
   places kept = subst (λ d. HasSamePlaces s d kept) (sym next_so) (same_places s t rows ks kept)
 
-  pub right : (graph : Graph) (cells : List CellId) (kept : List KeptTable) → HoldsReads graph (sheet_of s) → HasFound graph a cells → IsEvaluated s kept → IsRightBut next kept cells
-  right graph cells kept holds found known =
-      subst (λ d. IsRightBut d kept cells) (sym next_so) (left_right s t rows ks graph found.found cells kept valid_so holds (subst (λ a. KeepsOthers graph a found.found) is found.keeps) found.named known)
+  pub right : (graph : Graph) (cells : List CellId) (kept : List KeptTable) → HasFound s graph a cells → IsEvaluated s kept → IsRightBut next kept cells
+  right graph cells kept found known =
+      subst (λ d. IsRightBut d kept cells) (sym next_so) (left_right s t rows ks graph found.found cells kept valid_so (subst (λ a. KeepsOthers s graph a found.found) is found.keeps) found.named known)
 
-  pub same_reads : (graph : Graph) (cells : List CellId) → HoldsReads graph (sheet_of s) → HasFound graph a cells → ReadsSameBut s next cells
-  same_reads graph cells holds found =
-      subst (λ d. ReadsSameBut s d cells) (sym next_so) (reads_same s t rows ks graph found.found cells valid_so holds (subst (λ a. KeepsOthers graph a found.found) is found.keeps) found.named)
+  pub same_reads : (graph : Graph) (cells : List CellId) → HasFound s graph a cells → ReadsSameBut s next cells
+  same_reads graph cells found =
+      subst (λ d. ReadsSameBut s d cells) (sym next_so) (reads_same s t rows ks graph found.found cells valid_so (subst (λ a. KeepsOthers s graph a found.found) is found.keeps) found.named)
 
-  pub leads : LeadsOverLaw → (graph : Graph) (stale : List CellId) (taken : List HeldValue) (new old : List KeptTable) → HoldsReads graph (sheet_of s) → HasFound graph a stale → IsEvaluated s old → IsEvaluated next new
+  pub leads : LeadsOverLaw → (graph : Graph) (stale : List CellId) (taken : List HeldValue) (new old : List KeptTable) → HasFound s graph a stale → IsEvaluated s old → IsEvaluated next new
       → LeadsBack next taken new old → LeadsFrom s next taken stale
-  leads law graph stale taken new old holds found before now back = record {
+  leads law graph stale taken new old found before now back = record {
     table = t;
     rows = rows;
     columns = ks;
     after = next_so;
     leads = subst (λ d. LeadsOver s d taken) (sym next_so) (law s t rows ks taken new old valid_so before (subst (λ d. IsEvaluated d new) next_so now) (subst (λ d. LeadsBack d taken new old) next_so back));
-    reads = same_reads graph stale holds found;
+    reads = same_reads graph stale found;
   }
 
-  -- the graph, once the found cells are noted
-  pub known : StaleLaw → (old new : Beside) (cells : List CellId) → HoldsReads old.graph (sheet_of s) → HasFound old.graph a cells → IsNoted old new cells → KnowsOthers s old → KnowsOthers next new
-  known law old new cells holds found noted others = (law s next cells old new (same_reads old.graph cells holds found) noted).0 others
+  -- the graph is right of each cell but the found ones after the update
+  pub known_but : (known : Beside) (cells : List CellId) → HasFound s known.graph a cells → KnowsOthers s known → KnowsBut next known cells
+  known_but known cells found others c fresh other there =
+      let same = same_reads known.graph cells found in
+      let was : is_some (formula_at s c) ≡ true = same.there c ∙ there in
+      let h = others c fresh was in
+      (h.0, h.1, subst (λ ns. AllByRecursion (IsHeldSource known.graph.names (reads_under known.graph.reads h.0)) (sources ns)) (same.same c was other) h.2)
 
   there : (c : CellId) → is_some (formula_at s c) ≡ true → is_some (formula_at next c) ≡ true
   there c h = ap (λ d. is_some (formula_at d c)) next_so ∙ ap (λ b. is_some (formula_at (cond b (after t rows ks s) s) c)) valid_so ∙ ap is_some (same_formula t rows ks s c) ∙ h

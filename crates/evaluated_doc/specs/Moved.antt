@@ -12,11 +12,11 @@ use Rattle.affected_search.specs.Sheets.{is_found}
 use Rattle.affected_values.specs.Carried.{HasCellsOf}
 use Rattle.evaluated_doc.specs.declared.moving.Moved.{Moved}
 
--- the found cells of a search, by which all others keep values and reads, also by name, and with
+-- the found cells of a search, by which all others keep values and notes, also by name, and with
 -- the formula cells of a table in these rows; and the rows that the table has, which ascend
 pub record IsMoved (graph : Graph) (a : DocAction) (s : Document) (t rows : List ℕ) (x : Moved) :
     Type 0 where
-  pub keeps : KeepsOthers graph a x.found
+  pub keeps : KeepsOthers s graph a x.found
   pub noted : (c : CellId) → is_found graph x.found c ≡ true → on x.noted.items c ≡ true
   pub stale : (c : CellId) → is_found graph x.found c ≡ true → on x.stale.items c ≡ true
   pub moved : HasCellsOf s t rows x.stale.items

@@ -21,23 +21,23 @@ abbrev pub is_update : DocAction → Bool
 is_update (BulkUpdate table rows ks) = true
 is_update _ = false
 
--- among the cells are the found ones of a search, by which all others keep values and reads
-pub record HasFound (graph : Graph) (a : DocAction) (cells : List CellId) : Type 0 where
+-- among the cells are the found ones of a search, by which all others keep values and notes
+pub record HasFound (s : Document) (graph : Graph) (a : DocAction) (cells : List CellId) :
+    Type 0 where
   pub found : List CellNumber
-  pub keeps : KeepsOthers graph a found
+  pub keeps : KeepsOthers s graph a found
   pub named : (c : CellId) → is_found graph found c ≡ true → on cells c ≡ true
 
--- the found cells, three lists with them by name, and room for what is taken of the first
-pub record IsAffected (graph : Graph) (a : DocAction) (x : Affected) : Type 0 where
-  pub found : KeepsOthers graph a x.found
-  pub cells : HasFound graph a x.cells.items
-  pub noted : HasFound graph a x.noted.items
-  pub stale : HasFound graph a x.stale.items
+-- the found cells, two lists with them by name, and room for what is taken of the first
+pub record IsAffected (s : Document) (graph : Graph) (a : DocAction) (x : Affected) : Type 0 where
+  pub found : KeepsOthers s graph a x.found
+  pub cells : HasFound s graph a x.cells.items
+  pub stale : HasFound s graph a x.stale.items
   pub empty : x.room.items ≡ []
   pub room : length x.cells.items ≤ vec_capacity x.room
 
 -- an update led from the first document to the second; what was taken leads back over it, and each
--- formula cell but these reads the same in both
+-- formula cell but these notes the same in both
 pub record LeadsFrom (s now : Document) (taken : List HeldValue) (stale : List CellId) :
     Type 0 where
   pub table : List ℕ

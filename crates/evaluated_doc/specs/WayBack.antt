@@ -11,7 +11,7 @@ use Rattle.known_reads.specs.Moved.{ReadsSameAfter}
 use Rattle.evaluated_doc.specs.Update.{LeadsFrom}
 
 -- the cells that a change lost, the store's way back, and what was kept before, or what was taken;
--- and the cells that may read something else, or that all may
+-- and the cells that may note something else, or that all may
 pub record Changed (Back : Type 0) : Type 0 where
   pub cells : List CellOld
   pub back : Back
@@ -20,7 +20,7 @@ pub record Changed (Back : Type 0) : Type 0 where
   pub stale : List CellId
   pub are_all_stale : Bool
 
--- what was kept is right of the document before, each formula cell of which reads what it does now
+-- what was kept is right of the document before, each formula cell of which notes what it does now
 -- but the stale ones, where these are not all; or what was taken leads to its values
 abbrev pub HasBefore : Document → Document → Option (List KeptTable) → List CellId → Bool
     → Option (List HeldValue) → Type 0

@@ -1,6 +1,6 @@
 //! A document with its formula cells evaluated.
 
-ghost use Rattle.std.specs.Prelude.{true, ◌≡◌, ◌↔◌, ◌||◌, false, [], Err, List, None, Some, IfOk, OnOk, OnErr, MatchOption};
+ghost use Rattle.std.specs.Prelude.{true, ◌≡◌, ◌<◌, ◌↔◌, ◌||◌, false, [], Err, List, None, Some, IfOk, OnOk, OnErr, MatchOption};
 ghost use Rattle.std.specs.Option.{option_copied, option_map};
 ghost use Rattle.cell_types.specs.declared.cell.CellId.{CellId};
 ghost use Rattle.doc_model.specs.Apply.{apply};
@@ -21,26 +21,32 @@ ghost use Rattle.evaluated_doc.specs.Update.{LeadsFrom, is_update};
 ghost use Rattle.evaluated_doc.specs.WayBack.{IsWayBack};
 ghost use Rattle.evaluated_doc.specs.declared.doc.ChangeFault.TheVariants.{Invalid};
 
-use crate::moving::{few_moved, find_moved, follow_moved, is_looked_up};
+use crate::indexing::{give_up, take_indexes};
+use crate::moving::{few_moved, find_moved, follow_moved};
 use crate::trace::Trace;
 use crate::updating::{Affected, find_affected, is_narrow, is_of_schema};
 use affected_search::{narrow_cells, narrow_law};
 use affected_values::{
-    HeldValue, leads_over_law, put_values_back, refresh_values, right_over_law, way_back_law,
+    HeldValue, enter_indexes, leads_over_law, put_values_back, right_over_law, way_back_law,
 };
 use cell_types::{CellId, CellValue, Name};
 use doc_actions::is_valid;
 use doc_model::laws::kept_law;
 use doc_model::{ColDef, DocAction, DocReader, DocTables};
-use formula_eval::Reading;
-use known_reads::{KnownReads, ReadsFault, noted_law, reads_back_law, reads_over_law, stale_law};
+use formula_eval::{Reading, Steps};
+use known_reads::{
+    KnownReads, ReadsFault, noted_law, reads_back_law, reads_over_law, refresh_recording,
+    refresh_rest, stale_law,
+};
 use recalc::laws::{may_lose_law, stays_plain_law};
 use recalc::{
-    KeptTable, brings_formula, cell_told, keep_lost, keep_values, keep_values_after, watched_cells,
+    ColumnIndex, KeptTable, brings_formula, cell_told, keep_lost, keep_values, keep_values_after,
+    watched_cells,
 };
 use std::alloc::{AllocError, Global};
-use std::marker::Model;
+use std::marker::{Brand, Model};
 use std::mem;
+use std::sync::ledger::{Blank, Ledger};
 
 /// A document with its evaluated cells. It is seen as its tables.
 ///
@@ -50,11 +56,15 @@ pub struct Doc<D: DocTables> {
     tables: D,
     kept: Option<Vec<KeptTable>>,
     reads: KnownReads,
+    // Of some of the data columns by which formulas look rows up.
+    indexes: Vec<ColumnIndex>,
 }
 
 impl<D: DocTables> Model for Doc<D> {
     ghost use Rattle.doc_model.specs.DocumentLaws.{IsWhole};
     ghost use Rattle.recalc.specs.Current.{IsCurrent};
+    ghost use Rattle.recalc.specs.Evaluated.{sheet_of};
+    ghost use Rattle.recalc.specs.Indexes.{AreIndexes};
     ghost use Rattle.std.specs.Option.{option_map};
     ghost use Rattle.known_reads.specs.Beside.{KnowsOthers};
 
@@ -64,7 +74,8 @@ impl<D: DocTables> Model for Doc<D> {
 
     ghost invariant = { λ d. IsWhole (D.document d.tables)
         × IsCurrent (D.document d.tables) (option_map (λ v. v.items) d.kept)
-        × KnowsOthers (D.document d.tables) d.reads };
+        × KnowsOthers (D.document d.tables) d.reads
+        × AreIndexes (sheet_of (D.document d.tables)) d.indexes.items };
 }
 
 /// Why a change was not made.
@@ -87,10 +98,12 @@ impl<D: DocTables> Doc<D> {
     {
         let kept = keep_values(alloc, &tables)?;
         let reads = KnownReads::new(alloc);
+        let indexes = Vec::new(alloc);
         Ok(Doc {
             tables,
             kept,
             reads,
+            indexes,
         })
     }
 
@@ -134,6 +147,7 @@ impl<D: DocTables> Doc<D> {
         let stays_plain = is_plain && !brings_formula(action);
         let mut cells = watched_cells(alloc, self, action, is_plain)?;
         let back = self.tables.put(action)?;
+        give_up(&mut self.indexes);
         let Ok(fresh) = keep_values_after(alloc, &self.tables, stays_plain) else {
             self.tables.take_back(back);
             return Err(AllocError);
@@ -161,11 +175,19 @@ impl<D: DocTables> Doc<D> {
         self.kept.is_some() && !self.reads.is_wide() && is_narrow(action)
     }
 
-    // Does a valid update where values are kept, and evaluates what it affects; the whole document,
-    // where too much is read for this to be found.
-    fn put_update(&mut self, alloc: Global, action: &DocAction) -> Result<Trace<D>, AllocError>
+    // Does a valid update where values are kept, and evaluates what it affects, in a count of
+    // attempts of its own; the whole document, where too much is read for this to be found.
+    fn put_update<L: Ledger>(
+        &mut self,
+        alloc: Global,
+        action: &DocAction,
+        blank: Blank,
+    ) -> Result<Trace<D>, AllocError>
         requires valid { valid (D.document self.old) action.now ≡ true }
         requires update { is_update action.now ≡ true }
+        requires name { blank.name ≡ L.name }
+        requires parts { blank.parts ≡ L.parts }
+        requires some { 0 < L.parts }
         ensures ok { OnOk result
             (D.document self.new ≡ apply (D.document self.old) action.now) }
         ensures cells { IfOk result (λ trace. trace.cells
@@ -184,28 +206,49 @@ impl<D: DocTables> Doc<D> {
         let Some(kept) = &self.kept else {
             return self.put_whole(alloc, action);
         };
-        let affected = match find_affected(alloc, &self.tables, kept, &mut self.reads, action) {
+        let mut indexes = take_indexes(alloc, &mut self.indexes);
+        let reads = &mut self.reads;
+        let affected = match find_affected(
+            alloc,
+            &mut self.tables,
+            kept,
+            reads,
+            &mut indexes,
+            action,
+        ) {
             Ok(affected) => affected,
             Err(ReadsFault::TooMany) => return self.put_whole(alloc, action),
             Err(ReadsFault::NoMemory) => return Err(AllocError),
         };
         let mut cells = narrow_cells(alloc, self, self.reads.graph(), &affected.found, action)?;
         let undo = self.tables.put(action)?;
+        let mut indexes = enter_indexes(alloc, &self.tables, indexes, action);
         let Some(kept) = &mut self.kept else {
             unreachable!();
         };
         let Affected {
             cells: named,
             room,
-            noted,
             stale,
             ..
         } = affected;
-        let Ok(taken) = refresh_values(alloc, &self.tables, kept, named, room) else {
+        let reads = &mut self.reads;
+        let known = &mut indexes;
+        let mut steps = Steps::<L>::new(blank);
+        let Ok(taken) = refresh_recording(
+            alloc,
+            &self.tables,
+            kept,
+            known,
+            reads,
+            named,
+            room,
+            &mut steps,
+        ) else {
             self.tables.take_back(undo);
             return Err(AllocError);
         };
-        self.reads.note_cells(noted);
+        self.indexes = indexes;
         keep_lost(self, action, &mut cells);
         Ok(Trace {
             cells,
@@ -217,24 +260,19 @@ impl<D: DocTables> Doc<D> {
         })
     }
 
-    // Whether a formula looks rows of the table up, as far as its text tells; so too where no
-    // values are kept. A row that comes or goes affects each such cell.
-    fn looks_up(&self, table: &Name) -> bool {
-        match &self.kept {
-            Some(kept) => is_looked_up(&self.tables, kept, table),
-            None => true,
-        }
-    }
-
     // Does a valid action by which these rows of a table come or go where values are kept:
-    // evaluates what it affects, and copies the other values.
-    fn put_rows(
+    // evaluates what it affects, in a count of attempts of its own, and copies the other values.
+    fn put_rows<L: Ledger>(
         &mut self,
         alloc: Global,
         action: &DocAction,
         table: &Name,
         rows: &[u32],
+        blank: Blank,
     ) -> Result<Trace<D>, AllocError>
+        requires name { blank.name ≡ L.name }
+        requires parts { blank.parts ≡ L.parts }
+        requires some { 0 < L.parts }
         requires valid { valid (D.document self.old) action.now ≡ true }
         requires table { moved_table action.now ≡ Some table.now }
         requires rows { moved_rows action.now ≡ rows.now }
@@ -254,29 +292,57 @@ impl<D: DocTables> Doc<D> {
         right_over_law();
         reads_over_law();
         reads_back_law();
-        noted_law();
         let Some(kept) = &self.kept else {
             return self.put_whole(alloc, action);
         };
+        let mut indexes = take_indexes(alloc, &mut self.indexes);
         let reads = &mut self.reads;
-        let mut moved = match find_moved(alloc, &self.tables, kept, reads, action, table, rows) {
+        let known = &mut indexes;
+        let found = find_moved(
+            alloc,
+            &mut self.tables,
+            kept,
+            reads,
+            known,
+            action,
+            table,
+            rows,
+        );
+        let mut moved = match found {
             Ok(moved) => moved,
             Err(ReadsFault::TooMany) => return self.put_whole(alloc, action),
             Err(ReadsFault::NoMemory) => return Err(AllocError),
         };
         let mut cells = narrow_cells(alloc, self, self.reads.graph(), &moved.found, action)?;
         let undo = self.tables.put(action)?;
+        let mut indexes = enter_indexes(alloc, &self.tables, indexes, action);
         let Some(kept) = &self.kept else {
             unreachable!();
         };
         let graph = self.reads.graph();
-        let Ok(fresh) = follow_moved(alloc, &self.tables, kept, graph, &mut moved, table, rows)
+        let Ok(carried) = follow_moved(alloc, &self.tables, kept, graph, &mut moved, table, rows)
         else {
             self.tables.take_back(undo);
             return Err(AllocError);
         };
+        let mut fresh = carried;
+        let reads = &mut self.reads;
+        let known = &mut indexes;
+        let mut steps = Steps::<L>::new(blank);
+        let Ok(()) = refresh_rest(
+            alloc,
+            &self.tables,
+            &mut fresh,
+            known,
+            reads,
+            moved.noted,
+            &mut steps,
+        ) else {
+            self.tables.take_back(undo);
+            return Err(AllocError);
+        };
+        self.indexes = indexes;
         let before = mem::replace(&mut self.kept, Some(fresh));
-        self.reads.note_cells(moved.noted);
         keep_lost(self, action, &mut cells);
         Ok(Trace {
             cells,
@@ -294,9 +360,10 @@ impl<D: DocTables> Doc<D> {
     /// Memory: the store's, and a copy of the cells that may be lost: those of formula columns, and
     /// of data columns those that a record action writes or removes, or all of the table of a
     /// schema action. Where a column has a formula or is given one, as to start. An update of few
-    /// rows takes that of what it affects and writes, and what the graph of reads takes of stale
-    /// cells. So do few rows that come or go, with a copy of the values, where no formula looks
-    /// these up.
+    /// rows takes that of what it affects and writes, what the graph of reads takes of that and of
+    /// stale cells, and an index of each data column by which these look rows up, where it has
+    /// none. So do few rows that come or go, with a copy of the values. Any other change gives the
+    /// indexes up.
     /// Cost: where no column has a formula, a record action looks at its own table and rows alone;
     /// an update of few rows looks at each column, and at the rows that it affects and writes,
     /// unless formulas read more than is recorded.
@@ -314,11 +381,11 @@ impl<D: DocTables> Doc<D> {
         ensures whole { IsWhole (D.document self.new) }
     {
         if self.is_narrow(action) {
-            return self.put_update(alloc, action);
+            return self.put_update::<Brand>(alloc, action, Blank::new(1));
         }
         if let Some((table, rows)) = few_moved(action) {
-            if !self.reads.is_wide() && !self.looks_up(table) {
-                return self.put_rows(alloc, action, table, rows);
+            if self.kept.is_some() && !self.reads.is_wide() {
+                return self.put_rows::<Brand>(alloc, action, table, rows, Blank::new(1));
             }
         }
         self.put_whole(alloc, action)
@@ -363,7 +430,8 @@ impl<D: DocTables> Doc<D> {
         Ok(())
     }
 
-    /// Goes back to the document before the change that left the present one.
+    /// Goes back to the document before the change that left the present one. The indexes are given
+    /// up.
     ///
     /// Memory: none.
     pub fn go_back(&mut self, trace: Trace<D>)
@@ -382,6 +450,7 @@ impl<D: DocTables> Doc<D> {
         } = trace;
         drop(cells);
         self.tables.take_back(undo);
+        give_up(&mut self.indexes);
         match taken {
             Some(taken) => {
                 put_back(&self.tables, &mut self.kept, taken);

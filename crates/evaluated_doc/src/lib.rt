@@ -11,17 +11,22 @@
 //! change lost, under the names before it; a change that fails leaves the document as it was, and
 //! the way back takes no memory.
 //! Not promised: speed. Where columns have formulas, an update of few rows evaluates what the graph
-//! of reads says that it affects, looks at that and at what it writes for what it lost, and first
-//! records what stale cells read: all, after any other change. Each time it makes indexes of the
-//! data columns by which these cells look rows up. Few rows that come or go do the same and copy
-//! every other value, where no formula looks them up. Where that is too much to be recorded, and
-//! for any other change, the whole document is evaluated. Where no column has a formula nothing is
-//! kept, and a record action looks at what it writes or removes.
+//! of reads says that it affects, and records what these cells read by the same attempts; it looks
+//! at them and at what it writes for what it lost. Before, it records what stale cells read: after
+//! such a change the circular ones, after any other change or a way back more, or all. Few rows
+//! that come or go do the same and copy every other value: of lookups both affect those by values
+//! that the rows have before or after, and those by formula columns. The indexes of the data
+//! columns by which these cells look rows up are made once, and each such change keeps them up by
+//! its rows. Where that is too much to be recorded, and for any other change, the whole document is
+//! evaluated, and the indexes are given up; so they are by a way back. Where no column has a
+//! formula nothing is kept, and a record action looks at what it writes or removes.
 //! Read first: doc.rt, then specs/WayBack.antt, specs/Update.antt and specs/Moved.antt, then
 //! updating.rt and moving.rt.
 #![tactic(auto)]
 
 mod doc;
+mod finding;
+mod indexing;
 mod moving;
 mod trace;
 mod updating;

@@ -4,28 +4,33 @@ ghost use Rattle.std.specs.Prelude.{◌≡◌, true, Some, IfOk, IfSome, OnOk};
 ghost use Rattle.cell_types.specs.declared.cell.CellId.{CellId};
 ghost use Rattle.doc_model.specs.DocumentLaws.{IsWhole};
 ghost use Rattle.doc_model.specs.Rows.{IsAscending};
+ghost use Rattle.doc_model.specs.Valid.{valid};
 ghost use Rattle.recalc.specs.Evaluated.{sheet_of};
-ghost use Rattle.recalc.specs.Kept.{IsEvaluated};
+ghost use Rattle.recalc.specs.Indexes.{AreIndexes};
+ghost use Rattle.recalc.specs.Kept.{IsEvaluated, IsSettled};
 ghost use Rattle.recalc.specs.Stack.{on};
-ghost use Rattle.affected_search.specs.Sheets.{HoldsReads, is_found};
+ghost use Rattle.affected_search.specs.Sheets.{is_found};
 ghost use Rattle.affected_values.specs.Carried.{AreRightStill, HasCellsOf, moved_rows, moved_table};
+ghost use Rattle.affected_values.specs.Indexing.{AreLeft};
 ghost use Rattle.known_reads.specs.Beside.{KnowsOthers};
 ghost use Rattle.evaluated_doc.specs.Moved.{IsMoved};
 
+use crate::finding::found_by_records;
+use crate::indexing::leave;
 use crate::updating::NARROW_ROWS;
-use affected_search::{AffectedCells, affected_by_action};
-use affected_values::{evaluate_carrying, named_cells, push_row_cells};
+use affected_search::AffectedCells;
+use affected_values::{carry_values, named_cells, push_row_cells};
 use cell_types::{CellId, Name};
 use dep_graph::DepGraph;
 use doc_model::{DocAction, DocTables};
 use doc_readers::rows_in;
 use known_reads::{KnownReads, ReadsFault};
-use recalc::KeptTable;
+use recalc::{ColumnIndex, KeptTable};
 use std::alloc::{AllocError, Global};
 
 /// What is found before rows of a table come or go: the cells that this affects, also by name, to
-/// be noted as stale by the change and, with those of the rows, by its way back; and the rows that
-/// the table has.
+/// be evaluated anew by the change and, with those of the rows, to be noted as stale by its way
+/// back; and the rows that the table has.
 #[derive(Drop)]
 pub(crate) struct Moved {
     pub(crate) found: AffectedCells,
@@ -59,24 +64,6 @@ pub(crate) fn few_moved(action: &DocAction) -> Option<(&Name, &[u32])>
     }
 }
 
-// Whether a formula of the columns looks rows of a table up, as far as its text tells.
-fn looks_up<D: DocTables>(tables: &D, held: &KeptTable, table: &Name) -> bool {
-    (0..held.columns.len()).any(|index| match tables.column(&held.id, index) {
-        Some(column) => {
-            let text = column.info.formula.as_str();
-            column.info.is_formula && text.contains("lookup") && text.contains(table.as_str())
-        }
-        None => false,
-    })
-}
-
-/// Whether a formula looks rows of the table up, as far as its text tells.
-///
-/// Memory: none. Cost: linear in the formulas of the document.
-pub(crate) fn is_looked_up<D: DocTables>(tables: &D, kept: &[KeptTable], table: &Name) -> bool {
-    kept.iter().any(|held| looks_up(tables, held, table))
-}
-
 // The found cells by name, and those of the formula columns of a table in these rows.
 fn named_with<D: DocTables>(
     alloc: Global,
@@ -105,41 +92,48 @@ fn columns_of(kept: &[KeptTable], table: &Name) -> usize {
     }
 }
 
-/// Makes the graph right, and finds by it what rows that come or go affect.
+/// Makes the graph right, and finds by it what rows that come or go affect: of lookups those that
+/// find these rows. Makes the indexes that are wanted for the graph, and leaves all but for these
+/// rows. The document is as it was.
 ///
-/// Errors: too many reads, or out of memory; the graph is then right of cells that are not stale.
-/// Memory and cost: those of the stale cells, as to an update, and of what is found; room for the
-/// cells to be noted, and a copy of the rows of the table.
+/// Errors: too many reads, or out of memory; the graph is then right of cells that are not stale,
+/// and the indexes are to be given up.
+/// Memory and cost: those of the stale cells, as to an update, and of what is found; each column of
+/// the table in these rows; room for the cells to be noted, and a copy of the rows of the table.
+/// The action is done once, and taken back.
 pub(crate) fn find_moved<D: DocTables>(
     alloc: Global,
-    tables: &D,
+    tables: &mut D,
     kept: &[KeptTable],
     reads: &mut KnownReads,
+    indexes: &mut Vec<ColumnIndex>,
     action: &DocAction,
     table: &Name,
     rows: &[u32],
 ) -> Result<Moved, ReadsFault>
-    requires whole { IsWhole (D.document tables.now) }
-    requires evaluated { IsEvaluated (D.document tables.now) kept.now }
-    requires others { KnowsOthers (D.document tables.now) reads.old }
+    requires whole { IsWhole (D.document tables.old) }
+    requires indexed { AreIndexes (sheet_of (D.document tables.old)) indexes.old.items }
+    requires evaluated { IsEvaluated (D.document tables.old) kept.now }
+    requires others { KnowsOthers (D.document tables.old) reads.old }
+    requires valid { valid (D.document tables.old) action.now ≡ true }
     requires moved { moved_table action.now ≡ Some table.now }
-    ensures others { KnowsOthers (D.document tables.now) reads.new }
-    ensures holds { OnOk result (HoldsReads reads.new.graph (sheet_of (D.document tables.now))) }
-    ensures found { IfOk result (λ x. IsMoved reads.new.graph action.now (D.document tables.now)
+    requires rows { moved_rows action.now ≡ rows.now }
+    ensures same { D.document tables.new ≡ D.document tables.old }
+    ensures others { KnowsOthers (D.document tables.old) reads.new }
+    ensures found { IfOk result (λ x. IsMoved reads.new.graph action.now (D.document tables.old)
         table.now rows.now x) }
+    ensures left { OnOk result (AreLeft (D.document tables.old) action.now indexes.new.items) }
 {
-    let mut indexes = Vec::new(alloc);
-    reads.make_right(alloc, tables, kept, &mut indexes)?;
-    let Some(found) = affected_by_action(alloc, reads.graph(), action)? else {
-        unreachable!();
-    };
+    reads.make_right(alloc, &*tables, kept, indexes)?;
+    leave(alloc, &*tables, indexes, action);
+    let found = found_by_records(alloc, tables, reads.graph(), action)?;
     let noted = named_cells(alloc, reads.graph(), &found)?;
-    let stale = named_with(alloc, tables, reads.graph(), &found, table, rows)?;
+    let stale = named_with(alloc, &*tables, reads.graph(), &found, table, rows)?;
     // For this change and for its way back.
     let cells = columns_of(kept, table).saturating_mul(rows.len());
     let count = cells.saturating_add(noted.len());
     reads.reserve(count.saturating_add(count))?;
-    let rows = Vec::from_slice(alloc, rows_in(tables, table))?;
+    let rows = Vec::from_slice(alloc, rows_in(&*tables, table))?;
     Ok(Moved {
         found,
         noted,
@@ -148,11 +142,10 @@ pub(crate) fn find_moved<D: DocTables>(
     })
 }
 
-/// Evaluates a document after rows of a table came or went, where what was kept of cells that are
-/// not found is right still, and puts the formula cells of the rows to those that are noted.
+/// Carries what was kept of cells that are not found over rows of a table that came or went, where
+/// it is right still, and puts the formula cells of the rows to those that are named.
 ///
-/// Errors: out of memory. Memory and cost: as to evaluate the cells that are found or come, and to
-/// copy all other values.
+/// Errors: out of memory. Memory and cost: as to copy these values.
 pub(crate) fn follow_moved<D: DocTables>(
     alloc: Global,
     tables: &D,
@@ -166,7 +159,7 @@ pub(crate) fn follow_moved<D: DocTables>(
     requires ascending { IsAscending moved.old.rows.items }
     requires right { AreRightStill (D.document tables.now) table.now moved.old.rows.items kept.now
         graph.now moved.old.found }
-    ensures evaluated { IfOk result (λ v. IsEvaluated (D.document tables.now) v.items) }
+    ensures settled { IfOk result (λ v. IsSettled (D.document tables.now) v.items) }
     ensures stays { OnOk result
         ((c : CellId) → on moved.old.noted.items c ≡ true → on moved.new.noted.items c ≡ true) }
     ensures noted { OnOk result
@@ -174,7 +167,7 @@ pub(crate) fn follow_moved<D: DocTables>(
     ensures left { moved.new.stale.items ≡ moved.old.stale.items }
 {
     push_row_cells(tables, table, rows, &mut moved.noted)?;
-    evaluate_carrying(
+    carry_values(
         alloc,
         tables,
         kept,

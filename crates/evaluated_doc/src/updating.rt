@@ -2,20 +2,24 @@
 
 ghost use Rattle.std.specs.Prelude.{◌≡◌, true, IfOk, OnOk};
 ghost use Rattle.doc_model.specs.DocumentLaws.{IsWhole};
+ghost use Rattle.doc_model.specs.Valid.{valid};
 ghost use Rattle.recalc.specs.Evaluated.{sheet_of};
+ghost use Rattle.recalc.specs.Indexes.{AreIndexes};
 ghost use Rattle.recalc.specs.Kept.{IsEvaluated};
 ghost use Rattle.affected_search.specs.Actions.{KeepsOthers};
-ghost use Rattle.affected_search.specs.Sheets.{HoldsReads};
+ghost use Rattle.affected_values.specs.Indexing.{AreLeft};
 ghost use Rattle.known_reads.specs.Beside.{KnowsOthers};
 ghost use Rattle.evaluated_doc.specs.Update.{IsAffected, is_update};
 
-use affected_search::{AffectedCells, affected_by_action};
+use crate::finding::found_by_records;
+use crate::indexing::leave;
+use affected_search::AffectedCells;
 use affected_values::{HeldValue, named_cells};
 use cell_types::CellId;
 use dep_graph::DepGraph;
 use doc_model::{DocAction, DocTables};
 use known_reads::{KnownReads, ReadsFault};
-use recalc::KeptTable;
+use recalc::{ColumnIndex, KeptTable};
 use std::alloc::{AllocError, Global};
 
 /// How many rows an action writes, adds or removes at most for that which it affects to be found:
@@ -23,13 +27,12 @@ use std::alloc::{AllocError, Global};
 pub(crate) const NARROW_ROWS: usize = 64;
 
 /// Affected cells: as they were found; to be evaluated anew, with room for what is known of them;
-/// to be noted as stale by the change; and by its way back.
+/// and to be noted as stale by the way back.
 #[derive(Drop)]
 pub(crate) struct Affected {
     pub(crate) found: AffectedCells,
     pub(crate) cells: Vec<CellId>,
     pub(crate) room: Vec<HeldValue>,
-    pub(crate) noted: Vec<CellId>,
     pub(crate) stale: Vec<CellId>,
 }
 
@@ -56,57 +59,62 @@ pub(crate) fn is_of_schema(action: &DocAction) -> bool {
 }
 
 // The found cells by name.
-fn named(
+fn named<D: DocTables>(
     alloc: Global,
+    tables: &D,
     graph: &DepGraph,
     action: &DocAction,
     found: AffectedCells,
 ) -> Result<Affected, AllocError>
-    requires { KeepsOthers graph.now action.now found }
-    ensures { IfOk result (λ x. IsAffected graph.now action.now x) }
+    requires { KeepsOthers (D.document tables.now) graph.now action.now found }
+    ensures { IfOk result (λ x. IsAffected (D.document tables.now) graph.now action.now x) }
 {
+    let _tables = tables;
     let _action = action;
     let cells = named_cells(alloc, graph, &found)?;
     let room = Vec::with_capacity(alloc, cells.len())?;
-    let noted = named_cells(alloc, graph, &found)?;
     let stale = named_cells(alloc, graph, &found)?;
     Ok(Affected {
         found,
         cells,
         room,
-        noted,
         stale,
     })
 }
 
-/// Makes the graph right, and finds by it what an update affects.
+/// Makes the graph right, and finds by it what an update affects: of lookups those by values that
+/// it writes, or writes over. Makes the indexes that are wanted for the graph, and leaves all but
+/// for the rows that the update writes. The document is as it was.
 ///
-/// Errors: too many reads, or out of memory; the graph is then right of cells that are not stale.
-/// Memory and cost: those of the stale cells, and of what is found; while the stale cells are
-/// recorded, an index of each data column by which they look rows up. It is not kept, since the
-/// update may write these columns.
+/// Errors: too many reads, or out of memory; the graph is then right of cells that are not stale,
+/// and the indexes are to be given up.
+/// Memory and cost: those of the stale cells, and of what is found, and the making of indexes. The
+/// update is put once, and taken back.
 pub(crate) fn find_affected<D: DocTables>(
     alloc: Global,
-    tables: &D,
+    tables: &mut D,
     kept: &[KeptTable],
     reads: &mut KnownReads,
+    indexes: &mut Vec<ColumnIndex>,
     action: &DocAction,
 ) -> Result<Affected, ReadsFault>
-    requires whole { IsWhole (D.document tables.now) }
-    requires evaluated { IsEvaluated (D.document tables.now) kept.now }
-    requires others { KnowsOthers (D.document tables.now) reads.old }
+    requires whole { IsWhole (D.document tables.old) }
+    requires indexed { AreIndexes (sheet_of (D.document tables.old)) indexes.old.items }
+    requires evaluated { IsEvaluated (D.document tables.old) kept.now }
+    requires others { KnowsOthers (D.document tables.old) reads.old }
+    requires valid { valid (D.document tables.old) action.now ≡ true }
     requires update { is_update action.now ≡ true }
-    ensures others { KnowsOthers (D.document tables.now) reads.new }
-    ensures holds { OnOk result (HoldsReads reads.new.graph (sheet_of (D.document tables.now))) }
-    ensures found { IfOk result (λ x. IsAffected reads.new.graph action.now x) }
+    ensures same { D.document tables.new ≡ D.document tables.old }
+    ensures others { KnowsOthers (D.document tables.old) reads.new }
+    ensures found { IfOk result
+        (λ x. IsAffected (D.document tables.old) reads.new.graph action.now x) }
+    ensures left { OnOk result (AreLeft (D.document tables.old) action.now indexes.new.items) }
 {
-    let mut indexes = Vec::new(alloc);
-    reads.make_right(alloc, tables, kept, &mut indexes)?;
-    let Some(found) = affected_by_action(alloc, reads.graph(), action)? else {
-        unreachable!();
-    };
-    // For this change and for its way back.
+    reads.make_right(alloc, &*tables, kept, indexes)?;
+    leave(alloc, &*tables, indexes, action);
+    let found = found_by_records(alloc, tables, reads.graph(), action)?;
+    // For the circular cells of this change, and for its way back.
     let count = found.cells().len();
     reads.reserve(count.saturating_add(count))?;
-    Ok(named(alloc, reads.graph(), action, found)?)
+    Ok(named(alloc, &*tables, reads.graph(), action, found)?)
 }

@@ -8,12 +8,12 @@ use Rattle.doc_model.specs.Apply.{apply}
 use Rattle.doc_model.specs.Document.{Document}
 use Rattle.dep_graph.specs.Graph.{Graph}
 use Rattle.recalc.specs.Evaluated.{formula_at, sheet_of}
-use Rattle.recalc.specs.Sheet.{reads}
 use Rattle.recalc.specs.Stack.{on}
 use Rattle.recalc.proofs.Moves.{on_append}
+use Rattle.affected_cells.specs.Noted.{notes}
 use Rattle.affected_cells.proofs.UpdateTouches.{after, same_formula}
-use Rattle.affected_search.specs.Sheets.{HoldsReads, is_found}
-use Rattle.affected_search.specs.Upkeep.{HoldsReadsOf}
+use Rattle.affected_search.specs.Noted.{HoldsNotes, HoldsNotesOf}
+use Rattle.affected_search.specs.Sheets.{is_found}
 use Rattle.known_reads.specs.Beside.{ReadsSameLaw}
 use Rattle.known_reads.specs.Known.{AreReadWhere, IsReadWhere}
 
@@ -41,22 +41,22 @@ left_noted old new left cells cell c is noted h = or_more (old || on (cell ∷ [
 pub room_left : (cells left : List CellId) (cell : CellId) → cells ≡ left ++ cell ∷ [] → length cells ≡ length left + 1
 room_left cells left cell is = ap length is ∙ length-append left (cell ∷ [])
 
--- ---- all reads
+-- ---- all notes
 
 -- what holds of each cell that is stale, and of each other one, holds of all
-pub all_known : (s : Document) (graph : Graph) (stale : List CellId) → AreReadWhere s graph stale → ((c : CellId) → on stale c ≡ false → IsReadWhere s graph c) → HoldsReads graph (sheet_of s)
+pub all_known : (s : Document) (graph : Graph) (stale : List CellId) → AreReadWhere s graph stale → ((c : CellId) → on stale c ≡ false → IsReadWhere s graph c) → HoldsNotes graph (sheet_of s)
 all_known s graph stale read others c f e = by (on stale c) refl
   where
-    by : (b : Bool) → on stale c ≡ b → HoldsReadsOf graph (sheet_of s) c
+    by : (b : Bool) → on stale c ≡ b → HoldsNotesOf graph (sheet_of s) c
     by true here = read c here (ap is_some e)
     by false here = others c here (ap is_some e)
 
 -- ---- over an update
 
 pub reads_same : ReadsSameLaw
-reads_same s t rows ks graph found cells ok holds keeps named = record {
+reads_same s t rows ks graph found cells ok keeps named = record {
   there = λ c. sym (ap is_some (formula_same c));
-  reads = λ c there other. by_formula c (formula_at s c) refl there other;
+  same = λ c there other. by_formula c (formula_at s c) refl there other;
 }
   where
     formula_same : (c : CellId) → formula_at (apply s (BulkUpdate t rows ks)) c ≡ formula_at s c
@@ -69,6 +69,6 @@ reads_same s t rows ks graph found cells ok holds keeps named = record {
         by true e = absurd (true≢false (sym (named c e) ∙ other))
         by false e = refl
 
-    by_formula : (c : CellId) (o : Option (List ℕ)) → formula_at s c ≡ o → is_some o ≡ true → on cells c ≡ false → reads (sheet_of s) c ≡ reads (sheet_of (apply s (BulkUpdate t rows ks))) c
+    by_formula : (c : CellId) (o : Option (List ℕ)) → formula_at s c ≡ o → is_some o ≡ true → on cells c ≡ false → notes (sheet_of s) c ≡ notes (sheet_of (apply s (BulkUpdate t rows ks))) c
     by_formula c None e there other = absurd (false≢true there)
-    by_formula c (Some f) e there other = sym (keeps s ok holds c f (formula_same c ∙ e) (ap (λ o. not (is_some o) || false) e) (not_found c other)).1
+    by_formula c (Some f) e there other = sym (keeps ok c f (formula_same c ∙ e) (ap (λ o. not (is_some o) || false) e) (not_found c other)).1

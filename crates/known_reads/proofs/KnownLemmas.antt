@@ -1,4 +1,4 @@
--- The reads that a graph has of an evaluated document.
+-- What a graph has of the notes of an evaluated document.
 use mathlib.Core.Path.{fun_ext}
 use Rattle.std.proofs.Common.{ℕ, ◌≤◌, Bool, true, false, ◌||◌, List, [], ◌∷◌, length, ◌≡◌, refl, sym, ap, ◌∙◌, subst, Option, Some, None, Result, Ok, Err, OnErr, OnOk}
 use Rattle.std.proofs.lemmas.Bool.{false≢true}
@@ -6,26 +6,26 @@ use Rattle.std.specs.List.{AllByRecursion}
 use Rattle.cell_types.specs.declared.cell.CellId.{CellId}
 use Rattle.doc_model.specs.Document.{Document}
 use Rattle.formula_eval.specs.Reader.{known as told_value, needed}
+use Rattle.affected_cells.specs.Noted.{notes}
 use Rattle.affected_cells.proofs.Tests.{all_weaker}
 use Rattle.dep_graph.specs.declared.numbers.ReadNumber.{ReadNumber}
 use Rattle.dep_graph.specs.Graph.{Graph, IsKept}
 use Rattle.dep_graph.specs.Records.{reads_under}
-use Rattle.dep_graph.specs.Sources.{read_source}
+use Rattle.dep_graph.specs.Sources.{Source, sources}
 use Rattle.dep_graph.proofs.NameLaws.{cell_stays, numbers_stay}
-use Rattle.cell_types.specs.declared.cell.Read.{Read}
 use Rattle.cell_types.specs.declared.value.CellValue.{CellValue}
 use Rattle.recalc.specs.declared.kept.KeptTable.{KeptTable}
 use Rattle.recalc.specs.Cells.{same_cell}
 use Rattle.recalc.specs.Evaluated.{base_at, formula_at, sheet_of, value_of}
 use Rattle.recalc.specs.Kept.{IsEvaluated, held_at}
-use Rattle.recalc.specs.Sheet.{Sheet, evaluated, over, reads, told_by}
+use Rattle.recalc.specs.Sheet.{Sheet, evaluated, over, told_by}
 use Rattle.recalc.specs.Stack.{on}
 use Rattle.recalc.proofs.Progress.{EachOf, each_all}
 use Rattle.recalc.proofs.SheetLemmas.{is_sheet}
 use Rattle.recalc.proofs.Turn.{same_true}
 use Rattle.affected_search.specs.Recording.{NeedsNone}
-use Rattle.affected_search.specs.Sheets.{IsHeld}
-use Rattle.affected_search.specs.Upkeep.{IsRecordedOf}
+use Rattle.affected_search.specs.Noted.{IsHeldSource}
+use Rattle.affected_search.specs.NotedUpkeep.{NotesRecordedOf}
 use Rattle.known_reads.specs.Known.{AreReadWhere, IsReadWhere, KeepsReads}
 
 module _ (s : Document) (ks : List KeptTable) (known : IsEvaluated s ks) where
@@ -55,15 +55,15 @@ module _ (s : Document) (ks : List KeptTable) (known : IsEvaluated s ks) where
       by (Some f) e = never e
 
 module _ (s : Sheet) (old new : Graph) (kept : IsKept old new) where
-  stays : (numbers : List ReadNumber) (q : Read) → IsHeld old.names numbers q → IsHeld new.names numbers q
-  stays numbers q h = (h.0, (numbers_stay old.names new.names kept.grown (read_source q ∷ []) (h.0 ∷ []) (h.1, tt)).0, h.2)
+  stays : (numbers : List ReadNumber) (x : Source) → IsHeldSource old.names numbers x → IsHeldSource new.names numbers x
+  stays numbers x h = (h.0, (numbers_stay old.names new.names kept.grown (x ∷ []) (h.0 ∷ []) (h.1, tt)).0, h.2)
 
   pub reads_kept : KeepsReads s old new
   reads_kept c h = (
     h.0,
     cell_stays old.names new.names kept.grown c h.0 h.1,
-    subst (λ ns. AllByRecursion (IsHeld new.names ns) (reads s c)) (sym (kept.reads h.0))
-        (all_weaker (IsHeld old.names (reads_under old.reads h.0)) (IsHeld new.names (reads_under old.reads h.0)) (stays (reads_under old.reads h.0)) (reads s c) h.2),
+    subst (λ ns. AllByRecursion (IsHeldSource new.names ns) (sources (notes s c))) (sym (kept.reads h.0))
+        (all_weaker (IsHeldSource old.names (reads_under old.reads h.0)) (IsHeldSource new.names (reads_under old.reads h.0)) (stays (reads_under old.reads h.0)) (sources (notes s c)) h.2),
   )
 
 -- what holds in any case
@@ -71,7 +71,7 @@ pub at_err : {A E P : Type 0} (r : Result A E) → P → OnErr r P
 at_err (Ok x) p = tt
 at_err (Err e) p = p
 
-pub kept_either : {A E : Type 0} (s : Sheet) (old new : Graph) (c : CellId) (r : Result A E) → OnOk r (IsRecordedOf new old s c) → OnErr r (KeepsReads s old new) → KeepsReads s old new
+pub kept_either : {A E : Type 0} (s : Sheet) (old new : Graph) (c : CellId) (r : Result A E) → OnOk r (NotesRecordedOf new old s c) → OnErr r (KeepsReads s old new) → KeepsReads s old new
 kept_either s old new c (Ok x) ok err = ok.others
 kept_either s old new c (Err e) ok err = err
 

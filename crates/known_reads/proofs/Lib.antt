@@ -2,3 +2,5 @@ pub mod BesideLemmas
 pub mod KnownLemmas
 pub mod WalkedLemmas
 pub mod MovedLemmas
+pub mod RecordedLemmas
+pub mod CountLemmas

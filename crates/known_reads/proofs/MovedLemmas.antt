@@ -14,16 +14,17 @@ use Rattle.doc_model.specs.Valid.{valid}
 use Rattle.dep_graph.specs.declared.numbers.CellNumber.{CellNumber}
 use Rattle.dep_graph.specs.Graph.{Graph}
 use Rattle.dep_graph.specs.Records.{reads_under}
+use Rattle.dep_graph.specs.Sources.{sources}
 use Rattle.recalc.specs.Evaluated.{formula_at, sheet_of}
-use Rattle.recalc.specs.Sheet.{reads}
 use Rattle.recalc.specs.Stack.{on}
 use Rattle.affected_cells.specs.Affected.{is_fresh_cell, is_modified}
+use Rattle.affected_cells.specs.Noted.{notes}
 use Rattle.affected_cells.specs.Touched.{is_touched}
 use Rattle.affected_cells.specs.TouchedRight.{IsSameCell}
 use Rattle.affected_cells.proofs.RowsLaw.{rows_law}
 use Rattle.affected_search.specs.Actions.{KeepsOthers}
-use Rattle.affected_search.specs.Sheets.{HoldsReads, IsHeld, is_found}
-use Rattle.affected_search.specs.Upkeep.{HoldsReadsOf}
+use Rattle.affected_search.specs.Noted.{HoldsNotesOf, IsHeldSource}
+use Rattle.affected_search.specs.Sheets.{is_found}
 use Rattle.affected_values.specs.Carried.{HasCellsOf, moved_rows, moved_table}
 use Rattle.known_reads.specs.Beside.{is_stale}
 use Rattle.known_reads.specs.Moved.{NotedLaw, ReadsBackLaw, ReadsOverLaw}
@@ -33,12 +34,12 @@ use Rattle.known_reads.specs.Moved.{NotedLaw, ReadsBackLaw, ReadsOverLaw}
 pub noted : NotedLaw
 noted s t cells old new after is known c fresh there = by (is_stale old c) (on cells c) refl refl
   where
-    from : is_stale old c ≡ false → on cells c ≡ false → HoldsReadsOf new.graph (sheet_of t) c
+    from : is_stale old c ≡ false → on cells c ≡ false → HoldsNotesOf new.graph (sheet_of t) c
     from right other =
         let held = known c right (after.there c there other) in
-        subst (λ g. HoldsReadsOf g (sheet_of t) c) (sym is.graph) (held.0, held.1, subst (AllByRecursion (IsHeld old.graph.names (reads_under old.graph.reads held.0))) (after.reads c there other) held.2)
+        subst (λ g. HoldsNotesOf g (sheet_of t) c) (sym is.graph) (held.0, held.1, subst (λ ns. AllByRecursion (IsHeldSource old.graph.names (reads_under old.graph.reads held.0)) (sources ns)) (after.same c there other) held.2)
 
-    by : (a b : Bool) → is_stale old c ≡ a → on cells c ≡ b → HoldsReadsOf new.graph (sheet_of t) c
+    by : (a b : Bool) → is_stale old c ≡ a → on cells c ≡ b → HoldsNotesOf new.graph (sheet_of t) c
     by true b e f = absurd (true≢false (sym (is.stale c (ap (λ x. x || on cells c) e)) ∙ fresh))
     by false true e f = absurd (true≢false (sym (is.stale c (ap (λ x. x || on cells c) e ∙ f)) ∙ fresh))
     by false false e f = from e f
@@ -87,7 +88,7 @@ not_modified (RenameColumn u k n) t h c = refl
 not_modified (ModifyColumn u k i) t h c = absurd (none_some t h)
 
 module _ (s : Document) (a : DocAction) (t : List ℕ) (graph : Graph) (found : List CellNumber) (cells : List CellId)
-    (moved : moved_table a ≡ Some t) (ok : valid s a ≡ true) (holds : HoldsReads graph (sheet_of s)) (keeps : KeepsOthers graph a found)
+    (moved : moved_table a ≡ Some t) (ok : valid s a ≡ true) (keeps : KeepsOthers s graph a found)
     (named : (c : CellId) → is_found graph found c ≡ true → on cells c ≡ true) (has_cells : HasCellsOf (apply s a) t (moved_rows a) cells) where
   not_found : (c : CellId) → on cells c ≡ false → is_found graph found c ≡ false
   not_found c other = by (is_found graph found c) refl
@@ -103,23 +104,23 @@ module _ (s : Document) (a : DocAction) (t : List ℕ) (graph : Graph) (found : 
       by true e = absurd (true≢false (sym (has_cells c e there) ∙ other))
       by false e = formula_apart s a t moved ok c e
 
-  same_reads : (c : CellId) → is_some (formula_at (apply s a) c) ≡ true → on cells c ≡ false → reads (sheet_of s) c ≡ reads (sheet_of (apply s a)) c
-  same_reads c there other = by (formula_at (apply s a) c) refl there
+  same_notes : (c : CellId) → is_some (formula_at (apply s a) c) ≡ true → on cells c ≡ false → notes (sheet_of s) c ≡ notes (sheet_of (apply s a)) c
+  same_notes c there other = by (formula_at (apply s a) c) refl there
     where
-      by : (o : Option (List ℕ)) → formula_at (apply s a) c ≡ o → is_some o ≡ true → reads (sheet_of s) c ≡ reads (sheet_of (apply s a)) c
+      by : (o : Option (List ℕ)) → formula_at (apply s a) c ≡ o → is_some o ≡ true → notes (sheet_of s) c ≡ notes (sheet_of (apply s a)) c
       by None e h = absurd (false≢true h)
-      by (Some f) e h = sym (keeps s ok holds c f e (ap (λ o. not (is_some o) || is_modified a c) (sym (formula_same c there other) ∙ e) ∙ not_modified a t moved c) (not_found c other)).1
+      by (Some f) e h = sym (keeps ok c f e (ap (λ o. not (is_some o) || is_modified a c) (sym (formula_same c there other) ∙ e) ∙ not_modified a t moved c) (not_found c other)).1
 
 pub reads_over : ReadsOverLaw
-reads_over s a t graph found cells moved ok holds keeps named has_cells = record {
-  there = λ c there other. ap is_some (sym (formula_same s a t graph found cells moved ok holds keeps named has_cells c there other)) ∙ there;
-  reads = λ c there other. same_reads s a t graph found cells moved ok holds keeps named has_cells c there other;
+reads_over s a t graph found cells moved ok keeps named has_cells = record {
+  there = λ c there other. ap is_some (sym (formula_same s a t graph found cells moved ok keeps named has_cells c there other)) ∙ there;
+  same = λ c there other. same_notes s a t graph found cells moved ok keeps named has_cells c there other;
 }
 
 -- ---- and back
 
 module _ (s : Document) (a : DocAction) (t : List ℕ) (graph : Graph) (found : List CellNumber) (cells : List CellId)
-    (moved : moved_table a ≡ Some t) (ok : valid s a ≡ true) (holds : HoldsReads graph (sheet_of s)) (keeps : KeepsOthers graph a found)
+    (moved : moved_table a ≡ Some t) (ok : valid s a ≡ true) (keeps : KeepsOthers s graph a found)
     (named : (c : CellId) → is_found graph found c ≡ true → on cells c ≡ true) (has_cells : HasCellsOf s t (moved_rows a) cells) where
   not_found_back : (c : CellId) → on cells c ≡ false → is_found graph found c ≡ false
   not_found_back c other = by (is_found graph found c) refl
@@ -135,15 +136,15 @@ module _ (s : Document) (a : DocAction) (t : List ℕ) (graph : Graph) (found : 
       by true e = absurd (true≢false (sym (has_cells c e there) ∙ other))
       by false e = formula_apart s a t moved ok c e
 
-  reads_before : (c : CellId) → is_some (formula_at s c) ≡ true → on cells c ≡ false → reads (sheet_of (apply s a)) c ≡ reads (sheet_of s) c
-  reads_before c there other = by (formula_at s c) refl there
+  notes_before : (c : CellId) → is_some (formula_at s c) ≡ true → on cells c ≡ false → notes (sheet_of (apply s a)) c ≡ notes (sheet_of s) c
+  notes_before c there other = by (formula_at s c) refl there
     where
-      by : (o : Option (List ℕ)) → formula_at s c ≡ o → is_some o ≡ true → reads (sheet_of (apply s a)) c ≡ reads (sheet_of s) c
+      by : (o : Option (List ℕ)) → formula_at s c ≡ o → is_some o ≡ true → notes (sheet_of (apply s a)) c ≡ notes (sheet_of s) c
       by None e h = absurd (false≢true h)
-      by (Some f) e h = (keeps s ok holds c f (formula_back c there other ∙ e) (ap (λ o. not (is_some o) || is_modified a c) e ∙ not_modified a t moved c) (not_found_back c other)).1
+      by (Some f) e h = (keeps ok c f (formula_back c there other ∙ e) (ap (λ o. not (is_some o) || is_modified a c) e ∙ not_modified a t moved c) (not_found_back c other)).1
 
 pub reads_back : ReadsBackLaw
-reads_back s a t graph found cells moved ok holds keeps named has_cells = record {
-  there = λ c there other. ap is_some (formula_back s a t graph found cells moved ok holds keeps named has_cells c there other) ∙ there;
-  reads = λ c there other. reads_before s a t graph found cells moved ok holds keeps named has_cells c there other;
+reads_back s a t graph found cells moved ok keeps named has_cells = record {
+  there = λ c there other. ap is_some (formula_back s a t graph found cells moved ok keeps named has_cells c there other) ∙ there;
+  same = λ c there other. notes_before s a t graph found cells moved ok keeps named has_cells c there other;
 }

@@ -1,4 +1,4 @@
--- The reads of all formula cells, table by table, column by column, row by row.
+-- The notes of all formula cells, table by table, column by column, row by row.
 use Rattle.std.proofs.Common.{ℕ, zero, suc, ◌≤◌, true, false, cond, List, [], ◌∷◌, ◌++◌, map, length, slice_get, ◌≡◌, inl, inr, ap, subst, None, Some, arith}
 use Rattle.std.specs.List.{AllByRecursion}
 use Rattle.std.specs.Option.{is_some}
@@ -16,7 +16,7 @@ use Rattle.recalc.specs.Sheet.{IsIn}
 use Rattle.recalc.proofs.Progress.{EachOf, cells_of_table, each_all}
 use Rattle.recalc.proofs.SheetLemmas.{is_sheet}
 use Rattle.recalc.proofs.WholeLemmas.{grid_there}
-use Rattle.affected_search.specs.Sheets.{HoldsReads}
+use Rattle.affected_search.specs.Noted.{HoldsNotes}
 use Rattle.known_reads.specs.Known.{EachIsRead, IsReadWhere, KeepsReads}
 use Rattle.known_reads.proofs.KnownLemmas.{read_stays}
 
@@ -62,6 +62,6 @@ module _ (s : Document) (graph : Graph) where
   read_in c (d ∷ ds) a (inl e) = subst (IsReadWhere s graph) e a.0
   read_in c (d ∷ ds) a (inr i) = read_in c ds a.1 i
 
-  pub all_hold : (n : ℕ) → length s ≤ n → EachOf (λ t. EachIsRead s graph (cells_of_table t)) s n → HoldsReads graph (sheet_of s)
+  pub all_hold : (n : ℕ) → length s ≤ n → EachOf (λ t. EachIsRead s graph (cells_of_table t)) s n → HoldsNotes graph (sheet_of s)
   all_hold n le all c f e =
       read_in c (formula_cells s) (read_tables s (each_all (λ t. EachIsRead s graph (cells_of_table t)) s n le all)) ((is_sheet s).listed c f e) (ap is_some e)

@@ -10,10 +10,10 @@ use Rattle.doc_model.specs.Valid.{valid}
 use Rattle.dep_graph.specs.declared.numbers.CellNumber.{CellNumber}
 use Rattle.dep_graph.specs.Graph.{Graph}
 use Rattle.recalc.specs.Evaluated.{formula_at, sheet_of}
-use Rattle.recalc.specs.Sheet.{reads}
 use Rattle.recalc.specs.Stack.{on}
+use Rattle.affected_cells.specs.Noted.{notes}
 use Rattle.affected_search.specs.Actions.{KeepsOthers}
-use Rattle.affected_search.specs.Sheets.{HoldsReads, is_found}
+use Rattle.affected_search.specs.Sheets.{is_found}
 use Rattle.known_reads.specs.Known.{IsReadWhere}
 
 -- a graph, the cells of which it may not be right, whether these are all, and for how many more
@@ -28,33 +28,32 @@ pub record Beside : Type 0 where
 abbrev pub is_stale : Beside → CellId → Bool
 is_stale known c = known.are_all_stale || on known.stale c
 
--- the graph has the reads of each formula cell that is not stale
+-- the graph has what each formula cell that is not stale notes
 abbrev pub KnowsOthers : Document → Beside → Type 0
 KnowsOthers s known = (c : CellId) → is_stale known c ≡ false → IsReadWhere s known.graph c
 
--- the documents have the same formula cells, and each but these reads the same in both
+-- the documents have the same formula cells, and each but these notes the same in both
 pub record ReadsSameBut (s t : Document) (cells : List CellId) : Type 0 where
   pub there : (c : CellId) → is_some (formula_at s c) ≡ is_some (formula_at t c)
-  pub reads : (c : CellId) → is_some (formula_at s c) ≡ true → on cells c ≡ false
-      → reads (sheet_of s) c ≡ reads (sheet_of t) c
+  pub same : (c : CellId) → is_some (formula_at s c) ≡ true → on cells c ≡ false
+      → notes (sheet_of s) c ≡ notes (sheet_of t) c
 
 -- the same graph, stale of what it was stale of, and of these cells
 pub record IsNoted (old new : Beside) (cells : List CellId) : Type 0 where
   pub graph : new.graph ≡ old.graph
   pub stale : (c : CellId) → (is_stale old c || on cells c) ≡ true → is_stale new c ≡ true
 
--- what reads the same is known of the one document where it was of the other, in both directions
+-- what notes the same is known of the one document where it was of the other, in both directions
 abbrev pub StaleLaw : Type 0
 StaleLaw = (s t : Document) (cells : List CellId) (old new : Beside) → ReadsSameBut s t cells
     → IsNoted old new cells → (KnowsOthers s old → KnowsOthers t new)
     × (KnowsOthers t old → KnowsOthers s new)
 
--- over an update each formula cell but the found ones reads the same
+-- over an update each formula cell but the found ones notes the same
 abbrev pub ReadsSameLaw : Type 0
 ReadsSameLaw =
     (s : Document) (t rows : List ℕ) (ks : List CellColumn) (graph : Graph)
     (found : List CellNumber) (cells : List CellId)
-    → valid s (BulkUpdate t rows ks) ≡ true → HoldsReads graph (sheet_of s)
-    → KeepsOthers graph (BulkUpdate t rows ks) found
+    → valid s (BulkUpdate t rows ks) ≡ true → KeepsOthers s graph (BulkUpdate t rows ks) found
     → ((c : CellId) → is_found graph found c ≡ true → on cells c ≡ true)
     → ReadsSameBut s (apply s (BulkUpdate t rows ks)) cells

@@ -1,3 +1,4 @@
 pub mod Beside
 pub mod Known
 pub mod Moved
+pub mod Recorded

@@ -6,9 +6,12 @@ ghost use Rattle.doc_model.specs.DocumentLaws.{IsWhole};
 ghost use Rattle.recalc.specs.Evaluated.{sheet_of};
 ghost use Rattle.recalc.specs.Indexes.{AreIndexes};
 ghost use Rattle.recalc.specs.Kept.{IsEvaluated};
+ghost use Rattle.recalc.specs.Sheet.{Sheet};
 ghost use Rattle.recalc.specs.Stack.{on};
-ghost use Rattle.affected_search.specs.Sheets.{HoldsReads};
+ghost use Rattle.affected_cells.specs.Noted.{notes};
+ghost use Rattle.affected_search.specs.Noted.{HoldsNotes};
 ghost use Rattle.known_reads.specs.Beside.{KnowsOthers, is_stale};
+ghost use Rattle.known_reads.specs.Recorded.{IsNotedOf};
 
 use crate::bounded::{BoundedGraph, ReadsFault};
 use crate::recording::record_cells;
@@ -16,6 +19,7 @@ use crate::walking::record_all;
 use cell_types::CellId;
 use dep_graph::DepGraph;
 use doc_model::DocTables;
+use formula_eval::NoteList;
 use recalc::{ColumnIndex, KeptTable};
 use std::alloc::{AllocError, Global};
 use std::marker::Model;
@@ -68,7 +72,8 @@ impl KnownReads {
         }
     }
 
-    /// What is recorded: of each formula cell that is not stale what it reads.
+    /// What is recorded: of each formula cell that is not stale what it reads, and the values by
+    /// which it looks rows up.
     ///
     /// Memory: none.
     pub fn graph(&self) -> &DepGraph
@@ -105,7 +110,7 @@ impl KnownReads {
         requires indexed { AreIndexes (sheet_of (D.document tables.now)) indexes.old.items }
         requires evaluated { IsEvaluated (D.document tables.now) kept.now }
         requires others { KnowsOthers (D.document tables.now) self.old }
-        ensures ok { OnOk result (HoldsReads self.new.graph (sheet_of (D.document tables.now))) }
+        ensures ok { OnOk result (HoldsNotes self.new.graph (sheet_of (D.document tables.now))) }
         ensures others { KnowsOthers (D.document tables.now) self.new }
         ensures room { self.new.room ≡ self.old.room }
         ensures indexed { OnOk result
@@ -156,7 +161,7 @@ impl KnownReads {
         requires indexed { AreIndexes (sheet_of (D.document tables.now)) indexes.old.items }
         requires evaluated { IsEvaluated (D.document tables.now) kept.now }
         requires others { KnowsOthers (D.document tables.now) self.old }
-        ensures ok { OnOk result (HoldsReads self.new.graph (sheet_of (D.document tables.now))) }
+        ensures ok { OnOk result (HoldsNotes self.new.graph (sheet_of (D.document tables.now))) }
         ensures none { OnOk result ((c : CellId) → is_stale self.new c ≡ false) }
         ensures others { KnowsOthers (D.document tables.now) self.new }
         ensures room { self.old.room ≤ self.new.room }
@@ -206,6 +211,20 @@ impl KnownReads {
             self.stale.push_reserved(cell);
         } else {
             self.are_all_stale = true;
+        }
+    }
+
+    /// Records what the run that gave a cell its value noted; notes the cell as stale, where this
+    /// cannot be recorded for want of room or memory.
+    ///
+    /// Memory: what the graph takes.
+    pub(crate) fn keep_notes(&mut self, cell: CellId, given: &NoteList)
+        ensures { (s : Sheet) → notes s cell ≡ given.now
+            → IsNotedOf self.old self.new s cell }
+    {
+        match self.graph.set(&cell, given) {
+            Ok(()) => drop(cell),
+            Err(_) => self.note_cell(cell),
         }
     }
 

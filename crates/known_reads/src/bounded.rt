@@ -2,9 +2,10 @@
 
 ghost use Rattle.std.specs.Prelude.{◌≡◌, ◌<◌, true, false, OnErr, OnOk};
 ghost use Rattle.std.specs.Option.{option_copied};
-ghost use Rattle.dep_graph.specs.Graph.{IsKept};
+ghost use Rattle.dep_graph.specs.Graph.{IsKept, IsSet};
 ghost use Rattle.recalc.specs.Sheet.{row_of};
-ghost use Rattle.affected_search.specs.Recording.{NeedsNone, RecordsCell};
+ghost use Rattle.affected_search.specs.NotedUpkeep.{RecordsNotes};
+ghost use Rattle.affected_search.specs.Recording.{NeedsNone};
 
 use affected_search::record_cell;
 use cell_types::{CellId, RowRef};
@@ -38,12 +39,13 @@ impl From<AllocError> for ReadsFault {
 
 /// A graph of reads that has room for so many. It is seen as the graph.
 ///
-/// Reads are counted as runs note them: one that a run notes twice counts twice, and what a cell
-/// read before counts still where it is recorded again. So there are no more in the graph.
+/// The reads of each cell are counted as they are recorded: one that a run notes twice counts
+/// twice. What a cell read before does not count any more where it is recorded again; the room that
+/// it took may stay taken.
 #[derive(Drop)]
 pub struct BoundedGraph {
     graph: DepGraph,
-    // How many reads were recorded in it, and how many are at most before no more is recorded.
+    // How many reads are recorded in it, and how many are at most before no more is recorded.
     reads: usize,
     most: usize,
 }
@@ -78,7 +80,7 @@ impl BoundedGraph {
         &self.graph
     }
 
-    // Whether no read was recorded.
+    // Whether no read is recorded.
     pub(crate) fn is_new(&self) -> bool {
         self.reads == 0
     }
@@ -99,7 +101,7 @@ impl BoundedGraph {
         requires name { blank.name ≡ L.name }
         requires parts { blank.parts ≡ L.parts }
         requires some { 0 < L.parts }
-        ensures ok { OnOk result (RecordsCell (R.told reader.now) (option_copied tree.entry)
+        ensures ok { OnOk result (RecordsNotes (R.told reader.now) (option_copied tree.entry)
             self.old self.new cell.now) }
         ensures err { OnErr result (IsKept self.old self.new) }
     {
@@ -107,8 +109,31 @@ impl BoundedGraph {
             return Err(ReadsFault::TooMany);
         }
         let mut steps = Steps::<L>::new(blank);
+        let before = self.graph.reads_count(cell);
         let notes = record_cell(alloc, reader, &mut self.graph, cell, at, tree, &mut steps)?;
-        self.reads = self.reads.saturating_add(notes.as_slice().len());
+        self.count_again(cell, before);
         Ok(notes)
+    }
+
+    // Counts the reads of a cell that was recorded again, of which so many counted before.
+    fn count_again(&mut self, cell: &CellId, before: usize)
+        ensures { self.new ≡ self.old }
+    {
+        let now = self.graph.reads_count(cell);
+        self.reads = self.reads.saturating_sub(before).saturating_add(now);
+    }
+
+    // Records what a run of a cell noted.
+    pub(crate) fn set(&mut self, cell: &CellId, notes: &NoteList) -> Result<(), ReadsFault>
+        ensures ok { OnOk result (IsSet self.old self.new cell.now notes.now) }
+        ensures err { OnErr result (IsKept self.old self.new) }
+    {
+        if self.reads >= self.most {
+            return Err(ReadsFault::TooMany);
+        }
+        let before = self.graph.reads_count(cell);
+        self.graph.set(cell, notes)?;
+        self.count_again(cell, before);
+        Ok(())
     }
 }

@@ -6,7 +6,7 @@ ghost use Rattle.doc_model.specs.DocumentLaws.{IsWhole};
 ghost use Rattle.recalc.specs.Evaluated.{formula_at, sheet_of};
 ghost use Rattle.recalc.specs.Indexes.{AreIndexes};
 ghost use Rattle.recalc.specs.Kept.{IsEvaluated};
-ghost use Rattle.affected_search.specs.Upkeep.{IsRecordedOf};
+ghost use Rattle.affected_search.specs.NotedUpkeep.{NotesRecordedOf};
 ghost use Rattle.known_reads.specs.Known.{AreReadWhere, IsReadWhere, KeepsReads};
 
 use crate::bounded::{BoundedGraph, ReadsFault};
@@ -32,7 +32,7 @@ fn record_formula<D: DocTables>(
     requires evaluated { IsEvaluated (D.document tables.now) kept.now }
     requires there { is_some (formula_at (D.document tables.now) cell.now) ≡ true }
     ensures ok { OnOk result
-        (IsRecordedOf graph.new graph.old (sheet_of (D.document tables.now)) cell.now) }
+        (NotesRecordedOf graph.new graph.old (sheet_of (D.document tables.now)) cell.now) }
     ensures err { OnErr result
         (KeepsReads (sheet_of (D.document tables.now)) graph.old graph.new) }
     ensures indexed { OnOk result

@@ -6,7 +6,7 @@ ghost use Rattle.doc_readers.specs.Parts.{grid_at};
 ghost use Rattle.recalc.specs.Evaluated.{cells_of_column, cells_of_columns, sheet_of};
 ghost use Rattle.recalc.specs.Indexes.{AreIndexes};
 ghost use Rattle.recalc.specs.Kept.{IsEvaluated};
-ghost use Rattle.affected_search.specs.Sheets.{HoldsReads};
+ghost use Rattle.affected_search.specs.Noted.{HoldsNotes};
 ghost use Rattle.known_reads.specs.Known.{EachIsRead, KeepsReads};
 
 use crate::bounded::{BoundedGraph, ReadsFault};
@@ -92,7 +92,7 @@ pub(crate) fn record_all<D: DocTables>(
     requires whole { IsWhole (D.document tables.now) }
     requires indexed { AreIndexes (sheet_of (D.document tables.now)) indexes.old.items }
     requires evaluated { IsEvaluated (D.document tables.now) kept.now }
-    ensures ok { OnOk result (HoldsReads graph.new (sheet_of (D.document tables.now))) }
+    ensures ok { OnOk result (HoldsNotes graph.new (sheet_of (D.document tables.now))) }
     ensures keeps { KeepsReads (sheet_of (D.document tables.now)) graph.old graph.new }
     ensures indexed { OnOk result
         (AreIndexes (sheet_of (D.document tables.now)) indexes.new.items) }

@@ -43,6 +43,7 @@ module _ (s : Sheet) (t c : List ℕ) (ty : ColType) where
   filled_none index e = record {
     each = λ r h. absurd (false≢true h);
     only = λ q r h. absurd (false≢true (sym (ap (λ l. has l r) (e q)) ∙ h));
+    exact = λ q r h. absurd (false≢true (sym (ap (λ l. has l r) (e q)) ∙ h));
   }
 
   module _ (old new : List (ℕ × Vec ℕ Global)) (rows : List ℕ) (r q : ℕ) (before : AreUnder s t c ty old rows) (here : IsInBucket s t c ty r q) (put : IsInserted old new q r) where
@@ -70,6 +71,16 @@ module _ (s : Sheet) (t c : List ℕ) (ty : ColType) where
           | false ↦ λ h. in_front rows r p (before.only x p h)
         ] (sym (ap (λ l. has l p) (put x)) ∙ h)
 
+    no_other_bucket : (x p : ℕ) → has (under new x) p ≡ true → IsInBucket s t c ty p x
+    no_other_bucket x p h =
+        elim (eqb q x) as (λ b. eqb q x ≡ b → has (cond b (insert_row r (under old x)) (under old x)) p ≡ true → IsInBucket s t c ty p x) [
+          | true ↦ λ same h. elim (eqb r p) as (λ b. eqb r p ≡ b → (b || has (under old x) p) ≡ true → IsInBucket s t c ty p x) [
+            | true ↦ λ is _. subst (λ z. IsInBucket s t c ty p z) (eqb-true q x same) (subst (λ z. IsInBucket s t c ty z q) (eqb-true r p is) here)
+            | false ↦ λ _ h. before.exact x p h
+          ] refl (sym (has-insert_row r (under old x) p) ∙ h)
+          | false ↦ λ _ h. before.exact x p h
+        ] refl (sym (ap (λ l. has l p) (put x)) ∙ h)
+
     pub filled_more : AreUnder s t c ty new (rows ++ r ∷ [])
     filled_more = record {
       each = λ p h. elim (eqb r p) as (λ b. eqb r p ≡ b → (x : ℕ) × IsInBucket s t c ty p x × (has (under new x) p ≡ true)) [
@@ -77,6 +88,7 @@ module _ (s : Sheet) (t c : List ℕ) (ty : ColType) where
         | false ↦ λ other. let u = before.each p (either_part rows r p other h) in (u.0, u.1, stays u.0 p u.2)
       ] refl;
       only = no_other;
+      exact = no_other_bucket;
     }
 
 -- ---- what a document tells of a data column

@@ -32,12 +32,13 @@ pub record IsInBucket (s : Sheet) (t c : List ℕ) (ty : ColType) (r bucket : �
   pub plain : is_error value ≡ false
   pub of_value : bucket ≡ bucket_of (as_read ty value)
 
--- the rows are under the buckets of their cells, and no others are
+-- the rows are under the buckets of their cells, and under no others, and no other rows are there
 pub record AreUnder (s : Sheet) (t c : List ℕ) (ty : ColType) (index : List (ℕ × Vec ℕ Global))
     (rows : List ℕ) : Type 0 where
   pub each : (r : ℕ) → has rows r ≡ true
       → (q : ℕ) × IsInBucket s t c ty r q × (has (under index q) r ≡ true)
   pub only : (q r : ℕ) → has (under index q) r ≡ true → has rows r ≡ true
+  pub exact : (q r : ℕ) → has (under index q) r ≡ true → IsInBucket s t c ty r q
 
 -- an index of a column without formulas
 pub record IsIndex (s : Sheet) (t c : List ℕ) (index : List (ℕ × Vec ℕ Global)) : Type 0 where

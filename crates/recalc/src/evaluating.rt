@@ -251,7 +251,9 @@ fn settle_tables<D: DocTables>(
     requires whole { IsWhole (D.document tables.now) }
     requires settled { IsSettled (D.document tables.now) kept.old.items }
     requires indexed { AreIndexes (sheet_of (D.document tables.now)) indexes.old.items }
-    ensures { OnOk result (IsEvaluated (D.document tables.now) kept.new.items) }
+    ensures evaluated { OnOk result (IsEvaluated (D.document tables.now) kept.new.items) }
+    ensures indexed { OnOk result
+        (AreIndexes (sheet_of (D.document tables.now)) indexes.new.items) }
 {
     for index in 0..kept.len() {
         let Some(table) = tables.table(index) else {
@@ -265,20 +267,23 @@ fn settle_tables<D: DocTables>(
 
 /// Finds the values of formula cells that are not known, where those that are known are right.
 ///
-/// Errors: out of memory.
+/// Errors: out of memory; the indexes are then to be given up.
 /// Memory and cost: as to evaluate the document, for the cells that are evaluated; to ask of each
 /// formula cell whether its value is known.
 pub fn evaluate_rest<D: DocTables>(
     alloc: Global,
     tables: &D,
     kept: &mut Vec<KeptTable>,
+    indexes: &mut Vec<ColumnIndex>,
 ) -> Result<(), AllocError>
     requires whole { IsWhole (D.document tables.now) }
     requires settled { IsSettled (D.document tables.now) kept.old.items }
-    ensures { OnOk result (IsEvaluated (D.document tables.now) kept.new.items) }
+    requires indexed { AreIndexes (sheet_of (D.document tables.now)) indexes.old.items }
+    ensures evaluated { OnOk result (IsEvaluated (D.document tables.now) kept.new.items) }
+    ensures indexed { OnOk result
+        (AreIndexes (sheet_of (D.document tables.now)) indexes.new.items) }
 {
-    let mut indexes = Vec::new(alloc);
-    settle_tables(alloc, tables, kept, &mut indexes)
+    settle_tables(alloc, tables, kept, indexes)
 }
 
 /// The values of the formula cells of a document.
@@ -296,6 +301,7 @@ pub(crate) fn evaluate<D: DocTables>(
     ensures { IfOk result (λ v. IsEvaluated (D.document tables.now) v.items) }
 {
     let mut kept = blank_tables(alloc, tables)?;
-    evaluate_rest(alloc, tables, &mut kept)?;
+    let mut indexes = Vec::new(alloc);
+    evaluate_rest(alloc, tables, &mut kept, &mut indexes)?;
     Ok(kept)
 }

@@ -45,8 +45,11 @@ fn is_error(value: &CellValue) -> bool
     }
 }
 
-// The bucket of a cell of a data column, where it holds no error.
-fn bucket_at<D: DocTables>(
+/// The bucket of a cell of a data column, where it is there and holds no error.
+///
+/// Errors: out of memory. Memory: the value, while it is read. Cost: a search for the cell, and the
+/// length of a text.
+pub fn bucket_at<D: DocTables>(
     alloc: Global,
     tables: &D,
     table: &Name,
@@ -154,7 +157,7 @@ fn index_lookup<D: DocTables>(
 {
     match note {
         Note::Met { table, keys } => index_keys(alloc, tables, indexes, table, keys),
-        Note::Read(_) => Ok(()),
+        Note::Read(_) | Note::All { .. } => Ok(()),
     }
 }
 

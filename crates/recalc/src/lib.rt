@@ -8,10 +8,11 @@
 //!
 //! Promises: `keep_values` finds the value of each formula cell, and `settle` of one cell from any
 //! values that are right; `index_lookups` makes the indexes of the data columns by which a run
-//! looked rows up; `watched_cells` tells the cells that an action may lose, and `keep_lost` leaves
-//! those that it lost. laws.rt: more fuel changes no value, as much fuel as there are formula cells
-//! is enough, a cell is circular exactly where no fuel gives it a value, and a whole document with
-//! its values in place is laid out as views need it.
+//! looked rows up, in which each row stands under the bucket of its cell and under no other;
+//! `watched_cells` tells the cells that an action may lose, and `keep_lost` leaves those that it
+//! lost. laws.rt: more fuel changes no value, as much fuel as there are formula cells is enough, a
+//! cell is circular exactly where no fuel gives it a value, and a whole document with its values in
+//! place is laid out as views need it.
 //! Not promised: speed. A lookup by `id` and data columns looks at the rows of one key's value,
 //! once there is an index; by formula columns at every row. Attempts are not counted.
 //! Read first: specs/Sheet.antt, specs/Evaluated.antt and specs/Lost.antt, then settling.rt; for
@@ -36,7 +37,7 @@ mod watched;
 pub use cells::{cell_id, keep_lost, push_cells};
 pub use current::{brings_formula, has_formula, keep_values, keep_values_after};
 pub use evaluating::{blank_tables, evaluate_rest, make_known};
-pub use indexes::{ColumnIndex, index_lookups};
+pub use indexes::{ColumnIndex, bucket_at, index_lookups};
 pub use kept::{KeptColumn, KeptTable};
 pub use names::{push_if, sorted};
 pub use places::{column_at, exchange_value, value_beside};

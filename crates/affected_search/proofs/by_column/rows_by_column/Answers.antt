@@ -1,6 +1,5 @@
-use Rattle.std.proofs.Common.{get_or, subst}
+use Rattle.std.proofs.Common.{get_or}
 use Rattle.std.proofs.lemmas.List.{get_or_default}
-use Rattle.affected_search.specs.ByColumn.{HasRowsOf}
 use Rattle.affected_search.proofs.ColumnLaws.{no_rows, row_put}
 use Rattle.affected_search.proofs.SearchLaws.{no_cell}
 use Rattle.affected_search.proofs.by_column.rows_by_column.Goals as goal

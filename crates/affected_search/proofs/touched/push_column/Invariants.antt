@@ -1,4 +1,4 @@
-use Rattle.std.proofs.Common.{◌≡◌, ◌++◌, ◌∷◌, map, drop}
+use Rattle.std.proofs.Common.{◌≡◌, ◌++◌, map, drop}
 use Rattle.dep_graph.specs.declared.numbers.ReadNumber.TheVariants as read
 use Rattle.affected_search.specs.TouchedReads.{cell_at, column_reads}
 use Rattle.affected_search.proofs.touched.push_column.Given as goal

@@ -1,19 +1,32 @@
-use Rattle.std.proofs.Common.{◌≡◌, true, ◌∙◌, sym, subst}
-use Rattle.std.specs.Prelude.{IfSome}
+use Rattle.std.proofs.Common.{◌≡◌, true, ◌∙◌, sym, ap, subst}
 use Rattle.cell_types.specs.declared.cell.CellId.{CellId}
 use Rattle.doc_model.specs.Rows.{IsAscending}
+use Rattle.doc_readers.specs.Parts.{grid_at}
+use Rattle.recalc.specs.Evaluated.{sheet_of}
 use Rattle.recalc.specs.Stack.{on}
 use Rattle.affected_search.specs.Actions.{KeepsOthers}
+use Rattle.affected_search.specs.Noted.{HoldsNotes}
 use Rattle.affected_search.specs.Sheets.{is_found}
+use Rattle.affected_values.specs.Carried.{HasCellsOf}
+use Rattle.evaluated_doc.proofs.MovedLemmas.{moved_records}
 use Rattle.evaluated_doc.proofs.moving.find_moved.Goals as goal
 
 pub returns-clause-found : goal.returns-clause-found
-returns-clause-found g c = record {
-  keeps = subst (λ gr. KeepsOthers gr c.args.action.now c.in-Some.found) (c.graph.ensures ∙ sym c.reserve.ensures.graph)
-      (subst (λ o. IfSome o (λ cells. KeepsOthers c.graph.result.now c.args.action.now cells)) c.in-Some.is c.in_ok-found.ensures.others);
-  noted = subst (λ gr. (d : CellId) → is_found gr c.in-Some.found d ≡ true → on c.in_ok-noted.noted.items d ≡ true) (c.graph-2.ensures ∙ sym c.reserve.ensures.graph) c.in_ok-noted.ensures;
-  stale = subst (λ gr. (d : CellId) → is_found gr c.in-Some.found d ≡ true → on c.in_ok-stale.stale.items d ≡ true) (c.graph-3.ensures ∙ sym c.reserve.ensures.graph) c.in_ok-stale.ensures.named;
-  moved = c.in_ok-stale.ensures.rows;
-  were = c.in_ok-rows.ensures.items ∙ c.rows_in.ensures.value;
-  ascending = subst IsAscending (sym c.in_ok-rows.ensures.items) c.rows_in.ensures.ascending;
-}
+returns-clause-found g c =
+    let s = g.D.DocReader.document c.args.tables.now in
+    let a = c.args.action.now in
+    let t = c.args.table.now in
+    let rows = c.args.rows.now in
+    let graph = c.make_right.new.self.graph in
+    let found = c.in_ok-found.found in
+    let same = c.found_by_records.ensures.same in
+    let held : HoldsNotes c.graph.result.now (sheet_of s) = subst (λ gr. HoldsNotes gr (sheet_of s)) (sym c.graph.ensures) c.in_ok-make_right.ensures.ok in
+    let keeps : KeepsOthers s graph a found = subst (λ gr. KeepsOthers s gr a found) c.graph.ensures (c.in_ok-found.ensures.others held) in
+    record {
+      keeps = subst (λ gr. KeepsOthers s gr a found) (sym c.reserve.ensures.graph) keeps;
+      noted = subst (λ gr. (d : CellId) → is_found gr found d ≡ true → on c.in_ok-noted.noted.items d ≡ true) (c.graph-2.ensures ∙ sym c.reserve.ensures.graph) c.in_ok-noted.ensures;
+      stale = subst (λ gr. (d : CellId) → is_found gr found d ≡ true → on c.in_ok-stale.stale.items d ≡ true) (c.graph-3.ensures ∙ sym c.reserve.ensures.graph) c.in_ok-stale.ensures.named;
+      moved = subst (λ d. HasCellsOf d t rows c.in_ok-stale.stale.items) same c.in_ok-stale.ensures.rows;
+      were = c.in_ok-rows.ensures.items ∙ c.rows_in.ensures.value ∙ ap (λ d. (grid_at d t).rows) same;
+      ascending = subst IsAscending (sym c.in_ok-rows.ensures.items) c.rows_in.ensures.ascending;
+    }

@@ -1,9 +1,14 @@
 use Rattle.std.proofs.Common.{sym, ◌∙◌, subst}
-use Rattle.std.specs.Prelude.{IfSome}
+use Rattle.recalc.specs.Evaluated.{sheet_of}
 use Rattle.affected_search.specs.Actions.{KeepsOthers}
+use Rattle.affected_search.specs.Noted.{HoldsNotes}
 use Rattle.evaluated_doc.proofs.updating.find_affected.Goals as goal
 
 pub named-requires : goal.named-requires
 named-requires g c =
-    subst (λ gr. KeepsOthers gr c.args.action.now c.in-Some.found) (c.graph.ensures ∙ sym c.reserve.ensures.graph ∙ sym c.graph-2.ensures)
-    (subst (λ o. IfSome o (λ cells. KeepsOthers c.graph.result.now c.args.action.now cells)) c.in-Some.is c.in_ok-found.ensures.others)
+    let s = g.D.DocReader.document c.args.tables.now in
+    let a = c.args.action.now in
+    let found = c.in_ok-found.found in
+    let held : HoldsNotes c.graph.result.now (sheet_of s) = subst (λ gr. HoldsNotes gr (sheet_of s)) (sym c.graph.ensures) c.in_ok-make_right.ensures.ok in
+    subst (λ d. KeepsOthers d c.graph-2.result.now a found) (sym c.found_by_records.ensures.same)
+    (subst (λ gr. KeepsOthers s gr a found) (c.graph.ensures ∙ sym c.reserve.ensures.graph ∙ sym c.graph-2.ensures) (c.in_ok-found.ensures.others held))

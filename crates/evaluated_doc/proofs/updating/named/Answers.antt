@@ -2,13 +2,12 @@ use Rattle.std.proofs.Common.{◌≡◌, ◌≤◌, length, vec_capacity, arith,
 use Rattle.evaluated_doc.proofs.updating.named.Goals as goal
 
 pub returns : goal.returns
-returns c =
+returns g c =
     let counts : c.len.result ≡ length c.in_ok-cells.cells.items = search rules in
     let fits : c.len.result ≤ vec_capacity c.in_ok-room.room = c.in_ok-room.ensures.capacity in
     record {
       found = c.requires;
       cells = record { found = c.args.found; keeps = c.requires; named = c.in_ok-cells.ensures };
-      noted = record { found = c.args.found; keeps = c.requires; named = c.in_ok-noted.ensures };
       stale = record { found = c.args.found; keeps = c.requires; named = c.in_ok-stale.ensures };
       empty = c.in_ok-room.ensures.items;
       room = omega (arith, counts, fits);

@@ -23,8 +23,8 @@ loop-index-preserved g c =
       indexed = c.in_ok-settle_table.ensures.indexed;
     }
 
-pub returns : goal.returns
-returns g c =
+pub returns-clause-evaluated : goal.returns-clause-evaluated
+returns-clause-evaluated g c =
     let s = g.D.DocReader.document c.args.tables.now in
     let counts : c.len-index-end.result ≡ length c.args.kept.now.items = search rules in
     let all : length c.args.kept.now.items ≤ c.loop-index.index = omega (arith, counts) in

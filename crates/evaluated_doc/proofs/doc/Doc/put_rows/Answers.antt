@@ -1,18 +1,21 @@
 use Rattle.std.proofs.Common.{◌≡◌, true, false, filter, sym, ap, ◌∙◌, subst, Option, Vec}
 use Rattle.std.specs.Global.{Global}
 use Rattle.std.specs.Option.{option_map}
+use Rattle.doc_model.specs.Apply.{apply}
 use Rattle.doc_model.specs.DocumentLaws.{IsWhole}
 use Rattle.doc_model.specs.Valid.{valid}
 use Rattle.recalc.specs.declared.kept.KeptTable.{KeptTable}
 use Rattle.recalc.specs.Current.{IsCurrent}
-use Rattle.recalc.specs.Evaluated.{filled}
+use Rattle.recalc.specs.Evaluated.{filled, sheet_of}
+use Rattle.recalc.specs.Indexes.{AreIndexes}
 use Rattle.recalc.specs.Kept.{IsEvaluated}
 use Rattle.recalc.specs.Lost.{all_cells, is_lost, lost}
 use Rattle.affected_search.specs.Narrow.{is_narrow}
 use Rattle.affected_values.specs.Carried.{AreRightStill, HasCellsOf}
+use Rattle.known_reads.specs.Beside.{KnowsOthers}
 use Rattle.known_reads.specs.Moved.{ReadsSameAfter}
-use Rattle.evaluated_doc.proofs.MovedLemmas.{known, moved_records, reads_before, right}
-use Rattle.evaluated_doc.proofs.UpdateLemmas.{lost_narrow}
+use Rattle.evaluated_doc.proofs.MovedLemmas.{known_but, moved_records, reads_before, right}
+use Rattle.evaluated_doc.proofs.UpdateLemmas.{lost_narrow, none_known}
 use Rattle.evaluated_doc.proofs.doc.Doc.put_rows.Goals as goal
 
 pub follow_moved-requires-clause-right : goal.follow_moved-requires-clause-right
@@ -25,23 +28,44 @@ follow_moved-requires-clause-right g c =
     let ok : valid s a ≡ true = subst (λ d. valid (g.D.DocReader.document d) a ≡ true) (sym c.self.view_is) c.requires.valid in
     let before : IsEvaluated s c.in-Some-kept.kept.items = rw c.in-Some-kept.is at c.self.invariant.1 in
     subst (λ gr. AreRightStill next t x.rows.items c.deref-2.result.now gr x.found) (sym c.graph-graph.ensures)
-    (subst (λ ks. AreRightStill next t x.rows.items ks c.find_moved.new.reads.graph x.found) (sym c.deref-2.ensures.value)
-    (right s next a t c.args.rows.now x ok c.requires.table c.in_ok-undo.ensures.done c.right_over_law.ensures c.find_moved.new.reads.graph c.in-Some-kept.kept.items
-    c.in-Ok.ensures.holds c.in-Ok.ensures.found before))
+    (subst (λ ks. AreRightStill next t x.rows.items ks c.find_moved-found.new.reads.graph x.found) (sym c.deref-2.ensures.value)
+    (right s next a t c.args.rows.now x ok c.requires.table (c.in_ok-undo.ensures.done ∙ ap (λ d. apply d c.args.action.now) c.find_moved-found.ensures.same) c.right_over_law.ensures c.find_moved-found.new.reads.graph c.in-Some-kept.kept.items
+    c.in-Ok.ensures.found before))
 
-pub invariant_of-self-3 : goal.invariant_of-self-3
-invariant_of-self-3 g c =
+pub enter_indexes-indexes-requires : goal.enter_indexes-indexes-requires
+enter_indexes-indexes-requires g c = record {
+  before = g.D.DocReader.document c.self.inside.tables;
+  ok = subst (λ d. valid (g.D.DocReader.document d) c.args.action.now ≡ true) (sym c.self.view_is) c.requires.valid;
+  done = (c.in_ok-undo.ensures.done ∙ ap (λ d. apply d c.args.action.now) c.find_moved-found.ensures.same);
+  left = c.in-Ok.ensures.left;
+}
+
+pub find_moved-found-requires-clause-valid : goal.find_moved-found-requires-clause-valid
+find_moved-found-requires-clause-valid g c = subst (λ d. valid (g.D.DocReader.document d) c.args.action.now ≡ true) (sym c.self.view_is) c.requires.valid
+
+pub find_moved-found-requires-clause-indexed : goal.find_moved-found-requires-clause-indexed
+find_moved-found-requires-clause-indexed g c = c.take_indexes-indexes.ensures.taken (sheet_of (g.D.DocReader.document c.self.inside.tables)) c.self.invariant.3
+
+pub refresh_rest-requires-clause-reads : goal.refresh_rest-requires-clause-reads
+refresh_rest-requires-clause-reads g c =
     let s = g.D.DocReader.document c.self.inside.tables in
     let next = g.D.DocReader.document c.put.new.self in
     let a = c.args.action.now in
     let t = c.args.table.now in
     let ok : valid s a ≡ true = subst (λ d. valid (g.D.DocReader.document d) a ≡ true) (sym c.self.view_is) c.requires.valid in
-    let cells = c.follow_moved.new.moved.noted.items in (
-      subst IsWhole (sym c.in_ok-undo.ensures.done) (c.kept_law.ensures s a c.self.invariant.0 ok),
-      subst (λ (o : Option (Vec KeptTable Global)). IsCurrent next (option_map (λ (v : Vec KeptTable Global). v.items) o)) (sym c.replace-before.ensures.after) c.in-Ok-follow_moved.ensures.evaluated,
-      known s next a t c.args.rows.now c.in-Ok.moved ok c.requires.table c.in_ok-undo.ensures.done c.reads_over_law.ensures c.noted_law.ensures c.find_moved.new.reads c.note_cells.new.self cells
-          c.in-Ok.ensures.holds c.in-Ok.ensures.found c.in-Ok-follow_moved.ensures.stays (subst (λ rs. HasCellsOf next t rs cells) (sym c.requires.rows) c.in-Ok-follow_moved.ensures.noted)
-          (record { graph = c.note_cells.ensures.graph; stale = c.note_cells.ensures.stale }) c.find_moved.ensures.others,
+    let cells = c.follow_moved.new.moved.noted.items in
+    known_but s next a t c.args.rows.now c.in-Ok.moved ok c.requires.table (c.in_ok-undo.ensures.done ∙ ap (λ d. apply d c.args.action.now) c.find_moved-found.ensures.same) c.reads_over_law.ensures c.find_moved-found.new.reads cells
+    c.in-Ok.ensures.found c.in-Ok-follow_moved.ensures.stays (subst (λ rs. HasCellsOf next t rs cells) (sym c.requires.rows) c.in-Ok-follow_moved.ensures.noted) c.find_moved-found.ensures.others
+
+pub invariant_of-self-in_default-refresh_rest : goal.invariant_of-self-in_default-refresh_rest
+invariant_of-self-in_default-refresh_rest g c =
+    let s = g.D.DocReader.document c.self.inside.tables in
+    let reads = c.refresh_rest.new.reads in
+    subst (λ d. IsWhole d × IsCurrent d (option_map (λ (v : Vec KeptTable Global). v.items) c.self.inside.kept) × KnowsOthers d reads × AreIndexes (sheet_of d) c.take_indexes-indexes.new.indexes.items) (sym (c.take_back-in_default-refresh_rest.ensures ∙ c.in_ok-undo.ensures.back ∙ c.find_moved-found.ensures.same)) (
+      c.self.invariant.0,
+      c.self.invariant.1,
+      none_known s reads c.in_default-refresh_rest.ensures.stale,
+      c.take_indexes-indexes.ensures.left (sheet_of s),
     )
 
 pub returns-clause-cells : goal.returns-clause-cells
@@ -50,11 +74,12 @@ returns-clause-cells g c =
     let next = g.D.DocReader.document c.put.new.self in
     let a = c.args.action.now in
     let ok : valid s a ≡ true = subst (λ d. valid (g.D.DocReader.document d) a ≡ true) (sym c.self.view_is) c.requires.valid in
-    let graph = c.find_moved.new.reads.graph in
+    let graph = c.find_moved-found.new.reads.graph in
     let x = c.in-Ok.moved in
     subst (λ d. c.keep_lost.new.cells.items ≡ lost (g.D.DocReader.document d) next a) c.self.view_is
-    (c.keep_lost.ensures ∙ ap (filter (is_lost (filled next) a)) (c.in_ok-cells.ensures ∙ ap (λ gr. filter (is_narrow gr x.found (filled s) a) (all_cells (filled s))) c.graph.ensures)
-    ∙ lost_narrow c.narrow_law.ensures s next a ok (moved_records a c.args.table.now c.requires.table) c.in_ok-undo.ensures.done graph x.found c.self.invariant.0 c.in-Ok.ensures.holds c.in-Ok.ensures.found.keeps)
+    (c.keep_lost.ensures ∙ ap (filter (is_lost (filled next) a)) (c.in_ok-cells.ensures ∙ ap (λ gr. filter (is_narrow gr x.found (filled (g.D.DocReader.document c.find_moved-found.new.tables)) a) (all_cells (filled (g.D.DocReader.document c.find_moved-found.new.tables)))) c.graph.ensures
+    ∙ ap (λ d. filter (is_narrow graph x.found (filled d) a) (all_cells (filled d))) c.find_moved-found.ensures.same)
+    ∙ lost_narrow c.narrow_law.ensures s next a ok (moved_records a c.args.table.now c.requires.table) (c.in_ok-undo.ensures.done ∙ ap (λ d. apply d c.args.action.now) c.find_moved-found.ensures.same) graph x.found c.self.invariant.0 c.in-Ok.ensures.found.keeps)
 
 pub returns-clause-way : goal.returns-clause-way
 returns-clause-way g c =
@@ -66,9 +91,51 @@ returns-clause-way g c =
     let ok : valid s a ≡ true = subst (λ d. valid (g.D.DocReader.document d) a ≡ true) (sym c.self.view_is) c.requires.valid in
     record {
       fit = c.in_ok-undo.ensures.fit;
-      whole = subst IsWhole (sym c.in_ok-undo.ensures.back) c.self.invariant.0;
-      before = subst (λ d. IsCurrent d (option_map (λ (v : Vec KeptTable Global). v.items) c.replace-before.result) × (false ≡ false → ReadsSameAfter next d c.follow_moved.new.moved.stale.items)) (sym c.in_ok-undo.ensures.back) (
+      whole = subst IsWhole (sym (c.in_ok-undo.ensures.back ∙ c.find_moved-found.ensures.same)) c.self.invariant.0;
+      before = subst (λ d. IsCurrent d (option_map (λ (v : Vec KeptTable Global). v.items) c.replace-before.result) × (false ≡ false → ReadsSameAfter next d c.follow_moved.new.moved.stale.items)) (sym (c.in_ok-undo.ensures.back ∙ c.find_moved-found.ensures.same)) (
         subst (λ (o : Option (Vec KeptTable Global)). IsCurrent s (option_map (λ (v : Vec KeptTable Global). v.items) o)) (sym c.replace-before.ensures.value) c.self.invariant.1,
-        λ _. subst (ReadsSameAfter next s) (sym c.follow_moved.ensures.left) (reads_before s next a t c.args.rows.now x ok c.requires.table c.in_ok-undo.ensures.done c.reads_back_law.ensures c.find_moved.new.reads.graph c.requires.rows c.in-Ok.ensures.holds c.in-Ok.ensures.found),
+        λ _. subst (ReadsSameAfter next s) (sym c.follow_moved.ensures.left) (reads_before s next a t c.args.rows.now x ok c.requires.table (c.in_ok-undo.ensures.done ∙ ap (λ d. apply d c.args.action.now) c.find_moved-found.ensures.same) c.reads_back_law.ensures c.find_moved-found.new.reads.graph c.requires.rows c.in-Ok.ensures.found),
       );
     }
+
+pub invariant_of-self : goal.invariant_of-self
+invariant_of-self g c =
+    subst (λ d. IsWhole d × IsCurrent d (option_map (λ (v : Vec KeptTable Global). v.items) c.self.inside.kept) × KnowsOthers d c.find_moved-found.new.reads × AreIndexes (sheet_of d) c.take_indexes-indexes.new.indexes.items) (sym c.find_moved-found.ensures.same)
+    (c.self.invariant.0, c.self.invariant.1, c.find_moved-found.ensures.others, c.take_indexes-indexes.ensures.left (sheet_of (g.D.DocReader.document c.self.inside.tables)))
+
+pub invariant_of-self-in-Err-NoMemory : goal.invariant_of-self-in-Err-NoMemory
+invariant_of-self-in-Err-NoMemory g c =
+    subst (λ d. IsWhole d × IsCurrent d (option_map (λ (v : Vec KeptTable Global). v.items) c.self.inside.kept) × KnowsOthers d c.find_moved-found.new.reads × AreIndexes (sheet_of d) c.take_indexes-indexes.new.indexes.items) (sym c.find_moved-found.ensures.same)
+    (c.self.invariant.0, c.self.invariant.1, c.find_moved-found.ensures.others, c.take_indexes-indexes.ensures.left (sheet_of (g.D.DocReader.document c.self.inside.tables)))
+
+pub invariant_of-self-2 : goal.invariant_of-self-2
+invariant_of-self-2 g c =
+    subst (λ d. IsWhole d × IsCurrent d (option_map (λ (v : Vec KeptTable Global). v.items) c.self.inside.kept) × KnowsOthers d c.find_moved-found.new.reads × AreIndexes (sheet_of d) c.take_indexes-indexes.new.indexes.items) (sym c.find_moved-found.ensures.same)
+    (c.self.invariant.0, c.self.invariant.1, c.find_moved-found.ensures.others, c.take_indexes-indexes.ensures.left (sheet_of (g.D.DocReader.document c.self.inside.tables)))
+
+pub invariant_of-self-in_err-cells : goal.invariant_of-self-in_err-cells
+invariant_of-self-in_err-cells g c =
+    subst (λ d. IsWhole d × IsCurrent d (option_map (λ (v : Vec KeptTable Global). v.items) c.self.inside.kept) × KnowsOthers d c.find_moved-found.new.reads × AreIndexes (sheet_of d) c.take_indexes-indexes.new.indexes.items) (sym c.find_moved-found.ensures.same)
+    (c.self.invariant.0, c.self.invariant.1, c.find_moved-found.ensures.others, c.take_indexes-indexes.ensures.left (sheet_of (g.D.DocReader.document c.self.inside.tables)))
+
+pub invariant_of-self-in_err-undo : goal.invariant_of-self-in_err-undo
+invariant_of-self-in_err-undo g c =
+    subst (λ d. IsWhole d × IsCurrent d (option_map (λ (v : Vec KeptTable Global). v.items) c.self.inside.kept) × KnowsOthers d c.find_moved-found.new.reads × AreIndexes (sheet_of d) c.take_indexes-indexes.new.indexes.items) (sym (c.in_err-undo.ensures.err ∙ c.find_moved-found.ensures.same))
+    (c.self.invariant.0, c.self.invariant.1, c.find_moved-found.ensures.others, c.take_indexes-indexes.ensures.left (sheet_of (g.D.DocReader.document c.self.inside.tables)))
+
+pub invariant_of-self-in_default-follow_moved : goal.invariant_of-self-in_default-follow_moved
+invariant_of-self-in_default-follow_moved g c =
+    subst (λ d. IsWhole d × IsCurrent d (option_map (λ (v : Vec KeptTable Global). v.items) c.self.inside.kept) × KnowsOthers d c.find_moved-found.new.reads × AreIndexes (sheet_of d) c.take_indexes-indexes.new.indexes.items) (sym (c.take_back.ensures ∙ c.in_ok-undo.ensures.back ∙ c.find_moved-found.ensures.same))
+    (c.self.invariant.0, c.self.invariant.1, c.find_moved-found.ensures.others, c.take_indexes-indexes.ensures.left (sheet_of (g.D.DocReader.document c.self.inside.tables)))
+
+pub invariant_of-self-3 : goal.invariant_of-self-3
+invariant_of-self-3 g c =
+    let s = g.D.DocReader.document c.self.inside.tables in
+    let next = g.D.DocReader.document c.put.new.self in
+    let a = c.args.action.now in
+    let ok : valid s a ≡ true = subst (λ d. valid (g.D.DocReader.document d) a ≡ true) (sym c.self.view_is) c.requires.valid in (
+      subst IsWhole (sym (c.in_ok-undo.ensures.done ∙ ap (λ d. apply d c.args.action.now) c.find_moved-found.ensures.same)) (c.kept_law.ensures s a c.self.invariant.0 ok),
+      subst (λ (o : Option (Vec KeptTable Global)). IsCurrent next (option_map (λ (v : Vec KeptTable Global). v.items) o)) (sym c.replace-before.ensures.after) c.in-Ok-refresh_rest.ensures.ok,
+      c.in-Ok-refresh_rest.ensures.reads,
+      c.in-Ok-refresh_rest.ensures.indexed,
+    )

@@ -1,0 +1,112 @@
+-- Indexes of data columns that an action leaves alone.
+use Rattle.std.proofs.Common.{ℕ, Bool, true, false, cond, not, ◌&&◌, ◌||◌, List, [], ◌∷◌, map, ◌≡◌, inl, inr, refl, sym, ap, ◌∙◌, subst, Option, Some, None, Vec}
+use Rattle.std.proofs.lemmas.Bool.{true≢false, false≢true}
+use Rattle.std.specs.Global.{Global}
+use Rattle.std.specs.List.{list_any}
+use Rattle.std.specs.Str.{bytes_eq}
+use Rattle.cell_types.specs.declared.cell.CellId.{CellId}
+use Rattle.cell_types.specs.declared.cell.Read.{Read}
+use Rattle.cell_types.specs.declared.cell.Read.TheVariants.{Key, Rows}
+use Rattle.cell_types.specs.declared.column_type.ColType.{ColType}
+use Rattle.doc_model.specs.declared.action.DocAction.{DocAction}
+use Rattle.doc_model.specs.declared.action.DocAction.TheVariants.{BulkAdd, BulkUpdate, BulkRemove, AddTable, RemoveTable, RenameTable, AddColumn, RemoveColumn, RenameColumn, ModifyColumn}
+use Rattle.doc_model.specs.declared.column.CellColumn.{CellColumn}
+use Rattle.doc_model.specs.Apply.{apply}
+use Rattle.doc_model.specs.ByIds.{has_id}
+use Rattle.doc_model.specs.Document.{Document}
+use Rattle.doc_model.specs.Records.{given_id}
+use Rattle.doc_model.specs.Rows.{has}
+use Rattle.doc_model.specs.Valid.{valid}
+use Rattle.recalc.specs.declared.indexes.ColumnIndex.{ColumnIndex}
+use Rattle.recalc.specs.Cells.{cell_of}
+use Rattle.recalc.specs.Evaluated.{sheet_of}
+use Rattle.recalc.specs.Indexes.{AreUnder, IsInBucket, IsIndex}
+use Rattle.recalc.specs.Sheet.{Sheet}
+use Rattle.affected_cells.specs.Touched.{Touch, cells_written, touched_by}
+use Rattle.affected_cells.specs.TouchedRight.{IsSameCell, IsTouchedRight, TouchesRight}
+use Rattle.affected_cells.proofs.KeptLaws.{update_law}
+use Rattle.affected_cells.proofs.RowsLaw.{rows_law}
+use Rattle.affected_cells.proofs.Tests.{flipped}
+use Rattle.affected_values.specs.Indexing.{leaves_column}
+
+-- ---- rows under buckets, in two sheets in which their cells are the same
+
+module _ (s t : Sheet) (u c : List ℕ) (ty : ColType) (index : List (ℕ × Vec ℕ Global)) (rows : List ℕ)
+    (same : (r : ℕ) → has rows r ≡ true → s.base (cell_of u c r) ≡ t.base (cell_of u c r)) where
+  bucket_same : (r q : ℕ) → has rows r ≡ true → IsInBucket s u c ty r q → IsInBucket t u c ty r q
+  bucket_same r q h b = record {
+    value = b.value;
+    told = sym (same r h) ∙ b.told;
+    plain = b.plain;
+    of_value = b.of_value;
+  }
+
+  pub under_same : AreUnder s u c ty index rows → AreUnder t u c ty index rows
+  under_same under = record {
+    each = λ r h. let b = under.each r h in (b.0, bucket_same r b.0 h b.1, b.2);
+    only = under.only;
+    exact = λ q r h. bucket_same r q (under.only q r h) (under.exact q r h);
+  }
+
+-- ---- an index that a change leaves alone
+
+module _ (s t : Sheet) (fresh : CellId → Bool) (touched : Read → Bool) (right : IsTouchedRight s t fresh touched) where
+  pub plain_same : (d : CellId) → IsSameCell s t fresh touched d → s.formula d ≡ None → (t.formula d ≡ None) × (s.base d ≡ t.base d)
+  plain_same d (inl x) e = (x.1, x.2)
+  plain_same d (inr x) e = let no : ◌≡◌ {A = Option (List ℕ)} None (Some x.0) = sym e ∙ x.1 in absurd (cc)
+
+  index_same : (u c : List ℕ) (index : List (ℕ × Vec ℕ Global)) → touched (Key u c) ≡ false → touched (Rows u) ≡ false → IsIndex s u c index → IsIndex t u c index
+  index_same u c index key rows h =
+      let free = right.key u c key in
+      let plain : (r : ℕ) → (t.formula (cell_of u c r) ≡ None) × (s.base (cell_of u c r) ≡ t.base (cell_of u c r)) = λ r. plain_same (cell_of u c r) (free.1 r) (h.no_formula r) in
+      record {
+        ty = h.ty;
+        kind = sym free.0 ∙ h.kind;
+        no_formula = λ r. (plain r).0;
+        rows = h.rows;
+        listed = sym (right.rows u rows) ∙ h.listed;
+        filled = under_same s t u c h.ty index h.rows (λ r _. (plain r).1) h.filled;
+      }
+
+-- ---- what an action on records leaves alone
+
+-- a column that is not given is not written, and no rows are touched
+not_written : (t rows u c : List ℕ) (ks : List CellColumn) → not (bytes_eq u t && has_id given_id ks c) ≡ true
+    → list_any (λ (m : Touch). touched_by m (Key u c)) (map (λ (k : CellColumn). cells_written t k.id rows) ks) ≡ false
+not_written t rows u c [] h = refl
+not_written t rows u c (k ∷ ks) h =
+    ap (λ b. (bytes_eq u t && b) || list_any (λ (m : Touch). touched_by m (Key u c)) (map (λ (l : CellColumn). cells_written t l.id rows) ks)) (flipped c k.id)
+    ∙ by (bytes_eq u t) (bytes_eq k.id c) (has_id given_id ks c) h (not_written t rows u c ks)
+  where
+    by : (a b d : Bool) → not (a && (b || d)) ≡ true → (not (a && d) ≡ true → list_any (λ (m : Touch). touched_by m (Key u c)) (map (λ (l : CellColumn). cells_written t l.id rows) ks) ≡ false)
+        → ((a && b) || list_any (λ (m : Touch). touched_by m (Key u c)) (map (λ (l : CellColumn). cells_written t l.id rows) ks)) ≡ false
+    by true true d h g = absurd (false≢true h)
+    by true false d h g = g h
+    by false b d h g = g refl
+
+no_rows_moved : (t rows u : List ℕ) (ks : List CellColumn) → list_any (λ (m : Touch). touched_by m (Rows u)) (map (λ (k : CellColumn). cells_written t k.id rows) ks) ≡ false
+no_rows_moved t rows u [] = refl
+no_rows_moved t rows u (k ∷ ks) = no_rows_moved t rows u ks
+
+other_table : (b : Bool) → not b ≡ true → (b || false) ≡ false
+other_table false h = refl
+other_table true h = absurd (false≢true h)
+
+module _ (s : Document) where
+  pub index_left : (a : DocAction) → valid s a ≡ true → (i : ColumnIndex) → leaves_column a i.table i.column ≡ true
+      → IsIndex (sheet_of s) i.table i.column i.index → IsIndex (sheet_of (apply s a)) i.table i.column i.index
+  index_left (BulkUpdate t rows ks) ok i h is =
+      index_same (sheet_of s) (sheet_of (apply s (BulkUpdate t rows ks))) _ _ (update_law s t rows ks ok) i.table i.column i.index (not_written t rows i.table i.column ks h) (no_rows_moved t rows i.table ks) is
+  index_left (BulkAdd t rows ks) ok i h is =
+      let free = other_table (bytes_eq i.table t) h in
+      index_same (sheet_of s) (sheet_of (apply s (BulkAdd t rows ks))) _ _ ((rows_law s t rows).added ks ok) i.table i.column i.index free free is
+  index_left (BulkRemove t rows) ok i h is =
+      let free = other_table (bytes_eq i.table t) h in
+      index_same (sheet_of s) (sheet_of (apply s (BulkRemove t rows))) _ _ ((rows_law s t rows).removed ok) i.table i.column i.index free free is
+  index_left (AddTable t row ds) ok i h is = absurd (false≢true h)
+  index_left (RemoveTable t) ok i h is = absurd (false≢true h)
+  index_left (RenameTable t new) ok i h is = absurd (false≢true h)
+  index_left (AddColumn t d) ok i h is = absurd (false≢true h)
+  index_left (RemoveColumn t c) ok i h is = absurd (false≢true h)
+  index_left (RenameColumn t c new) ok i h is = absurd (false≢true h)
+  index_left (ModifyColumn t c info) ok i h is = absurd (false≢true h)

@@ -1,0 +1,100 @@
+use Rattle.std.proofs.Common.{sym, ◌∙◌, subst, arith}
+use Rattle.cell_types.specs.declared.value.CellValue.TheVariants.{Err}
+use Rattle.cell_types.specs.declared.value.ErrKind.TheVariants.{Circular}
+use Rattle.recalc.specs.Evaluated.{sheet_of}
+use Rattle.recalc.specs.Kept.{held_at}
+use Rattle.recalc.specs.Stack.{IsOpen}
+use Rattle.recalc.proofs.Turns.{put_stays, turn_open, turn_value, turn_circular, turn_push}
+use Rattle.recalc.proofs.SheetLemmas.{is_sheet}
+use Rattle.known_reads.specs.Recorded.{IsTold}
+use Rattle.known_reads.proofs.CountLemmas.{length_snoc, open_less}
+use Rattle.known_reads.proofs.RecordedLemmas.{noted_same, recording_put}
+use Rattle.known_reads.proofs.settling.turn.Goals as goal
+
+pub try_cell-requires-clause-opened : goal.try_cell-requires-clause-opened
+try_cell-requires-clause-opened g c =
+    let s = g.D.DocReader.document c.args.tables.now in
+    subst (λ l. IsOpen (sheet_of s) (held_at s l) c.in-Some.top) (sym c.deref.ensures.value)
+    (turn_open (sheet_of s) (is_sheet s) (held_at s c.args.kept.now.items) c.args.stack.now.items c.pop.new.self.items c.in-Some.top c.in-Some.ensures.items c.requires.working)
+
+pub put_value-requires-clause-opened : goal.put_value-requires-clause-opened
+put_value-requires-clause-opened g c =
+    let s = g.D.DocReader.document c.args.tables.now in
+    turn_open (sheet_of s) (is_sheet s) (held_at s c.args.kept.now.items) c.args.stack.now.items c.pop.new.self.items c.in-Some.top c.in-Some.ensures.items c.requires.working
+
+pub put_value-requires-then-is_on-clause-opened : goal.put_value-requires-then-is_on-clause-opened
+put_value-requires-then-is_on-clause-opened g c =
+    let s = g.D.DocReader.document c.args.tables.now in
+    turn_open (sheet_of s) (is_sheet s) (held_at s c.args.kept.now.items) c.args.stack.now.items c.pop.new.self.items c.in-Some.top c.in-Some.ensures.items c.requires.working
+
+pub returns-then-is_on-clause-turn : goal.returns-then-is_on-clause-turn
+returns-then-is_on-clause-turn g c =
+    let s = g.D.DocReader.document c.args.tables.now in
+    let told = subst (λ l. IsTold (sheet_of s) (held_at s l) c.in-Some.top c.in_ok-value.field-0) c.deref.ensures.value c.in_ok-value.ensures.told in
+    turn_circular (sheet_of s) (is_sheet s) (held_at s c.args.kept.now.items) c.args.stack.now.items c.pop.new.self.items c.in-Some.top c.in-Some.ensures.items c.requires.working
+    c.in-Need.cell (held_at s c.put_value-then-is_on.new.kept.items) (rw c.in-Need.is at told).0 (sym (rw c.deref-in-Need.ensures.value at c.is_on.ensures) ∙ c.if-is_on.true)
+    c.put_value-then-is_on.ensures.put
+
+pub returns-in-Value-clause-turn : goal.returns-in-Value-clause-turn
+returns-in-Value-clause-turn g c =
+    let s = g.D.DocReader.document c.args.tables.now in
+    let told = subst (λ l. IsTold (sheet_of s) (held_at s l) c.in-Some.top c.in_ok-value.field-0) c.deref.ensures.value c.in_ok-value.ensures.told in
+    turn_value (sheet_of s) (is_sheet s) (held_at s c.args.kept.now.items) c.args.stack.now.items c.pop.new.self.items c.in-Some.top c.in-Some.ensures.items c.requires.working
+    c.in-Value.value (held_at s c.put_value.new.kept.items) (rw c.in-Value.is at told).0 c.put_value.ensures.put
+
+pub returns-in_ok-push-in-Need-2-clause-turn : goal.returns-in_ok-push-in-Need-2-clause-turn
+returns-in_ok-push-in-Need-2-clause-turn g c =
+    let s = g.D.DocReader.document c.args.tables.now in
+    let told = subst (λ l. IsTold (sheet_of s) (held_at s l) c.in-Some.top c.in_ok-value.field-0) c.deref.ensures.value c.in_ok-value.ensures.told in
+    turn_push (sheet_of s) (is_sheet s) (held_at s c.args.kept.now.items) c.args.stack.now.items c.pop.new.self.items c.in-Some.top c.in-Some.ensures.items c.requires.working
+    c.in-Need.cell c.push.new.self.items c.push-in-Need.new.self.items (rw c.in-Need.is at told).0 (rw c.in-Need.is at told).1
+    (sym (rw c.deref-in-Need.ensures.value at c.is_on.ensures) ∙ c.if-is_on.false) c.in_ok-push-in-Need.ensures.items c.in_ok-push-in-Need-2.ensures.items
+
+pub returns-then-is_on-clause-stays : goal.returns-then-is_on-clause-stays
+returns-then-is_on-clause-stays g c =
+    let s = g.D.DocReader.document c.args.tables.now in
+    put_stays (held_at s c.args.kept.now.items) (held_at s c.put_value-then-is_on.new.kept.items) c.in-Some.top (Err Circular) c.put_value-then-is_on.ensures.put
+
+pub returns-in-Value-clause-stays : goal.returns-in-Value-clause-stays
+returns-in-Value-clause-stays g c =
+    let s = g.D.DocReader.document c.args.tables.now in
+    put_stays (held_at s c.args.kept.now.items) (held_at s c.put_value.new.kept.items) c.in-Some.top c.in-Value.value c.put_value.ensures.put
+
+pub returns-then-is_on-clause-recording : goal.returns-then-is_on-clause-recording
+returns-then-is_on-clause-recording g c =
+    let s = g.D.DocReader.document c.args.tables.now in
+    recording_put s (held_at s c.args.kept.now.items) (held_at s c.put_value-then-is_on.new.kept.items) c.args.reads.now c.note_cell.new.self c.in-Some.top (Err Circular) c.put_value-then-is_on.ensures.put
+    (noted_same c.args.reads.now c.note_cell.new.self c.in-Some.top c.note_cell.ensures.graph c.note_cell.ensures.stale (sheet_of s))
+
+pub returns-in-Value-clause-recording : goal.returns-in-Value-clause-recording
+returns-in-Value-clause-recording g c =
+    let s = g.D.DocReader.document c.args.tables.now in
+    let told = subst (λ l. IsTold (sheet_of s) (held_at s l) c.in-Some.top c.in_ok-value.field-0) c.deref.ensures.value c.in_ok-value.ensures.told in
+    recording_put s (held_at s c.args.kept.now.items) (held_at s c.put_value.new.kept.items) c.args.reads.now c.keep_notes.new.self c.in-Some.top c.in-Value.value c.put_value.ensures.put
+    (c.keep_notes.ensures (sheet_of s) (rw c.in-Value.is at told).1)
+
+pub returns-in-Value-clause-attempts : goal.returns-in-Value-clause-attempts
+returns-in-Value-clause-attempts g c =
+    let s = g.D.DocReader.document c.args.tables.now in
+    λ cells has. let less = open_less (sheet_of s) (held_at s c.args.kept.now.items) (held_at s c.put_value.new.kept.items) c.in-Some.top c.in-Value.value c.put_value.ensures.put
+    (turn_open (sheet_of s) (is_sheet s) (held_at s c.args.kept.now.items) c.args.stack.now.items c.pop.new.self.items c.in-Some.top c.in-Some.ensures.items c.requires.working) cells has in
+    let one = length_snoc c.args.stack.now.items c.pop.new.self.items c.in-Some.top c.in-Some.ensures.items in
+    let step = c.try_cell.ensures.steps in
+    omega (arith, less, one, step)
+
+pub returns-then-is_on-clause-attempts : goal.returns-then-is_on-clause-attempts
+returns-then-is_on-clause-attempts g c =
+    let s = g.D.DocReader.document c.args.tables.now in
+    λ cells has. let less = open_less (sheet_of s) (held_at s c.args.kept.now.items) (held_at s c.put_value-then-is_on.new.kept.items) c.in-Some.top (Err Circular) c.put_value-then-is_on.ensures.put
+    (turn_open (sheet_of s) (is_sheet s) (held_at s c.args.kept.now.items) c.args.stack.now.items c.pop.new.self.items c.in-Some.top c.in-Some.ensures.items c.requires.working) cells has in
+    let one = length_snoc c.args.stack.now.items c.pop.new.self.items c.in-Some.top c.in-Some.ensures.items in
+    let step = c.try_cell.ensures.steps in
+    omega (arith, less, one, step)
+
+pub returns-in_ok-push-in-Need-2-clause-attempts : goal.returns-in_ok-push-in-Need-2-clause-attempts
+returns-in_ok-push-in-Need-2-clause-attempts g c =
+    λ cells has. let one = length_snoc c.args.stack.now.items c.pop.new.self.items c.in-Some.top c.in-Some.ensures.items in
+    let two = length_snoc c.push.new.self.items c.pop.new.self.items c.in-Some.top c.in_ok-push-in-Need.ensures.items in
+    let three = length_snoc c.push-in-Need.new.self.items c.push.new.self.items c.in-Need.cell c.in_ok-push-in-Need-2.ensures.items in
+    let step = c.try_cell.ensures.steps in
+    omega (arith, one, two, three, step)

@@ -1,0 +1,167 @@
+//! Cells evaluated anew, with what they read, where the values of all others are known.
+
+ghost use Rattle.std.specs.Prelude.{◌≡◌, ◌+◌, ◌*◌, ◌≤◌, List, [], length, true, IfOk, OnErr, OnOk, vec_capacity};
+ghost use Rattle.std.specs.Option.{is_some};
+ghost use Rattle.cell_types.specs.declared.cell.CellId.{CellId};
+ghost use Rattle.doc_model.specs.DocumentLaws.{IsWhole};
+ghost use Rattle.recalc.specs.Evaluated.{sheet_of};
+ghost use Rattle.recalc.specs.Indexes.{AreIndexes};
+ghost use Rattle.recalc.specs.Kept.{IsEvaluated, IsFurther, IsKeptOf, IsSettled, held_at};
+ghost use Rattle.affected_values.specs.Taken.{IsHeldWhere, IsRightBut, LeadsBack, taken_of};
+ghost use Rattle.known_reads.specs.Beside.{KnowsOthers};
+ghost use Rattle.known_reads.specs.Recorded.{HasOpen, IsRecording, KnowsBut, open_count};
+
+use crate::beside::KnownReads;
+use crate::settling::settle_cell;
+use affected_values::{HeldValue, put_values_back, take_values};
+use cell_types::CellId;
+use doc_model::DocTables;
+use formula_eval::Steps;
+use recalc::{ColumnIndex, KeptTable, evaluate_rest};
+use std::alloc::{AllocError, Global};
+use std::sync::ledger::Ledger;
+
+// Evaluates the cells whose values were taken out, where all values that are known are right.
+fn settle_taken<D: DocTables, L: Ledger>(
+    alloc: Global,
+    tables: &D,
+    kept: &mut Vec<KeptTable>,
+    indexes: &mut Vec<ColumnIndex>,
+    reads: &mut KnownReads,
+    taken: &[HeldValue],
+    steps: &mut Steps<L>,
+) -> Result<(), AllocError>
+    requires whole { IsWhole (D.document tables.now) }
+    requires indexed { AreIndexes (sheet_of (D.document tables.now)) indexes.old.items }
+    requires settled { IsSettled (D.document tables.now) kept.old.items }
+    ensures known { OnOk result ((c : CellId) → is_some (taken_of taken.now c) ≡ true
+        → IsHeldWhere (D.document tables.now) kept.new.items c) }
+    ensures further { IsFurther (D.document tables.now) kept.old.items kept.new.items }
+    ensures recording { IsRecording (D.document tables.now)
+        (held_at (D.document tables.now) kept.old.items) reads.old
+        (held_at (D.document tables.now) kept.new.items) reads.new }
+    ensures attempts { (cells : List CellId) → HasOpen (sheet_of (D.document tables.now))
+        (held_at (D.document tables.now) kept.old.items) cells → steps.new
+        ≤ steps.old + 2 * open_count (held_at (D.document tables.now) kept.old.items) cells }
+    ensures indexed { OnOk result
+        (AreIndexes (sheet_of (D.document tables.now)) indexes.new.items) }
+{
+    for held in taken {
+        settle_cell(alloc, tables, kept, indexes, reads, &held.cell, steps)?;
+    }
+    Ok(())
+}
+
+/// Evaluates these cells anew, where the values of all other formula cells are known and right, and
+/// records what they read by the same attempts. What was known of them is handed out, so that it
+/// can be put back. A cell is noted as stale where it is circular, since its run may not have been
+/// whole, and where what it reads is not recorded for want of room or memory. Makes the indexes of
+/// the data columns by which the cells look rows up, where they have none.
+///
+/// Errors: out of memory; each value is then as it was, all cells are stale, and the indexes are to
+/// be given up.
+/// Memory: a stack as deep as the chains of the cells that are evaluated, what the graph takes, and
+/// the indexes. None for what is handed out, for which there is room.
+/// Cost: that of the cells that are evaluated, and the making of indexes.
+pub fn refresh_recording<D: DocTables, L: Ledger>(
+    alloc: Global,
+    tables: &D,
+    kept: &mut Vec<KeptTable>,
+    indexes: &mut Vec<ColumnIndex>,
+    reads: &mut KnownReads,
+    cells: Vec<CellId>,
+    room: Vec<HeldValue>,
+    steps: &mut Steps<L>,
+) -> Result<Vec<HeldValue>, AllocError>
+    requires whole { IsWhole (D.document tables.now) }
+    requires indexed { AreIndexes (sheet_of (D.document tables.now)) indexes.old.items }
+    requires of_document { IsKeptOf (D.document tables.now) kept.old.items }
+    requires others { IsRightBut (D.document tables.now) kept.old.items cells.items }
+    requires reads { KnowsBut (D.document tables.now) reads.old cells.items }
+    requires empty { room.items ≡ [] }
+    requires room { length cells.items ≤ vec_capacity room }
+    ensures of_document { IsKeptOf (D.document tables.now) kept.new.items }
+    ensures ok { OnOk result (IsEvaluated (D.document tables.now) kept.new.items) }
+    ensures way { IfOk result (λ taken. LeadsBack (D.document tables.now) taken.items
+        kept.new.items kept.old.items) }
+    ensures reads { OnOk result (KnowsOthers (D.document tables.now) reads.new) }
+    ensures err { OnErr result
+        (LeadsBack (D.document tables.now) [] kept.new.items kept.old.items) }
+    ensures stale { OnErr result (reads.new.are_all_stale ≡ true) }
+    ensures indexed { OnOk result
+        (AreIndexes (sheet_of (D.document tables.now)) indexes.new.items) }
+    // Two attempts a cell at most, whatever comes of them.
+    ensures attempts { steps.new ≤ steps.old + 2 * length cells.items }
+{
+    let mut taken = room;
+    take_values(tables, kept, cells, &mut taken);
+    match settle_taken(alloc, tables, kept, indexes, reads, &taken, steps) {
+        Ok(()) => Ok(taken),
+        Err(_) => {
+            put_values_back(tables, kept, taken);
+            reads.note_all();
+            Err(AllocError)
+        }
+    }
+}
+
+// Evaluates the formula cells whose values are not known, these cells first.
+fn settle_rest<D: DocTables, L: Ledger>(
+    alloc: Global,
+    tables: &D,
+    kept: &mut Vec<KeptTable>,
+    indexes: &mut Vec<ColumnIndex>,
+    reads: &mut KnownReads,
+    cells: Vec<CellId>,
+    steps: &mut Steps<L>,
+) -> Result<(), AllocError>
+    requires whole { IsWhole (D.document tables.now) }
+    requires settled { IsSettled (D.document tables.now) kept.old.items }
+    requires indexed { AreIndexes (sheet_of (D.document tables.now)) indexes.old.items }
+    requires reads { KnowsBut (D.document tables.now) reads.old cells.items }
+    ensures ok { OnOk result (IsEvaluated (D.document tables.now) kept.new.items) }
+    ensures reads { OnOk result (KnowsOthers (D.document tables.now) reads.new) }
+    ensures indexed { OnOk result
+        (AreIndexes (sheet_of (D.document tables.now)) indexes.new.items) }
+{
+    let mut taken = Vec::with_capacity(alloc, cells.len())?;
+    take_values(tables, kept, cells, &mut taken);
+    settle_taken(alloc, tables, kept, indexes, reads, &taken, steps)?;
+    evaluate_rest(alloc, tables, kept, indexes)
+}
+
+/// Evaluates the formula cells whose values are not known, where those that are known are right,
+/// and these cells anew, of which it records what they read by the same attempts. A cell is noted
+/// as stale as by `refresh_recording`.
+///
+/// Errors: out of memory; the values and the indexes are then to be given up, and all cells are
+/// stale.
+/// Memory and cost: as to `refresh_recording`, with room for what is known of these cells; and to
+/// ask of each formula cell whether its value is known.
+pub fn refresh_rest<D: DocTables, L: Ledger>(
+    alloc: Global,
+    tables: &D,
+    kept: &mut Vec<KeptTable>,
+    indexes: &mut Vec<ColumnIndex>,
+    reads: &mut KnownReads,
+    cells: Vec<CellId>,
+    steps: &mut Steps<L>,
+) -> Result<(), AllocError>
+    requires whole { IsWhole (D.document tables.now) }
+    requires settled { IsSettled (D.document tables.now) kept.old.items }
+    requires indexed { AreIndexes (sheet_of (D.document tables.now)) indexes.old.items }
+    requires reads { KnowsBut (D.document tables.now) reads.old cells.items }
+    ensures ok { OnOk result (IsEvaluated (D.document tables.now) kept.new.items) }
+    ensures reads { OnOk result (KnowsOthers (D.document tables.now) reads.new) }
+    ensures indexed { OnOk result
+        (AreIndexes (sheet_of (D.document tables.now)) indexes.new.items) }
+    ensures stale { OnErr result (reads.new.are_all_stale ≡ true) }
+{
+    match settle_rest(alloc, tables, kept, indexes, reads, cells, steps) {
+        Ok(()) => Ok(()),
+        Err(_) => {
+            reads.note_all();
+            Err(AllocError)
+        }
+    }
+}

@@ -5,7 +5,6 @@ ghost use Rattle.std.specs.List.{AllByRecursion, insert};
 ghost use Rattle.doc_model.specs.Apply.{all_valid, apply_all};
 ghost use Rattle.user_actions.specs.StepLaws.{action_of};
 ghost use Rattle.undo_bundles.specs.BundleLog.{count};
-ghost use Rattle.undo_bundles.specs.InverseSteps.{inverse_steps};
 ghost use Rattle.doc_model.specs.DocumentLaws.{IsWhole};
 ghost use Rattle.doc_model.specs.Document.{Document};
 ghost use Rattle.doc_model.specs.declared.action.DocAction.{DocAction};
@@ -19,7 +18,8 @@ ghost use Rattle.bundle_records.specs.Ledger.{IsNextRecord};
 ghost use Rattle.bundle_core.specs.Replies.{reply_of};
 ghost use Rattle.bundle_core.specs.Dispatch.{AreSame, Posts, bundle_number, bundle_reply};
 ghost use Rattle.bundle_judge.specs.Created.{told_of};
-ghost use Rattle.bundle_judge.specs.JudgedBundles.{after_steps, told_changes};
+ghost use Rattle.bundle_judge.specs.JudgedBundles.{AreDone, after_steps, told_changes};
+ghost use Rattle.bundle_judge.specs.Losses.{all_lost, cells_told};
 ghost use Rattle.bundle_core.specs.Noting.{HasBundleRoom, MayBeUndone, note_of};
 ghost use Rattle.bundle_core.specs.State.{accepted_as, refusal};
 ghost use Rattle.bundle_core.specs.Turns.{IsAcceptance};
@@ -28,14 +28,13 @@ ghost use Rattle.rule_contexts.specs.Context.{view, view_in};
 ghost use Rattle.bundle_judge.specs.Rollback.{AllLeadBack, gone_back};
 
 use crate::followed::{are_of_records, steps_told};
-use crate::ruled_document::RuledDocument;
 use crate::session::{BundleNote, OpenSession};
 use crate::turns::{post_all, prepare_all, reply_with, stay_ready};
 use acl_reading::RuleReading;
 use acl_rules::Ctx;
 use action_censor::StepTrace;
 use bundle_judge::{
-    BareVerdict, BundlePlan, Created, SplitSteps, all_told, do_for_good, go_back_all,
+    BareVerdict, BundlePlan, Created, SplitSteps, Trail, all_told, do_again, go_back_all,
 };
 use bundle_records::RecordLedger;
 use context_changes::{KnownContexts, see_all, tell_narrow, tell_whole};
@@ -46,6 +45,7 @@ use grist_json::Line;
 use rule_contexts::{may_change_contexts, same_attributes_law, same_context_law};
 use std::alloc::{AllocError, Global};
 use std::mem;
+use undo_bundles::BundleInverse;
 
 /// What is ready of an accepted bundle: its reply, and what is noted of it.
 #[derive(Drop)]
@@ -64,11 +64,10 @@ struct KeepReady {
     next: Option<KnownContexts>,
 }
 
-/// What was done, what is told of it beside each context, and what is known of the rules afterwards
-/// where that may not be what was known.
+/// What is told of a bundle beside each context, and what is known of the rules after it where that
+/// may not be what was known.
 #[derive(Drop)]
-struct DoneSteps {
-    inverse: StepList,
+struct ToldSteps {
     told: Vec<ViewActionList>,
     next: Option<KnownContexts>,
 }
@@ -82,40 +81,22 @@ pub(crate) enum Acceptance {
     Unkept(Vec<Line>),
 }
 
-/// Does the steps of a bundle of the session of that index, gives its record to the keeper, and
-/// posts every other open session the line that tells them. All memory is taken before the keeper
-/// is called; where it fails, what was done is gone back over, and the session is told so.
-pub(crate) fn accept<D: DocTables, K: Keeper>(
+/// Makes the contexts that are missing of the users who have these sessions open.
+pub(crate) fn know_all<D: DocTables>(
     alloc: Global,
-    doc: &mut RuledDocument<D>,
-    sessions: &mut Vec<OpenSession>,
-    records: &mut RecordLedger<K>,
-    index: usize,
-    plan: &BundlePlan,
-) -> Result<Acceptance, AllocError>
-    requires within { index < length sessions.old.items }
-    requires whole { IsWhole (D.document doc.old) }
-    requires valid { all_valid (D.document doc.old) (map action_of plan.now.steps) ≡ true }
-    requires few { AllByRecursion (λ x. x.made < 2 ^ 62) sessions.old.items }
-    requires few_bundles { AllByRecursion (λ x. count x.holder.log < 2 ^ 62) sessions.old.items }
-    requires own { (d : SessionState)
-        → MayBeUndone plan.now.undone (get_or sessions.old.items index d).holder.log }
-    ensures ok { IfOk result (λ a. IsAcceptance (D.document doc.old) (D.document doc.new)
-        sessions.old.items sessions.new.items records.old records.new index plan.now a) }
-    ensures later { records.old.faults ≤ records.new.faults }
-    ensures err_document { OnErr result (D.document doc.new ≡ D.document doc.old) }
-    ensures err { OnErr result (AreSame sessions.old.items sessions.new.items) }
-    ensures err_told { OnErr result (records.new.told ≡ records.old.told) }
-    ensures err_count { OnErr result (records.new.count ≡ records.old.count) }
+    doc: &Doc<D>,
+    known: &mut KnownContexts,
+    sessions: &[OpenSession],
+) -> Result<(), AllocError>
+    requires { AreKnown (D.document doc.now) known.old }
+    ensures known { AreKnown (D.document doc.now) known.new }
+    ensures all { OnOk result (AreAllKnown known.new.contexts.items sessions.now) }
 {
-    let known = &mut doc.known;
     known.keep_at_most(sessions.len());
-    know_all(alloc, &doc.doc, known, sessions)?;
-    accept_known(alloc, &mut doc.doc, known, sessions, records, index, plan)
+    place_all(alloc, doc, known, sessions)
 }
 
-// Makes the contexts that are missing of the users who have these sessions open.
-fn know_all<D: DocTables>(
+fn place_all<D: DocTables>(
     alloc: Global,
     doc: &Doc<D>,
     known: &mut KnownContexts,
@@ -131,9 +112,12 @@ fn know_all<D: DocTables>(
     Ok(())
 }
 
-// Does the same as `accept`, where the context of each session's user is known. What is known of
-// the rules is made anew where the bundle may change it.
-fn accept_known<D: DocTables, K: Keeper>(
+/// Gives the record of a bundle of the session of that index, which is done, to the keeper, and
+/// posts every other open session the line that tells its steps. The context of each session's user
+/// in the document before it is known; what is known of the rules is made anew where the bundle may
+/// change it. All memory is taken before the keeper is called; where it fails or memory runs out,
+/// what was done is gone back over, and where it fails the session is told so.
+pub(crate) fn accept<D: DocTables, K: Keeper>(
     alloc: Global,
     doc: &mut Doc<D>,
     known: &mut KnownContexts,
@@ -141,39 +125,41 @@ fn accept_known<D: DocTables, K: Keeper>(
     records: &mut RecordLedger<K>,
     index: usize,
     plan: &BundlePlan,
+    trail: Trail<D>,
 ) -> Result<Acceptance, AllocError>
-    requires known { AreKnown (D.document doc.old) known.old }
+    requires known { AreKnown
+        (gone_back D.fits D.undone trail.traces.items (D.document doc.old)) known.old }
     requires all { AreAllKnown known.old.contexts.items sessions.old.items }
     requires within { index < length sessions.old.items }
-    requires whole { IsWhole (D.document doc.old) }
-    requires valid { all_valid (D.document doc.old) (map action_of plan.now.steps) ≡ true }
+    requires whole { IsWhole
+        (gone_back D.fits D.undone trail.traces.items (D.document doc.old)) }
+    requires valid { all_valid (gone_back D.fits D.undone trail.traces.items (D.document doc.old))
+        (map action_of plan.now.steps) ≡ true }
+    requires led { AllLeadBack D.fits D.undone trail.traces.items (D.document doc.old) }
+    requires done { AreDone (gone_back D.fits D.undone trail.traces.items (D.document doc.old))
+        (D.document doc.old) plan.now.steps [] trail.traces.items [] trail.inverse }
     requires few { AllByRecursion (λ x. x.made < 2 ^ 62) sessions.old.items }
     requires few_bundles { AllByRecursion (λ x. count x.holder.log < 2 ^ 62) sessions.old.items }
     requires own { (d : SessionState)
         → MayBeUndone plan.now.undone (get_or sessions.old.items index d).holder.log }
-    ensures ok { IfOk result (λ a. IsAcceptance (D.document doc.old) (D.document doc.new)
+    ensures ok { IfOk result (λ a. IsAcceptance
+        (gone_back D.fits D.undone trail.traces.items (D.document doc.old)) (D.document doc.new)
         sessions.old.items sessions.new.items records.old records.new index plan.now a) }
     ensures later { records.old.faults ≤ records.new.faults }
-    ensures err_document { OnErr result (D.document doc.new ≡ D.document doc.old) }
+    ensures err_document { OnErr result (D.document doc.new
+        ≡ gone_back D.fits D.undone trail.traces.items (D.document doc.old)) }
     ensures err { OnErr result (AreSame sessions.old.items sessions.new.items) }
     ensures err_told { OnErr result (records.new.told ≡ records.old.told) }
     ensures err_count { OnErr result (records.new.count ≡ records.old.count) }
     ensures known { AreKnown (D.document doc.new) known.new }
 {
-    let mut traces = Vec::new(alloc);
+    let mut trail = trail;
     let ready = match ready_to_keep(
-        alloc,
-        doc,
-        known,
-        sessions,
-        records,
-        index,
-        plan,
-        &mut traces,
+        alloc, doc, known, sessions, records, index, plan, &mut trail,
     ) {
         Ok(ready) => ready,
         Err(fault) => {
-            go_back_all(doc, traces);
+            go_back_all(doc, trail.traces);
             return Err(fault);
         }
     };
@@ -189,18 +175,18 @@ fn accept_known<D: DocTables, K: Keeper>(
             Ok(Acceptance::Done(post(alloc, sessions, index, bundle)))
         }
         Err(KeepFault::Failed) => {
-            go_back_all(doc, traces);
+            go_back_all(doc, trail.traces);
             Ok(Acceptance::Unkept(stay_ready(alloc, sessions, index, refusal)))
         }
         Err(KeepFault::NoMemory) => {
-            go_back_all(doc, traces);
+            go_back_all(doc, trail.traces);
             Err(AllocError)
         }
     }
 }
 
-// Does the steps, and makes ready the record, the replies to a bundle that is kept and to one that
-// is not, the note, and each session's line.
+// Makes ready the record of the steps, the replies to a bundle that is kept and to one that is not,
+// the note, and each session's line.
 fn ready_to_keep<D: DocTables, K: Keeper>(
     alloc: Global,
     doc: &mut Doc<D>,
@@ -209,41 +195,51 @@ fn ready_to_keep<D: DocTables, K: Keeper>(
     records: &RecordLedger<K>,
     index: usize,
     plan: &BundlePlan,
-    traces: &mut Vec<Trace<D>>,
+    trail: &mut Trail<D>,
 ) -> Result<KeepReady, AllocError>
-    requires known { AreKnown (D.document doc.old) known.now }
+    requires known { AreKnown
+        (gone_back D.fits D.undone trail.old.traces.items (D.document doc.old)) known.now }
     requires all { AreAllKnown known.now.contexts.items sessions.old.items }
     requires within { index < length sessions.old.items }
-    requires whole { IsWhole (D.document doc.old) }
-    requires valid { all_valid (D.document doc.old) (map action_of plan.now.steps) ≡ true }
+    requires whole { IsWhole
+        (gone_back D.fits D.undone trail.old.traces.items (D.document doc.old)) }
+    requires valid { all_valid
+        (gone_back D.fits D.undone trail.old.traces.items (D.document doc.old))
+        (map action_of plan.now.steps) ≡ true }
+    requires led { AllLeadBack D.fits D.undone trail.old.traces.items (D.document doc.old) }
+    requires done { AreDone
+        (gone_back D.fits D.undone trail.old.traces.items (D.document doc.old))
+        (D.document doc.old) plan.now.steps [] trail.old.traces.items [] trail.old.inverse }
     requires few { AllByRecursion (λ x. x.made < 2 ^ 63) sessions.old.items }
     requires few_bundles { AllByRecursion (λ x. count x.holder.log < 2 ^ 62) sessions.old.items }
-    requires first { traces.old.items ≡ [] }
-    ensures document { OnOk result
-        (D.document doc.new ≡ after_steps (D.document doc.old) plan.now.steps) }
-    ensures led { AllLeadBack D.fits D.undone traces.new.items (D.document doc.new) }
-    ensures back { gone_back D.fits D.undone traces.new.items (D.document doc.new)
-        ≡ D.document doc.old }
+    ensures document { OnOk result (D.document doc.new ≡ after_steps
+        (gone_back D.fits D.undone trail.old.traces.items (D.document doc.old))
+        plan.now.steps) }
+    ensures led { AllLeadBack D.fits D.undone trail.new.traces.items (D.document doc.new) }
+    ensures back { gone_back D.fits D.undone trail.new.traces.items (D.document doc.new)
+        ≡ gone_back D.fits D.undone trail.old.traces.items (D.document doc.old) }
     ensures reply { IfOk result (λ r. r.bundle.reply ≡ bundle_reply sessions.old.items index
-        plan.now.undone (after_steps (D.document doc.old) plan.now.steps)
+        plan.now.undone (after_steps
+        (gone_back D.fits D.undone trail.old.traces.items (D.document doc.old)) plan.now.steps)
         plan.now.created.items) }
-    ensures note { IfOk result (λ r. r.bundle.note ≡ note_of (D.document doc.old) plan.now) }
+    ensures note { IfOk result (λ r. r.bundle.note ≡ note_of
+        (gone_back D.fits D.undone trail.old.traces.items (D.document doc.old)) plan.now) }
     ensures next { IfOk result (λ r.
         AreKnown (D.document doc.new) (known_after known.now r.next)) }
     ensures record { IfOk result (λ r.
         IsNextRecord records.now.told (map action_of plan.now.steps) r.record) }
     ensures refusal { IfOk result (λ r. r.refusal ≡ reply_of (refusal Refusal.StoreFault)) }
     ensures same { AreSame sessions.old.items sessions.new.items }
-    ensures ready { OnOk result
-        (AllByRecursion (IsReady (told_changes (D.document doc.old) (map action_of plan.now.steps)))
-        sessions.new.items) }
+    ensures ready { OnOk result (AllByRecursion (IsReady (told_changes
+        (gone_back D.fits D.undone trail.old.traces.items (D.document doc.old))
+        (map action_of plan.now.steps))) sessions.new.items) }
     ensures room { IfOk result (λ _. (d : SessionState)
         → HasBundleRoom (get_or sessions.new.items index d)) }
     ensures length { length sessions.new.items ≡ length sessions.old.items }
 {
     let record = records.record_of(alloc, plan.steps.action_list())?;
     let refusal = reply_with(alloc, unkept())?;
-    let (bundle, next) = ready_bundle(alloc, doc, known, sessions, index, plan, traces)?;
+    let (bundle, next) = ready_bundle(alloc, doc, known, sessions, index, plan, trail)?;
     Ok(KeepReady {
         bundle,
         record,
@@ -262,7 +258,7 @@ fn unkept() -> BareVerdict
     }
 }
 
-// Does the steps, and makes ready the reply, the note, and each session's line.
+// Makes ready the reply, the note, and each session's line.
 fn ready_bundle<D: DocTables>(
     alloc: Global,
     doc: &mut Doc<D>,
@@ -270,55 +266,65 @@ fn ready_bundle<D: DocTables>(
     sessions: &mut Vec<OpenSession>,
     index: usize,
     plan: &BundlePlan,
-    traces: &mut Vec<Trace<D>>,
+    trail: &mut Trail<D>,
 ) -> Result<(ReadyBundle, Option<KnownContexts>), AllocError>
-    requires known { AreKnown (D.document doc.old) known.now }
+    requires known { AreKnown
+        (gone_back D.fits D.undone trail.old.traces.items (D.document doc.old)) known.now }
     requires all { AreAllKnown known.now.contexts.items sessions.old.items }
     requires within { index < length sessions.old.items }
-    requires whole { IsWhole (D.document doc.old) }
-    requires valid { all_valid (D.document doc.old) (map action_of plan.now.steps) ≡ true }
+    requires whole { IsWhole
+        (gone_back D.fits D.undone trail.old.traces.items (D.document doc.old)) }
+    requires valid { all_valid
+        (gone_back D.fits D.undone trail.old.traces.items (D.document doc.old))
+        (map action_of plan.now.steps) ≡ true }
+    requires led { AllLeadBack D.fits D.undone trail.old.traces.items (D.document doc.old) }
+    requires done { AreDone
+        (gone_back D.fits D.undone trail.old.traces.items (D.document doc.old))
+        (D.document doc.old) plan.now.steps [] trail.old.traces.items [] trail.old.inverse }
     requires few { AllByRecursion (λ x. x.made < 2 ^ 63) sessions.old.items }
     requires few_bundles { AllByRecursion (λ x. count x.holder.log < 2 ^ 62) sessions.old.items }
-    requires first { traces.old.items ≡ [] }
-    ensures document { OnOk result
-        (D.document doc.new ≡ after_steps (D.document doc.old) plan.now.steps) }
-    ensures led { AllLeadBack D.fits D.undone traces.new.items (D.document doc.new) }
-    ensures back { gone_back D.fits D.undone traces.new.items (D.document doc.new)
-        ≡ D.document doc.old }
+    ensures document { OnOk result (D.document doc.new ≡ after_steps
+        (gone_back D.fits D.undone trail.old.traces.items (D.document doc.old))
+        plan.now.steps) }
+    ensures led { AllLeadBack D.fits D.undone trail.new.traces.items (D.document doc.new) }
+    ensures back { gone_back D.fits D.undone trail.new.traces.items (D.document doc.new)
+        ≡ gone_back D.fits D.undone trail.old.traces.items (D.document doc.old) }
     ensures reply { IfOk result (λ r. r.0.reply ≡ bundle_reply sessions.old.items index
-        plan.now.undone (after_steps (D.document doc.old) plan.now.steps)
+        plan.now.undone (after_steps
+        (gone_back D.fits D.undone trail.old.traces.items (D.document doc.old)) plan.now.steps)
         plan.now.created.items) }
-    ensures note { IfOk result (λ r. r.0.note ≡ note_of (D.document doc.old) plan.now) }
+    ensures note { IfOk result (λ r. r.0.note ≡ note_of
+        (gone_back D.fits D.undone trail.old.traces.items (D.document doc.old)) plan.now) }
     ensures next { IfOk result (λ r.
         AreKnown (D.document doc.new) (known_after known.now r.1)) }
     ensures same { AreSame sessions.old.items sessions.new.items }
-    ensures ready { OnOk result
-        (AllByRecursion (IsReady (told_changes (D.document doc.old) (map action_of plan.now.steps)))
-        sessions.new.items) }
+    ensures ready { OnOk result (AllByRecursion (IsReady (told_changes
+        (gone_back D.fits D.undone trail.old.traces.items (D.document doc.old))
+        (map action_of plan.now.steps))) sessions.new.items) }
     ensures room { IfOk result (λ _. (d : SessionState)
         → HasBundleRoom (get_or sessions.new.items index d)) }
     ensures length { length sessions.new.items ≡ length sessions.old.items }
 {
-    let done = done_and_told(alloc, doc, known, &plan.steps, traces)?;
+    let all = told_of_all(alloc, doc, known, &plan.steps, &mut trail.traces)?;
     let reply = reply_to(
         alloc,
         doc,
-        known_now(known, &done.next),
+        known_now(known, &all.next),
         &sessions[index],
         plan,
     )?;
-    ready_all(
-        alloc,
-        sessions,
-        index,
-        known.contexts.as_slice(),
-        &done.told,
-    )?;
+    ready_all(alloc, sessions, index, known.contexts.as_slice(), &all.told)?;
     let note = BundleNote {
-        inverse: done.inverse,
+        inverse: taken_inverse(alloc, &mut trail.inverse),
         undone: plan.undone,
     };
-    Ok((ReadyBundle { reply, note }, done.next))
+    Ok((ReadyBundle { reply, note }, all.next))
+}
+
+fn taken_inverse(alloc: Global, inverse: &mut BundleInverse) -> StepList
+    ensures { result ≡ inverse.old }
+{
+    mem::replace(inverse, BundleInverse::new(alloc)).into_steps()
 }
 
 // What is known of the rules after a bundle.
@@ -331,43 +337,53 @@ fn known_now<'a>(known: &'a KnownContexts, next: &'a Option<KnownContexts>) -> &
     }
 }
 
-// Does the steps, and works out what is told of them beside each known context.
-fn done_and_told<D: DocTables>(
+// Works out what is told beside each known context of steps that are done. Where they may change
+// contexts, they are gone back over for it, and done again.
+fn told_of_all<D: DocTables>(
     alloc: Global,
     doc: &mut Doc<D>,
     known: &KnownContexts,
     steps: &SplitSteps,
     traces: &mut Vec<Trace<D>>,
-) -> Result<DoneSteps, AllocError>
-    requires known { AreKnown (D.document doc.old) known.now }
-    requires whole { IsWhole (D.document doc.old) }
-    requires valid { all_valid (D.document doc.old) (map action_of steps.now) ≡ true }
-    requires first { traces.old.items ≡ [] }
-    ensures document { OnOk result
-        (D.document doc.new ≡ after_steps (D.document doc.old) steps.now) }
+) -> Result<ToldSteps, AllocError>
+    requires known { AreKnown
+        (gone_back D.fits D.undone traces.old.items (D.document doc.old)) known.now }
+    requires whole { IsWhole (gone_back D.fits D.undone traces.old.items (D.document doc.old)) }
+    requires valid { all_valid
+        (gone_back D.fits D.undone traces.old.items (D.document doc.old))
+        (map action_of steps.now) ≡ true }
+    requires led { AllLeadBack D.fits D.undone traces.old.items (D.document doc.old) }
+    requires done { D.document doc.old ≡ after_steps
+        (gone_back D.fits D.undone traces.old.items (D.document doc.old)) steps.now }
+    requires cells { cells_told traces.old.items ≡ all_lost
+        (gone_back D.fits D.undone traces.old.items (D.document doc.old))
+        (map action_of steps.now) }
+    ensures document { OnOk result (D.document doc.new ≡ after_steps
+        (gone_back D.fits D.undone traces.old.items (D.document doc.old)) steps.now) }
     ensures led { AllLeadBack D.fits D.undone traces.new.items (D.document doc.new) }
     ensures back { gone_back D.fits D.undone traces.new.items (D.document doc.new)
-        ≡ D.document doc.old }
-    ensures told { IfOk result (λ d. IsToldOf (D.document doc.old) (map action_of steps.now)
-        known.now.contexts.items d.told.items) }
+        ≡ gone_back D.fits D.undone traces.old.items (D.document doc.old) }
+    ensures told { IfOk result (λ d. IsToldOf
+        (gone_back D.fits D.undone traces.old.items (D.document doc.old))
+        (map action_of steps.now) known.now.contexts.items d.told.items) }
     ensures next { IfOk result (λ d.
         AreKnown (D.document doc.new) (known_after known.now d.next)) }
-    ensures inverse { IfOk result (λ d. d.inverse ≡ inverse_steps (D.document doc.old) steps.now) }
 {
-    if let Some(done) = done_and_followed(alloc, doc, known, steps, traces)? {
-        return Ok(done);
+    if let Some(told) = told_of_touched(alloc, doc, known, steps, traces.as_slice())? {
+        return Ok(ToldSteps { told, next: None });
     }
+    go_back_all(doc, mem::replace(traces, Vec::new(alloc)));
     done_and_seen(alloc, doc, known, steps, traces)
 }
 
-// Does the steps, and tells beside each context what changed of all that its user sees.
+// Does the steps again, and tells beside each context what changed of all that its user sees.
 fn done_and_seen<D: DocTables>(
     alloc: Global,
     doc: &mut Doc<D>,
     known: &KnownContexts,
     steps: &SplitSteps,
     traces: &mut Vec<Trace<D>>,
-) -> Result<DoneSteps, AllocError>
+) -> Result<ToldSteps, AllocError>
     requires known { AreKnown (D.document doc.old) known.now }
     requires whole { IsWhole (D.document doc.old) }
     requires valid { all_valid (D.document doc.old) (map action_of steps.now) ≡ true }
@@ -381,14 +397,12 @@ fn done_and_seen<D: DocTables>(
         known.now.contexts.items d.told.items) }
     ensures next { IfOk result (λ d.
         AreKnown (D.document doc.new) (known_after known.now d.next)) }
-    ensures inverse { IfOk result (λ d. d.inverse ≡ inverse_steps (D.document doc.old) steps.now) }
 {
     let before = see_known(alloc, doc, known.contexts.as_slice())?;
-    let inverse = do_for_good(alloc, doc, steps, traces)?;
+    do_again(alloc, doc, steps.actions(), traces)?;
     let next = known.anew(alloc, doc)?;
     let told = tell_anew(alloc, doc, &before, next.contexts.as_slice())?;
-    Ok(DoneSteps {
-        inverse,
+    Ok(ToldSteps {
         told,
         next: Some(next),
     })
@@ -425,51 +439,41 @@ fn tell_anew<D: DocTables>(
     tell_whole(alloc, doc, before, contexts)
 }
 
-// Does the steps, and tells beside each context what changed in the rows that they touched; where
-// they may change contexts, it does nothing.
-fn done_and_followed<D: DocTables>(
+// What is told beside each context of steps that are done, by the rows that they touched; nothing
+// where they may change contexts.
+fn told_of_touched<D: DocTables>(
     alloc: Global,
-    doc: &mut Doc<D>,
+    doc: &Doc<D>,
     known: &KnownContexts,
     steps: &SplitSteps,
-    traces: &mut Vec<Trace<D>>,
-) -> Result<Option<DoneSteps>, AllocError>
-    requires known { AreKnown (D.document doc.old) known.now }
-    requires whole { IsWhole (D.document doc.old) }
-    requires valid { all_valid (D.document doc.old) (map action_of steps.now) ≡ true }
-    requires first { traces.old.items ≡ [] }
-    ensures nothing { IfOk result (λ o. o ≡ None
-        → (D.document doc.new ≡ D.document doc.old) × (traces.new.items ≡ [])) }
-    ensures document { IfOk result (λ o. IfSome o (λ d.
-        D.document doc.new ≡ after_steps (D.document doc.old) steps.now)) }
-    ensures led { AllLeadBack D.fits D.undone traces.new.items (D.document doc.new) }
-    ensures back { gone_back D.fits D.undone traces.new.items (D.document doc.new)
-        ≡ D.document doc.old }
-    ensures told { IfOk result (λ o. IfSome o (λ d. IsToldOf (D.document doc.old)
-        (map action_of steps.now) known.now.contexts.items d.told.items)) }
-    ensures next { IfOk result (λ o. IfSome o (λ d.
-        AreKnown (D.document doc.new) (known_after known.now d.next))) }
-    ensures inverse { IfOk result (λ o. IfSome o (λ d.
-        d.inverse ≡ inverse_steps (D.document doc.old) steps.now)) }
+    traces: &[Trace<D>],
+) -> Result<Option<Vec<ViewActionList>>, AllocError>
+    requires known { AreKnown
+        (gone_back D.fits D.undone traces.now (D.document doc.now)) known.now }
+    requires whole { IsWhole (gone_back D.fits D.undone traces.now (D.document doc.now)) }
+    requires valid { all_valid
+        (gone_back D.fits D.undone traces.now (D.document doc.now)) (map action_of steps.now)
+        ≡ true }
+    requires done { D.document doc.now ≡ after_steps
+        (gone_back D.fits D.undone traces.now (D.document doc.now)) steps.now }
+    requires cells { cells_told traces.now ≡ all_lost
+        (gone_back D.fits D.undone traces.now (D.document doc.now)) (map action_of steps.now) }
+    ensures told { IfOk result (λ o. IfSome o (λ told. IsToldOf
+        (gone_back D.fits D.undone traces.now (D.document doc.now)) (map action_of steps.now)
+        known.now.contexts.items told.items)) }
+    ensures known { IfOk result (λ o. IfSome o (λ _. AreKnown (D.document doc.now) known.now)) }
 {
     if !are_of_records(steps.actions()) {
         return Ok(None);
     }
     same_context_law();
     same_attributes_law();
-    let inverse = do_for_good(alloc, doc, steps, traces)?;
-    let done = steps_told(alloc, steps.actions(), traces.as_slice())?;
+    let done = steps_told(alloc, steps.actions(), traces)?;
     if may_change_contexts(known.attributes.as_slice(), done.as_slice()) {
-        drop((done, inverse));
-        go_back_all(doc, mem::replace(traces, Vec::new(alloc)));
         return Ok(None);
     }
     let told = tell_touched(alloc, doc, done.as_slice(), known.contexts.as_slice())?;
-    Ok(Some(DoneSteps {
-        inverse,
-        told,
-        next: None,
-    }))
+    Ok(Some(told))
 }
 
 // What each context is told of the steps of records that led to the document, by the rows that they

@@ -13,6 +13,10 @@ ghost use Rattle.doc_model.specs.declared.request.Request.TheVariants.{Open, App
 ghost use Rattle.grist_json.specs.Lines.{reply_text};
 ghost use Rattle.action_limits.specs.Tallies.{IsTally};
 ghost use Rattle.undo_bundles.specs.BundleLog.{count};
+ghost use Rattle.bundle_judge.specs.JudgedBundles.{IsDoneBundle};
+ghost use Rattle.bundle_judge.specs.Rollback.{AllLeadBack, gone_back};
+ghost use Rattle.context_changes.specs.Known.{AreKnown};
+ghost use Rattle.bundle_core.specs.Followed.{AreAllKnown};
 ghost use Rattle.bundle_core.specs.Core.{is_gone, marked};
 ghost use Rattle.bundle_core.specs.Dispatch.{AreSame, Answers, Misses, Finds, kept_name};
 ghost use Rattle.bundle_core.specs.Judged.{IsJudgedFor};
@@ -23,19 +27,21 @@ ghost use Rattle.bundle_core.specs.State.{shown_if_any, user_of};
 ghost use Rattle.bundle_core.specs.Turns.{IsTurn};
 ghost use Rattle.rule_contexts.specs.Context.{view};
 
-use crate::bundle::{Acceptance, accept, put_back};
-use crate::ruled_document::RuledDocument;
+use crate::bundle::{Acceptance, accept, know_all, put_back};
+use crate::ruled_document::{RuledDocument, judge_for, judge_undo_for};
 use crate::session::OpenSession;
 use crate::session_index::index_of;
 use crate::turns::{give, leave, line_alone, reply_alone, reply_with, stay};
 use action_limits::Tally;
-use bundle_judge::{BareVerdict, JudgedBundle};
+use bundle_judge::{BareVerdict, JudgedBundle, Trail};
 use bundle_records::RecordLedger;
+use context_changes::KnownContexts;
 use doc_keeper::Keeper;
 use doc_model::{
     DocTables, Entry, LimitKind, MAX_SESSIONS, Refusal, Request, User, UserActionList, Verdict,
     View, ViewTableList,
 };
+use evaluated_doc::Doc;
 use grist_json::{Line, write_reply};
 use plain_view::changes;
 use std::alloc::{AllocError, Global};
@@ -385,9 +391,22 @@ fn answer_bundle<D: DocTables, K: Keeper>(
     ensures err_count { OnErr result (records.new.count ≡ records.old.count) }
     ensures later { records.old.faults ≤ records.new.faults }
 {
-    let judged = doc.judge(alloc, *tally, sessions[index].user(), actions.as_slice())?;
+    let known = &mut doc.known;
+    know_all(alloc, &doc.doc, known, sessions)?;
+    let user = sessions[index].user();
+    let (judged, trail) = judge_for(alloc, &mut doc.doc, known, *tally, user, actions.as_slice())?;
     answer_judged(
-        alloc, users, doc, tally, sessions, records, index, entry, judged,
+        alloc,
+        users,
+        &mut doc.doc,
+        known,
+        tally,
+        sessions,
+        records,
+        index,
+        entry,
+        judged,
+        trail,
     )
 }
 
@@ -423,49 +442,88 @@ fn answer_undo<D: DocTables, K: Keeper>(
     ensures err_count { OnErr result (records.new.count ≡ records.old.count) }
     ensures later { records.old.faults ≤ records.new.faults }
 {
+    let known = &mut doc.known;
+    know_all(alloc, &doc.doc, known, sessions)?;
     let session = &sessions[index];
-    let judged = doc.judge_own_undo(alloc, *tally, session.user(), session.log(), number)?;
+    let (judged, trail) = judge_undo_for(
+        alloc,
+        &mut doc.doc,
+        known,
+        *tally,
+        session.user(),
+        session.log(),
+        number,
+    )?;
     answer_judged(
-        alloc, users, doc, tally, sessions, records, index, entry, judged,
+        alloc,
+        users,
+        &mut doc.doc,
+        known,
+        tally,
+        sessions,
+        records,
+        index,
+        entry,
+        judged,
+        trail,
     )
 }
 
-// Does a bundle of the open session of that index, or an undo, where it was accepted.
+// Answers a bundle of the open session of that index, or an undo, that was judged: it is done where
+// it was accepted.
 fn answer_judged<D: DocTables, K: Keeper>(
     alloc: Global,
     users: &[User],
-    doc: &mut RuledDocument<D>,
+    doc: &mut Doc<D>,
+    known: &mut KnownContexts,
     tally: &mut Tally,
     sessions: &mut Vec<OpenSession>,
     records: &mut RecordLedger<K>,
     index: usize,
     entry: &Entry,
     judged: JudgedBundle,
+    trail: Trail<D>,
 ) -> Result<Turn, AllocError>
     requires finds { Finds entry.now.session sessions.old.items index }
     requires quick { (d : SessionState) → (get_or sessions.old.items index d).lagging ≡ false }
     requires judged { (d : SessionState) → IsJudgedFor (get_or sessions.old.items index d).holder
-        (D.document doc.old) entry.now.request judged }
-    requires whole { IsWhole (D.document doc.old) }
-    requires tally { IsTally (D.document doc.old) tally.old }
+        (gone_back D.fits D.undone trail.traces.items (D.document doc.old)) entry.now.request
+        judged }
+    requires led { AllLeadBack D.fits D.undone trail.traces.items (D.document doc.old) }
+    requires done { IsDoneBundle
+        (gone_back D.fits D.undone trail.traces.items (D.document doc.old)) (D.document doc.old)
+        trail.traces.items trail.inverse judged }
+    requires known { AreKnown
+        (gone_back D.fits D.undone trail.traces.items (D.document doc.old)) known.old }
+    requires all { AreAllKnown known.old.contexts.items sessions.old.items }
+    requires whole { IsWhole
+        (gone_back D.fits D.undone trail.traces.items (D.document doc.old)) }
+    requires tally { IsTally
+        (gone_back D.fits D.undone trail.traces.items (D.document doc.old)) tally.old }
     requires few { AllByRecursion (λ x. x.made < 2 ^ 62) sessions.old.items }
     requires few_bundles { AllByRecursion (λ x. count x.holder.log < 2 ^ 62) sessions.old.items }
     requires kept { entry.now.kept ≡ true }
-    ensures ok { IfOk result (λ t. IsTurn users.now (D.document doc.old) (D.document doc.new)
+    ensures ok { IfOk result (λ t. IsTurn users.now
+        (gone_back D.fits D.undone trail.traces.items (D.document doc.old)) (D.document doc.new)
         sessions.old.items sessions.new.items records.old records.new (marked entry.now t.kept)
         t.lines.items) }
     ensures whole { IsWhole (D.document doc.new) }
     ensures tally { IsTally (D.document doc.new) tally.new }
-    ensures err_document { OnErr result (D.document doc.new ≡ D.document doc.old) }
+    ensures known { AreKnown (D.document doc.new) known.new }
+    ensures err_document { OnErr result (D.document doc.new
+        ≡ gone_back D.fits D.undone trail.traces.items (D.document doc.old)) }
     ensures err { OnErr result (AreSame sessions.old.items sessions.new.items) }
     ensures err_told { OnErr result (records.new.told ≡ records.old.told) }
     ensures err_count { OnErr result (records.new.count ≡ records.old.count) }
     ensures later { records.old.faults ≤ records.new.faults }
 {
     match judged {
-        JudgedBundle::Refused(verdict) => quiet(stay(alloc, sessions, index, verdict)),
+        JudgedBundle::Refused(verdict) => {
+            drop(trail);
+            quiet(stay(alloc, sessions, index, verdict))
+        }
         JudgedBundle::Accepted(plan) => {
-            match accept(alloc, doc, sessions, records, index, &plan)? {
+            match accept(alloc, doc, known, sessions, records, index, &plan, trail)? {
                 Acceptance::Done(lines) => {
                     *tally = plan.tally;
                     Ok(Turn { lines, kept: true })

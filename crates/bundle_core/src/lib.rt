@@ -25,11 +25,12 @@
 //! core is asked and answers as a machine that threads step in turn is said by histories alone
 //! (specs/Machine.antt); `watched_core` has that machine. What is told of a core's keeper is told
 //! by `history` and `finish` of every core (`IsKeeping`).
-//! Costs: a bundle costs its judgement, its actions once more, and a line for each session; its
-//! inverse costs what its actions take away. What is told of a bundle of records costs the rows
-//! that it touched, for each user who has a session open; of one that changes the schema, or what
-//! is in force for users, the document. What is in force for a user is read once, and again where
-//! a bundle may have changed it. A session's index is found by a walk.
+//! Costs: a bundle costs its judgement, which does its steps for good and makes its inverse, and a
+//! line for each session. What is told of a bundle of records costs the rows that it touched, for
+//! each user who has a session open; of one that changes the schema, or what is in force for users,
+//! the document, and its steps are taken back for it and done once more. What is in force for a
+//! user is read once, and again where a bundle may have changed it; before a bundle is judged it is
+//! read for each user who has a session open. A session's index is found by a walk.
 //! Read first: specs/State.antt, specs/Told.antt, specs/Core.antt, specs/KeptBundles.antt and
 //! specs/KeptCore.antt, then history_core.rt, loading.rt, dispatch.rt and bundle.rt.
 #![tactic(auto)]

@@ -1,22 +1,24 @@
 //! An evaluated document, with what is known of its rules.
 
-ghost use Rattle.std.specs.Prelude.{◌≡◌, None, Some, true, IfOk};
+ghost use Rattle.std.specs.Prelude.{◌≡◌, None, Some, true, IfOk, OnErr};
 ghost use Rattle.std.specs.List.{list_all};
 ghost use Rattle.doc_model.specs.Changes.{IsView};
 ghost use Rattle.doc_model.specs.DocumentLaws.{IsWhole};
 ghost use Rattle.doc_model.specs.WellFormed.{is_well_formed};
 ghost use Rattle.action_limits.specs.Tallies.{IsTally};
 ghost use Rattle.undo_bundles.specs.BundleLog.{undo_of};
-ghost use Rattle.bundle_judge.specs.JudgedBundles.{IsJudgedBundle};
+ghost use Rattle.bundle_judge.specs.JudgedBundles.{IsDoneBundle, IsJudgedBundle};
 ghost use Rattle.bundle_judge.specs.Judgement.{judge};
+ghost use Rattle.bundle_judge.specs.Rollback.{AllLeadBack, gone_back};
 ghost use Rattle.bundle_judge.specs.Undo.{judge_own_undo};
+ghost use Rattle.context_changes.specs.Known.{AreKnown};
 ghost use Rattle.rule_contexts.specs.Context.{view, view_in};
 ghost use Rattle.bundle_core.specs.Mailbox.{asked_table};
 
 use acl_reading::RuleReading;
 use acl_rules::Ctx;
 use action_limits::Tally;
-use bundle_judge::{JudgedBundle, judge, judge_own_undo};
+use bundle_judge::{JudgedBundle, Trail, judge, judge_own_undo};
 use cell_types::Name;
 use censored_view::{Selection, part, whole_view};
 use context_changes::KnownContexts;
@@ -130,51 +132,65 @@ impl<D: DocTables> RuledDocument<D> {
         let found = self.known.found(alloc, &self.doc, user)?;
         table_in(alloc, &self.doc, found.context(), table)
     }
+}
 
-    /// Judges a bundle of the user by what is in force for the user now. The document is as before,
-    /// whatever the answer.
-    ///
-    /// Errors: out of memory.
-    pub fn judge(
-        &mut self,
-        alloc: Global,
-        tally: Tally,
-        user: &User,
-        requested: &[UserAction],
-    ) -> Result<JudgedBundle, AllocError>
-        requires whole { IsWhole (D.document self.old) }
-        requires tally { IsTally (D.document self.old) tally }
-        requires well_formed { list_all is_well_formed requested.now ≡ true }
-        ensures judged { IfOk result (λ j. IsJudgedBundle
-            (judge user.now (D.document self.old) requested.now) None (D.document self.old) j) }
-        ensures same { D.document self.new ≡ D.document self.old }
-    {
-        let place = self.known.place_for(alloc, &self.doc, user)?;
-        let ctx = &self.known.contexts[place];
-        judge(alloc, &mut self.doc, tally, ctx, requested)
-    }
+/// Judges a bundle of the user by what is in force for the user in the document, as `judge` of
+/// `bundle_judge` does.
+///
+/// Errors: out of memory.
+pub(crate) fn judge_for<D: DocTables>(
+    alloc: Global,
+    doc: &mut Doc<D>,
+    known: &KnownContexts,
+    tally: Tally,
+    user: &User,
+    requested: &[UserAction],
+) -> Result<(JudgedBundle, Trail<D>), AllocError>
+    requires known { AreKnown (D.document doc.old) known.now }
+    requires whole { IsWhole (D.document doc.old) }
+    requires tally { IsTally (D.document doc.old) tally }
+    requires well_formed { list_all is_well_formed requested.now ≡ true }
+    ensures judged { IfOk result (λ r. IsJudgedBundle
+        (judge user.now (D.document doc.old) requested.now) None (D.document doc.old) r.0) }
+    ensures done { IfOk result (λ r. IsDoneBundle (D.document doc.old) (D.document doc.new)
+        r.1.traces.items r.1.inverse r.0) }
+    ensures led { IfOk result
+        (λ r. AllLeadBack D.fits D.undone r.1.traces.items (D.document doc.new)) }
+    ensures back { IfOk result (λ r. gone_back D.fits D.undone r.1.traces.items
+        (D.document doc.new) ≡ D.document doc.old) }
+    ensures err { OnErr result (D.document doc.new ≡ D.document doc.old) }
+{
+    let found = known.found(alloc, doc, user)?;
+    judge(alloc, doc, tally, found.context(), requested)
+}
 
-    /// Judges the undo of the bundle of that number in a user's log by what is in force for the
-    /// user now. The document is as before, whatever the answer.
-    ///
-    /// Errors: out of memory.
-    pub fn judge_own_undo(
-        &mut self,
-        alloc: Global,
-        tally: Tally,
-        user: &User,
-        log: &BundleLog,
-        number: u64,
-    ) -> Result<JudgedBundle, AllocError>
-        requires whole { IsWhole (D.document self.old) }
-        requires tally { IsTally (D.document self.old) tally }
-        ensures judged { IfOk result (λ j. IsJudgedBundle
-            (judge_own_undo user.now (undo_of log.now.log number)
-            (D.document self.old)) (Some number) (D.document self.old) j) }
-        ensures same { D.document self.new ≡ D.document self.old }
-    {
-        let place = self.known.place_for(alloc, &self.doc, user)?;
-        let ctx = &self.known.contexts[place];
-        judge_own_undo(alloc, &mut self.doc, tally, ctx, log, number)
-    }
+/// Judges the undo of the bundle of that number in a user's log by what is in force for the user in
+/// the document, as `judge_own_undo` of `bundle_judge` does.
+///
+/// Errors: out of memory.
+pub(crate) fn judge_undo_for<D: DocTables>(
+    alloc: Global,
+    doc: &mut Doc<D>,
+    known: &KnownContexts,
+    tally: Tally,
+    user: &User,
+    log: &BundleLog,
+    number: u64,
+) -> Result<(JudgedBundle, Trail<D>), AllocError>
+    requires known { AreKnown (D.document doc.old) known.now }
+    requires whole { IsWhole (D.document doc.old) }
+    requires tally { IsTally (D.document doc.old) tally }
+    ensures judged { IfOk result (λ r. IsJudgedBundle
+        (judge_own_undo user.now (undo_of log.now.log number) (D.document doc.old))
+        (Some number) (D.document doc.old) r.0) }
+    ensures done { IfOk result (λ r. IsDoneBundle (D.document doc.old) (D.document doc.new)
+        r.1.traces.items r.1.inverse r.0) }
+    ensures led { IfOk result
+        (λ r. AllLeadBack D.fits D.undone r.1.traces.items (D.document doc.new)) }
+    ensures back { IfOk result (λ r. gone_back D.fits D.undone r.1.traces.items
+        (D.document doc.new) ≡ D.document doc.old) }
+    ensures err { OnErr result (D.document doc.new ≡ D.document doc.old) }
+{
+    let found = known.found(alloc, doc, user)?;
+    judge_own_undo(alloc, doc, tally, found.context(), log, number)
 }

@@ -5,7 +5,7 @@ use Rattle.std.specs.List.{list_any}
 use Rattle.std.specs.Str.{bytes_eq}
 use Rattle.cell_types.specs.declared.cell.CellOld.{CellOld}
 use Rattle.doc_model.specs.declared.action.DocAction.{DocAction}
-use Rattle.doc_model.specs.Apply.{apply, apply_all}
+use Rattle.doc_model.specs.Apply.{apply}
 use Rattle.doc_model.specs.ByIds.{find_id}
 use Rattle.doc_model.specs.Column.{column_id}
 use Rattle.doc_model.specs.Document.{Document, table_id}
@@ -16,7 +16,6 @@ use Rattle.doc_model.specs.Valid.{valid}
 use Rattle.doc_model.proofs.Choices.{or_assoc, or_false}
 use Rattle.doc_model.proofs.SameRowLaws.{rows_itself}
 use Rattle.plain_view.proofs.PartLemmas.{SameRow-trans, both_trans}
-use Rattle.recalc.specs.Current.{PlainRowsLaw, StaysPlainLaw, brings_formula, has_formulas}
 use Rattle.recalc.specs.Evaluated.{filled}
 use Rattle.recalc.specs.Lost.{lost}
 use Rattle.recalc.specs.Outside.{OutsideLaw, is_in_row, is_row_among}
@@ -102,17 +101,3 @@ outside_one law s a t cells changed whole v e is noted c r past none =
     let P : Document → Type 0 = λ u. Both (AreSameTables r) (find_id table_id c (filled s)) (find_id table_id c (filled u)) in
     subst P (sym e) (law s a whole v c r past (or_parts (about c r a) false two.0).0
     (ap (λ l. is_row_among l c r) (sym (is ∙ ap (λ u. lost s u a) e)) ∙ none_of (is_row_among cells c r) (has_changed_row changed c r) (noted c r) two.1))
-
--- a document without formulas stays one
-plain_after : StaysPlainLaw → (s : Document) (as' : List DocAction) → has_formulas s ≡ false → list_any brings_formula as' ≡ false → has_formulas (apply_all s as') ≡ false
-plain_after law s [] plain none = plain
-plain_after law s (a ∷ as') plain none =
-    let two : (brings_formula a ≡ false) × (list_any brings_formula as' ≡ false) = or_parts (brings_formula a) (list_any brings_formula as') none in
-    plain_after law (apply s a) as' (law s a plain two.0) two.1
-
--- there actions change what they are about alone
-pub outside_plain : StaysPlainLaw → PlainRowsLaw → (s : Document) (as' : List DocAction) (changed : List ChangedRows) → has_formulas s ≡ false → list_any brings_formula as' ≡ false
-    → AreSameOutside as' [] s (apply_all s as') → AreSameOutside as' changed (filled s) (filled (apply_all s as'))
-outside_plain stays rows s as' changed plain none h c r past outside =
-    rows s (apply_all s as') plain (plain_after stays s as' plain none) c r
-    (h c r past (ap (λ b. b || false) (or_parts (list_any (about c r) as') (has_changed_row changed c r) outside).0))

@@ -8,3 +8,4 @@ pub mod RollbackLemmas
 pub mod StepLemmas
 pub mod UndoneLemmas
 mod LossLemmas
+mod ToldLemmas

@@ -1,23 +1,16 @@
 -- Steps one after another, by their actions.
-use Rattle.std.proofs.Common.{◌≡◌, ℕ, suc, zero, ◌+◌, ◌<◌, Bool, ◌||◌, List, [], ◌∷◌, ◌++◌, map, drop, length, get_or, refl, sym, ap, ◌∙◌, arith}
-use Rattle.std.proofs.lemmas.List.{map-append, append_assoc}
+use Rattle.std.proofs.Common.{◌≡◌, ℕ, suc, zero, ◌+◌, ◌<◌, Bool, List, [], ◌∷◌, ◌++◌, map, drop, length, get_or, refl, sym, ap, ◌∙◌, arith}
+use Rattle.std.proofs.lemmas.List.{map-append}
 use Rattle.std.specs.List.{list_any}
 use Rattle.doc_model.specs.declared.action.DocAction.{DocAction}
 use Rattle.doc_model.specs.declared.action.Step.{Step}
-use Rattle.doc_model.specs.Apply.{apply}
-use Rattle.doc_model.specs.Document.{Document}
 use Rattle.doc_model.proofs.Choices.{length_map}
 use Rattle.user_actions.specs.StepLaws.{action_of}
-use Rattle.undo_bundles.specs.InverseSteps.{inverse_step, inverse_steps}
 use Rattle.bundle_judge.specs.SplitSteps.{joined}
 use Rattle.bundle_judge.proofs.ChangedLemmas.{Within, within_at, within_back, within_front}
 use Rattle.bundle_judge.proofs.RollbackLemmas.{left_at}
 
 -- ---- actions of steps
-
-pub any_action : (p : DocAction → Bool) (xs : List Step) → list_any p (map action_of xs) ≡ list_any (λ (x : Step). p x.action) xs
-any_action p [] = refl
-any_action p (x ∷ xs) = ap (λ b. p x.action || b) (any_action p xs)
 
 pub front_within : (xs ys : List Step) → Within (map action_of xs) (map action_of (xs ++ ys))
 front_within xs ys p h = within_front (map action_of xs) (map action_of ys) p (ap (list_any p) (sym (map-append action_of xs ys)) ∙ h)
@@ -43,12 +36,6 @@ pub actions_left : (i : ℕ) (xs : List Step) (x : Step) → i < length xs → x
 actions_left i xs x lt is =
     drop_actions i xs ∙ ap (map action_of) (left_at i xs x lt is) ∙ ap (λ l. x.action ∷ l) (sym (drop_actions (i + 1) xs))
 
-pub step_at : (xs : List Step) (i : ℕ) (a : DocAction) (m : Bool) → i < length xs → a ≡ get_or (map action_of xs) i a → ((d : Step) → m ≡ (get_or xs i d).direct)
-    → (let x : Step = record { action = a; direct = m } in x ≡ get_or xs i x)
-step_at [] i a m lt is k = absurd (omega (arith, lt))
-step_at (y ∷ xs) zero a m lt is k = ap (λ b. let x : Step = record { action = b; direct = m } in x) is ∙ ap (λ n. let x : Step = record { action = y.action; direct = n } in x) (k y)
-step_at (y ∷ xs) (suc i) a m lt is k = step_at xs i a m (omega (arith, lt)) is k
-
 -- ---- steps apart
 
 pub joined_actions : (as' : List DocAction) (marks : List Bool) → length as' ≡ length marks → map action_of (joined as' marks) ≡ as'
@@ -72,18 +59,3 @@ joined_mark [] marks i d m e lt = absurd (omega (arith, lt))
 joined_mark (a ∷ as') [] i d m e lt = absurd (omega (arith, e))
 joined_mark (a ∷ as') (k ∷ marks) zero d m e lt = refl
 joined_mark (a ∷ as') (k ∷ marks) (suc i) d m e lt = joined_mark as' marks i d m (omega (arith, e)) (omega (arith, lt))
-
--- ---- the inverse of steps, made from the front
-
--- some steps are done, and what takes them back is noted
-abbrev pub IsNoting : Document → List Step → ℕ → Document → List Step → Type 0
-IsNoting start xs i s noted = inverse_steps s (drop i xs) ++ noted ≡ inverse_steps start xs
-
-pub noting_next : (start : Document) (xs : List Step) (i : ℕ) (s t : Document) (noted more : List Step) (x : Step) → IsNoting start xs i s noted
-    → drop i xs ≡ x ∷ drop (i + 1) xs → t ≡ apply s x.action → more ≡ inverse_step s x ++ noted → IsNoting start xs (i + 1) t more
-noting_next start xs i s t noted more x h e done is =
-    ap (λ u. inverse_steps u (drop (i + 1) xs) ++ more) done
-    ∙ ap (λ l. inverse_steps (apply s x.action) (drop (i + 1) xs) ++ l) is
-    ∙ sym (append_assoc (inverse_steps (apply s x.action) (drop (i + 1) xs)) (inverse_step s x) noted)
-    ∙ ap (λ l. inverse_steps s l ++ noted) (sym e)
-    ∙ h

@@ -28,8 +28,12 @@ take_suc [] i x lt is = absurd (omega (arith, lt))
 take_suc (z ∷ xs) zero x lt is = ap (λ y. y ∷ []) is
 take_suc (z ∷ xs) (suc i) x lt is = ap (λ r. z ∷ r) (take_suc xs i x (omega (arith, lt)) is)
 
-take_next : (xs : List Step) (i : ℕ) (x : Step) → i < length xs → x ≡ get_or xs i x → take i xs ++ x ∷ [] ≡ take (i + 1) xs
+pub take_next : (xs : List Step) (i : ℕ) (x : Step) → i < length xs → x ≡ get_or xs i x → take i xs ++ x ∷ [] ≡ take (i + 1) xs
 take_next xs i x lt is = rw (add-one i) (take_suc xs i x lt is)
+
+-- all are taken
+pub all_taken : (xs : List Step) (i : ℕ) → length xs ≤ i → take i xs ≡ xs
+all_taken xs i le = sym (append-nil (take i xs)) ∙ ap (λ l. take i xs ++ l) (sym (nothing_left i xs le)) ∙ take-append-drop i xs
 
 module _ (rules : Ctx) (start : Document) (xs : List Step) where
   pub undo_starts : (tally : Tally) → IsTally start tally → IsUndoAt rules start xs 0 rules start tally
@@ -41,7 +45,7 @@ module _ (rules : Ctx) (start : Document) (xs : List Step) where
         → AreSameOutside (map action_of xs) p.changed.items (filled start) (filled s) → IsBundlePlan (judge_undo rules start 0 xs) (Some number) start p
     undo_ends p number le undone same none t outside =
         let left : drop i xs ≡ [] = nothing_left i xs le in
-        let all : take i xs ≡ xs = sym (append-nil (take i xs)) ∙ ap (λ l. take i xs ++ l) (sym left) ∙ take-append-drop i xs in
+        let all : take i xs ≡ xs = all_taken xs i le in
         let after : s ≡ after_steps start xs = h.done_so_far ∙ ap (after_steps start) all in
         let A : List Step → Type 0 = λ l. AreSameOutside (map action_of l) p.changed.items (filled start) (filled (after_steps start l)) in
         let S : Document → Type 0 = λ u. AreSameOutside (map action_of xs) p.changed.items (filled start) (filled u) in

@@ -1,5 +1,5 @@
 -- What one action of a bundle comes to, and how far a judgement has come.
-use Rattle.std.specs.Prelude.{ℕ, true, List, ◌++◌, map, drop, ◌≡◌, Some, None}
+use Rattle.std.specs.Prelude.{ℕ, ⊤, true, List, ◌++◌, map, drop, ◌≡◌, Some, None}
 use Rattle.doc_model.specs.declared.action.Step.{Step}
 use Rattle.doc_model.specs.declared.user_action.UserAction.{UserAction}
 use Rattle.doc_model.specs.Apply.{apply_all, all_valid}
@@ -16,6 +16,8 @@ use Rattle.rule_contexts.specs.Context.{carry_all}
 use Rattle.bundle_judge.specs.Denials.{denial_of}
 use Rattle.bundle_judge.specs.Judgement.{judge_from, created_at, opposed_at, refusal_at, with_before}
 use Rattle.bundle_judge.specs.JudgedBundles.{MayBeDone, after_steps}
+use Rattle.bundle_judge.specs.Losses.{AreTold}
+use Rattle.evaluated_doc.specs.WayBack.{Changed}
 use Rattle.recalc.specs.Evaluated.{filled}
 use Rattle.view_parts.specs.declared.changed.ChangedRows.{ChangedRows}
 use Rattle.view_parts.specs.PartLaws.{AreSameOutside}
@@ -52,6 +54,12 @@ abbrev pub IsDoneAction : Ctx → Document → ℕ → UserAction → Ctx → Do
     → JudgedAction → Type 0
 IsDoneAction x s i a y t changed (judged.Accepted n) = IsDonePlan x s i a y t changed n
 IsDoneAction x s i a y t changed (judged.Refused v) = refusal_at x s i a ≡ Some v
+
+-- the steps of an accepted action are told
+abbrev pub IsToldAction : {B : Type 0} → Document → List (Changed B) → List (Changed B) → List Step
+    → List Step → JudgedAction → Type 0
+IsToldAction s old new was now (judged.Accepted n) = AreTold s n.steps old new was now
+IsToldAction s old new was now (judged.Refused v) = ⊤
 
 -- so many actions were judged from the start on: some steps are done, and others follow, after
 -- which the rules are carried along as far

@@ -1,6 +1,6 @@
 //! Steps done between their checks by the rules.
 
-ghost use Rattle.std.specs.Prelude.{◌≡◌, ◌&&◌, [], ◌∷◌, not, true, false, map, option_map, IfOk, OnOk, MatchOption, Some};
+ghost use Rattle.std.specs.Prelude.{◌≡◌, ◌&&◌, [], ◌∷◌, not, true, false, map, option_map, IfOk, OnOk, MatchOption, None, Some};
 ghost use Rattle.doc_model.specs.Apply.{all_valid, apply};
 ghost use Rattle.doc_model.specs.DocumentLaws.{IsWhole};
 ghost use Rattle.doc_model.specs.Valid.{valid};
@@ -14,16 +14,17 @@ ghost use Rattle.bundle_judge.specs.ChangedCells.{StayNoted};
 ghost use Rattle.rule_contexts.specs.Context.{carry};
 ghost use Rattle.bundle_judge.specs.Denials.{denial_at, denial_of, denied_by, denying_row};
 ghost use Rattle.bundle_judge.specs.JudgedActions.{AreLetDone};
+ghost use Rattle.bundle_judge.specs.Losses.{AreTold};
 ghost use Rattle.bundle_judge.specs.Rollback.{AllLeadBack, gone_back};
 
 use crate::bare_verdict::BareVerdict;
 use crate::carried_context::CarriedContext;
-use crate::rollback::do_one;
+use crate::rollback::{Trail, do_one};
 use acl_checks::laws::unchecked_law;
 use acl_checks::{after_step, are_unchecked, before_step};
 use acl_rules::{Ctx, RuleId, rule_ref};
 use doc_model::{DocTables, Step};
-use evaluated_doc::{Doc, Trace};
+use evaluated_doc::Doc;
 use std::alloc::{AllocError, Global};
 use view_parts::ChangedRows;
 
@@ -58,19 +59,21 @@ fn do_between<D: DocTables>(
     doc: &mut Doc<D>,
     ctx: &Ctx,
     step: &Step,
-    traces: &mut Vec<Trace<D>>,
+    trail: &mut Trail<D>,
     changed: &mut Vec<ChangedRows>,
 ) -> Result<Option<RuleId>, AllocError>
     requires whole { IsWhole (D.document doc.old) }
     requires valid { valid (D.document doc.old) step.now.action ≡ true }
-    requires led { AllLeadBack D.fits D.undone traces.old.items (D.document doc.old) }
+    requires led { AllLeadBack D.fits D.undone trail.old.traces.items (D.document doc.old) }
     ensures denied { IfOk result
         (λ o. option_map row_of o ≡ denying_row ctx.now (D.document doc.old) step.now) }
     ensures whole { OnOk result (IsWhole (D.document doc.new)) }
     ensures done { OnOk result (D.document doc.new ≡ apply (D.document doc.old) step.now.action) }
-    ensures led { AllLeadBack D.fits D.undone traces.new.items (D.document doc.new) }
-    ensures back { gone_back D.fits D.undone traces.new.items (D.document doc.new)
-        ≡ gone_back D.fits D.undone traces.old.items (D.document doc.old) }
+    ensures led { AllLeadBack D.fits D.undone trail.new.traces.items (D.document doc.new) }
+    ensures back { gone_back D.fits D.undone trail.new.traces.items (D.document doc.new)
+        ≡ gone_back D.fits D.undone trail.old.traces.items (D.document doc.old) }
+    ensures told { OnOk result (AreTold (D.document doc.old) (step.now ∷ [])
+        trail.old.traces.items trail.new.traces.items trail.old.inverse trail.new.inverse) }
     ensures outside { OnOk result (AreSameOutside (step.now.action ∷ []) changed.new.items
         (filled (D.document doc.old)) (filled (D.document doc.new))) }
     ensures stays { OnOk result (StayNoted changed.old.items changed.new.items) }
@@ -78,10 +81,10 @@ fn do_between<D: DocTables>(
     unchecked_law();
     if is_checked(ctx, step) {
         let before = before_step(alloc, ctx, doc, &step.action)?;
-        do_one(alloc, doc, &step.action, traces, changed)?;
+        do_one(alloc, doc, step, trail, changed)?;
         return Ok(after_step(ctx, &before, doc, &step.action));
     }
-    do_one(alloc, doc, &step.action, traces, changed)?;
+    do_one(alloc, doc, step, trail, changed)?;
     Ok(None)
 }
 
@@ -93,12 +96,12 @@ pub fn do_checked<D: DocTables>(
     carried: &mut CarriedContext<'_>,
     index: u32,
     step: &Step,
-    traces: &mut Vec<Trace<D>>,
+    trail: &mut Trail<D>,
     changed: &mut Vec<ChangedRows>,
 ) -> Result<Option<BareVerdict>, AllocError>
     requires whole { IsWhole (D.document doc.old) }
     requires valid { valid (D.document doc.old) step.now.action ≡ true }
-    requires led { AllLeadBack D.fits D.undone traces.old.items (D.document doc.old) }
+    requires led { AllLeadBack D.fits D.undone trail.old.traces.items (D.document doc.old) }
     requires may_carry { is_kept carried.old ≡ true → renames step.now ≡ false }
     ensures denied { IfOk result
         (λ o. o ≡ denial_at (carried_context carried.old) (D.document doc.old) index step.now) }
@@ -107,14 +110,16 @@ pub fn do_checked<D: DocTables>(
     ensures kept { OnOk result (is_kept carried.new ≡ is_kept carried.old) }
     ensures whole { OnOk result (IsWhole (D.document doc.new)) }
     ensures done { OnOk result (D.document doc.new ≡ apply (D.document doc.old) step.now.action) }
-    ensures led { AllLeadBack D.fits D.undone traces.new.items (D.document doc.new) }
-    ensures back { gone_back D.fits D.undone traces.new.items (D.document doc.new)
-        ≡ gone_back D.fits D.undone traces.old.items (D.document doc.old) }
+    ensures led { AllLeadBack D.fits D.undone trail.new.traces.items (D.document doc.new) }
+    ensures back { gone_back D.fits D.undone trail.new.traces.items (D.document doc.new)
+        ≡ gone_back D.fits D.undone trail.old.traces.items (D.document doc.old) }
+    ensures told { OnOk result (AreTold (D.document doc.old) (step.now ∷ [])
+        trail.old.traces.items trail.new.traces.items trail.old.inverse trail.new.inverse) }
     ensures outside { OnOk result (AreSameOutside (step.now.action ∷ []) changed.new.items
         (filled (D.document doc.old)) (filled (D.document doc.new))) }
     ensures stays { OnOk result (StayNoted changed.old.items changed.new.items) }
 {
-    let rule = do_between(alloc, doc, carried.context(), step, traces, changed)?;
+    let rule = do_between(alloc, doc, carried.context(), step, trail, changed)?;
     let denial = denied_by(alloc, carried.context(), index, rule)?;
     match carried.carry(alloc, &step.action) {
         Ok(()) => Ok(denial),
@@ -133,12 +138,12 @@ pub fn do_all_checked<D: DocTables>(
     carried: &mut CarriedContext<'_>,
     index: u32,
     steps: &[Step],
-    traces: &mut Vec<Trace<D>>,
+    trail: &mut Trail<D>,
     changed: &mut Vec<ChangedRows>,
 ) -> Result<Option<BareVerdict>, AllocError>
     requires whole { IsWhole (D.document doc.old) }
     requires valid { all_valid (D.document doc.old) (map action_of steps.now) ≡ true }
-    requires led { AllLeadBack D.fits D.undone traces.old.items (D.document doc.old) }
+    requires led { AllLeadBack D.fits D.undone trail.old.traces.items (D.document doc.old) }
     requires may_carry { MayCarry carried.old steps.now }
     ensures ok { IfOk result (λ o. MatchOption o
         (AreLetDone (carried_context carried.old) (D.document doc.old) index steps.now
@@ -146,13 +151,15 @@ pub fn do_all_checked<D: DocTables>(
         (λ v. denial_of (carried_context carried.old) (D.document doc.old) index steps.now
         ≡ Some v)) }
     ensures kept { OnOk result (is_kept carried.new ≡ is_kept carried.old) }
-    ensures led { AllLeadBack D.fits D.undone traces.new.items (D.document doc.new) }
-    ensures back { gone_back D.fits D.undone traces.new.items (D.document doc.new)
-        ≡ gone_back D.fits D.undone traces.old.items (D.document doc.old) }
+    ensures led { AllLeadBack D.fits D.undone trail.new.traces.items (D.document doc.new) }
+    ensures back { gone_back D.fits D.undone trail.new.traces.items (D.document doc.new)
+        ≡ gone_back D.fits D.undone trail.old.traces.items (D.document doc.old) }
+    ensures told { IfOk result (λ o. o ≡ None → AreTold (D.document doc.old) steps.now
+        trail.old.traces.items trail.new.traces.items trail.old.inverse trail.new.inverse) }
     ensures stays { OnOk result (StayNoted changed.old.items changed.new.items) }
 {
     for step in steps {
-        match do_checked(alloc, doc, carried, index, step, traces, changed)? {
+        match do_checked(alloc, doc, carried, index, step, trail, changed)? {
             Some(denial) => return Ok(Some(denial)),
             None => {}
         }

@@ -1,6 +1,6 @@
 //! The judgement of a bundle: each action is judged where those before it are done.
 
-ghost use Rattle.std.specs.Prelude.{◌≡◌, [], ◌≤◌, true, false, map, length, IfOk, OnOk, None, Some};
+ghost use Rattle.std.specs.Prelude.{◌≡◌, [], ◌≤◌, true, false, map, length, IfOk, OnErr, OnOk, None, Ok, Some};
 ghost use Rattle.std.specs.List.{list_all};
 ghost use Rattle.doc_model.specs.DocumentLaws.{IsWhole};
 ghost use Rattle.user_actions.specs.Allowed.{is_allowed};
@@ -14,8 +14,8 @@ ghost use Rattle.bundle_judge.specs.Judgement.{judge, judge_from, limited};
 ghost use Rattle.bundle_judge.specs.CarriedContexts.{MayCarryAll, asks_rename, carried_context, is_kept};
 ghost use Rattle.bundle_judge.specs.ChangedCells.{StayNoted};
 ghost use Rattle.bundle_judge.specs.Created.{created_of};
-ghost use Rattle.bundle_judge.specs.JudgedBundles.{IsJudgedBundle};
-ghost use Rattle.bundle_judge.specs.JudgedActions.{IsDoneAction, IsJudgedAction};
+ghost use Rattle.bundle_judge.specs.JudgedBundles.{IsDoneBundle, IsJudgedBundle, IsToldBundle};
+ghost use Rattle.bundle_judge.specs.JudgedActions.{IsDoneAction, IsJudgedAction, IsToldAction};
 ghost use Rattle.bundle_judge.specs.Rollback.{AllLeadBack, gone_back};
 ghost use Rattle.rule_contexts.specs.Context.{context, view_in};
 
@@ -23,7 +23,7 @@ use crate::bare_verdict::BareVerdict;
 use crate::carried_context::{CarriedContext, ask_renames};
 use crate::checking::do_all_checked;
 use crate::created::{Created, created_of};
-use crate::rollback::{do_all, do_last, go_back_all};
+use crate::rollback::{Trail, do_all, go_back_all};
 use crate::split_steps::SplitSteps;
 use acl_checks::are_unchecked;
 use acl_checks::laws::unchecked_law;
@@ -31,7 +31,7 @@ use acl_reading::RuleReading;
 use acl_rules::Ctx;
 use action_limits::{Expansion, Tally, expand};
 use doc_model::{DocTables, LimitKind, MAX_ACTIONS, Refusal, StepList, UserAction};
-use evaluated_doc::{Doc, Trace};
+use evaluated_doc::Doc;
 use rule_contexts::seen_law;
 use std::alloc::{AllocError, Global};
 use user_actions::refuse;
@@ -170,19 +170,21 @@ fn judge_unchecked<D: DocTables>(
     tally: Tally,
     ctx: &Ctx,
     requested: &[UserAction],
-    traces: &mut Vec<Trace<D>>,
+    trail: &mut Trail<D>,
 ) -> Result<JudgedBundle, AllocError>
     requires unchecked { are_unchecked ctx.now ≡ true }
     requires whole { IsWhole (D.document doc.old) }
     requires tally { IsTally (D.document doc.old) tally }
     requires well_formed { list_all is_well_formed requested.now ≡ true }
     requires few { length requested.now ≤ 2000 }
-    requires first { traces.old.items ≡ [] }
+    requires first { trail.old.traces.items ≡ [] }
     ensures judged { IfOk result (λ j. IsJudgedBundle
         (judge_from ctx.now (D.document doc.old) 0 requested.now) None (D.document doc.old) j) }
-    ensures led { AllLeadBack D.fits D.undone traces.new.items (D.document doc.new) }
-    ensures back { gone_back D.fits D.undone traces.new.items (D.document doc.new)
+    ensures led { AllLeadBack D.fits D.undone trail.new.traces.items (D.document doc.new) }
+    ensures back { gone_back D.fits D.undone trail.new.traces.items (D.document doc.new)
         ≡ D.document doc.old }
+    ensures told { IfOk result (IsToldBundle (D.document doc.old) (D.document doc.new)
+        trail.old.traces.items trail.new.traces.items trail.old.inverse trail.new.inverse) }
 {
     unchecked_law();
     let mut tally = tally;
@@ -191,7 +193,7 @@ fn judge_unchecked<D: DocTables>(
     let mut created = Vec::new(alloc);
     let mut next = Vec::new(alloc);
     for index in 0..requested.len() {
-        do_all(alloc, doc, &next, traces, &mut changed)?;
+        do_all(alloc, doc, &next, trail, &mut changed)?;
         steps.append(&mut next)?;
         match judge_action(alloc, doc, tally, ctx, &requested[index], index as u32)? {
             JudgedAction::Refused(verdict) => {
@@ -205,7 +207,7 @@ fn judge_unchecked<D: DocTables>(
             }
         }
     }
-    do_last(alloc, doc, &next, traces, &mut changed)?;
+    do_all(alloc, doc, &next, trail, &mut changed)?;
     steps.append(&mut next)?;
     Ok(JudgedBundle::Accepted(BundlePlan {
         steps: SplitSteps::of(alloc, steps)?,
@@ -224,21 +226,23 @@ fn judge_and_do<D: DocTables>(
     carried: &mut CarriedContext<'_>,
     action: &UserAction,
     index: u32,
-    traces: &mut Vec<Trace<D>>,
+    trail: &mut Trail<D>,
     changed: &mut Vec<ChangedRows>,
 ) -> Result<JudgedAction, AllocError>
     requires whole { IsWhole (D.document doc.old) }
     requires well_formed { is_well_formed action.now ≡ true }
     requires tally { IsTally (D.document doc.old) tally }
-    requires led { AllLeadBack D.fits D.undone traces.old.items (D.document doc.old) }
+    requires led { AllLeadBack D.fits D.undone trail.old.traces.items (D.document doc.old) }
     requires may_carry { is_kept carried.old ≡ true → asks_rename action.now ≡ false }
     ensures judged { IfOk result (λ r. IsDoneAction (carried_context carried.old)
         (D.document doc.old) index action.now (carried_context carried.new) (D.document doc.new)
         changed.new.items r) }
     ensures kept { OnOk result (is_kept carried.new ≡ is_kept carried.old) }
-    ensures led { AllLeadBack D.fits D.undone traces.new.items (D.document doc.new) }
-    ensures back { gone_back D.fits D.undone traces.new.items (D.document doc.new)
-        ≡ gone_back D.fits D.undone traces.old.items (D.document doc.old) }
+    ensures led { AllLeadBack D.fits D.undone trail.new.traces.items (D.document doc.new) }
+    ensures back { gone_back D.fits D.undone trail.new.traces.items (D.document doc.new)
+        ≡ gone_back D.fits D.undone trail.old.traces.items (D.document doc.old) }
+    ensures told { IfOk result (IsToldAction (D.document doc.old)
+        trail.old.traces.items trail.new.traces.items trail.old.inverse trail.new.inverse) }
     ensures stays { OnOk result (StayNoted changed.old.items changed.new.items) }
 {
     let plan = match judge_action(alloc, doc, tally, carried.context(), action, index)? {
@@ -246,7 +250,7 @@ fn judge_and_do<D: DocTables>(
         JudgedAction::Accepted(plan) => plan,
     };
     let steps = plan.steps.as_slice();
-    match do_all_checked(alloc, doc, carried, index, steps, traces, changed) {
+    match do_all_checked(alloc, doc, carried, index, steps, trail, changed) {
         Ok(None) => Ok(JudgedAction::Accepted(plan)),
         Ok(Some(denial)) => {
             drop(plan);
@@ -266,20 +270,22 @@ fn judge_checked<D: DocTables>(
     tally: Tally,
     carried: &mut CarriedContext<'_>,
     requested: &[UserAction],
-    traces: &mut Vec<Trace<D>>,
+    trail: &mut Trail<D>,
 ) -> Result<JudgedBundle, AllocError>
     requires whole { IsWhole (D.document doc.old) }
     requires tally { IsTally (D.document doc.old) tally }
     requires well_formed { list_all is_well_formed requested.now ≡ true }
     requires few { length requested.now ≤ 2000 }
-    requires first { traces.old.items ≡ [] }
+    requires first { trail.old.traces.items ≡ [] }
     requires may_carry { MayCarryAll carried.old requested.now }
     ensures judged { IfOk result (λ j. IsJudgedBundle
         (judge_from (carried_context carried.old) (D.document doc.old) 0 requested.now) None
         (D.document doc.old) j) }
-    ensures led { AllLeadBack D.fits D.undone traces.new.items (D.document doc.new) }
-    ensures back { gone_back D.fits D.undone traces.new.items (D.document doc.new)
+    ensures led { AllLeadBack D.fits D.undone trail.new.traces.items (D.document doc.new) }
+    ensures back { gone_back D.fits D.undone trail.new.traces.items (D.document doc.new)
         ≡ D.document doc.old }
+    ensures told { IfOk result (IsToldBundle (D.document doc.old) (D.document doc.new)
+        trail.old.traces.items trail.new.traces.items trail.old.inverse trail.new.inverse) }
 {
     let mut tally = tally;
     let mut steps = Vec::new(alloc);
@@ -294,7 +300,7 @@ fn judge_checked<D: DocTables>(
             carried,
             action,
             index as u32,
-            traces,
+            trail,
             &mut changed,
         )? {
             JudgedAction::Refused(verdict) => {
@@ -325,49 +331,109 @@ fn judge_in<D: DocTables>(
     tally: Tally,
     ctx: &Ctx,
     requested: &[UserAction],
-    traces: &mut Vec<Trace<D>>,
+    trail: &mut Trail<D>,
 ) -> Result<JudgedBundle, AllocError>
     requires in_force { ctx.now ≡ context ctx.now.user.user (D.document doc.old) }
     requires whole { IsWhole (D.document doc.old) }
     requires tally { IsTally (D.document doc.old) tally }
     requires well_formed { list_all is_well_formed requested.now ≡ true }
     requires few { length requested.now ≤ 2000 }
-    requires first { traces.old.items ≡ [] }
+    requires first { trail.old.traces.items ≡ [] }
     ensures judged { IfOk result (λ j. IsJudgedBundle
         (judge_from ctx.now (D.document doc.old) 0 requested.now) None (D.document doc.old) j) }
-    ensures led { AllLeadBack D.fits D.undone traces.new.items (D.document doc.new) }
-    ensures back { gone_back D.fits D.undone traces.new.items (D.document doc.new)
+    ensures led { AllLeadBack D.fits D.undone trail.new.traces.items (D.document doc.new) }
+    ensures back { gone_back D.fits D.undone trail.new.traces.items (D.document doc.new)
         ≡ D.document doc.old }
+    ensures told { IfOk result (IsToldBundle (D.document doc.old) (D.document doc.new)
+        trail.old.traces.items trail.new.traces.items trail.old.inverse trail.new.inverse) }
 {
     if are_unchecked(ctx) {
-        return judge_unchecked(alloc, doc, tally, ctx, requested, traces);
+        return judge_unchecked(alloc, doc, tally, ctx, requested, trail);
     }
     let mut carried = CarriedContext::of(alloc, doc, ctx, ask_renames(requested))?;
-    judge_checked(alloc, doc, tally, &mut carried, requested, traces)
+    judge_checked(alloc, doc, tally, &mut carried, requested, trail)
+}
+
+/// Leaves a bundle done that was judged while it was done, where it is accepted, and goes back over
+/// what was done of any other.
+pub fn settle<D: DocTables>(
+    alloc: Global,
+    doc: &mut Doc<D>,
+    judged: Result<JudgedBundle, AllocError>,
+    trail: Trail<D>,
+) -> Result<(JudgedBundle, Trail<D>), AllocError>
+    requires led { AllLeadBack D.fits D.undone trail.traces.items (D.document doc.old) }
+    requires told { IfOk judged (IsToldBundle
+        (gone_back D.fits D.undone trail.traces.items (D.document doc.old)) (D.document doc.old)
+        [] trail.traces.items [] trail.inverse) }
+    ensures judged { IfOk result (λ r. judged ≡ Ok r.0) }
+    ensures done { IfOk result (λ r. IsDoneBundle
+        (gone_back D.fits D.undone trail.traces.items (D.document doc.old)) (D.document doc.new)
+        r.1.traces.items r.1.inverse r.0) }
+    ensures led { IfOk result
+        (λ r. AllLeadBack D.fits D.undone r.1.traces.items (D.document doc.new)) }
+    ensures back { IfOk result
+        (λ r. gone_back D.fits D.undone r.1.traces.items (D.document doc.new)
+        ≡ gone_back D.fits D.undone trail.traces.items (D.document doc.old)) }
+    ensures err { OnErr result (D.document doc.new
+        ≡ gone_back D.fits D.undone trail.traces.items (D.document doc.old)) }
+{
+    match judged {
+        Ok(JudgedBundle::Accepted(plan)) => Ok((JudgedBundle::Accepted(plan), trail)),
+        Ok(JudgedBundle::Refused(verdict)) => {
+            let trail = back_at_start(alloc, doc, trail);
+            Ok((JudgedBundle::Refused(verdict), trail))
+        }
+        Err(fault) => {
+            drop(back_at_start(alloc, doc, trail));
+            Err(fault)
+        }
+    }
+}
+
+// Goes back over what was done, and gives the trail of nothing.
+fn back_at_start<D: DocTables>(alloc: Global, doc: &mut Doc<D>, trail: Trail<D>) -> Trail<D>
+    requires { AllLeadBack D.fits D.undone trail.traces.items (D.document doc.old) }
+    ensures document { D.document doc.new
+        ≡ gone_back D.fits D.undone trail.traces.items (D.document doc.old) }
+    ensures nothing { result.traces.items ≡ [] }
+{
+    go_back_all(doc, trail.traces);
+    Trail::new(alloc)
 }
 
 /// Judges a bundle of a user by what is in force for the user in the document now: it is done while
-/// it is judged, and gone back over without memory. The document is as before, whatever the answer.
+/// it is judged. An accepted bundle stays done, and its trail leads back; where one is refused or
+/// memory runs out, what was done is gone back over without memory, and the document is as before.
+///
+/// Errors: out of memory. Cost: each step is done once.
 pub fn judge<D: DocTables>(
     alloc: Global,
     doc: &mut Doc<D>,
     tally: Tally,
     ctx: &Ctx,
     requested: &[UserAction],
-) -> Result<JudgedBundle, AllocError>
+) -> Result<(JudgedBundle, Trail<D>), AllocError>
     requires in_force { ctx.now ≡ context ctx.now.user.user (D.document doc.old) }
     requires whole { IsWhole (D.document doc.old) }
     requires tally { IsTally (D.document doc.old) tally }
     requires well_formed { list_all is_well_formed requested.now ≡ true }
-    ensures judged { IfOk result (λ j. IsJudgedBundle
-        (judge ctx.now.user.user (D.document doc.old) requested.now) None (D.document doc.old) j) }
-    ensures same { D.document doc.new ≡ D.document doc.old }
+    ensures judged { IfOk result (λ r. IsJudgedBundle
+        (judge ctx.now.user.user (D.document doc.old) requested.now) None (D.document doc.old)
+        r.0) }
+    ensures done { IfOk result (λ r. IsDoneBundle (D.document doc.old) (D.document doc.new)
+        r.1.traces.items r.1.inverse r.0) }
+    ensures led { IfOk result
+        (λ r. AllLeadBack D.fits D.undone r.1.traces.items (D.document doc.new)) }
+    ensures back { IfOk result (λ r. gone_back D.fits D.undone r.1.traces.items
+        (D.document doc.new) ≡ D.document doc.old) }
+    ensures err { OnErr result (D.document doc.new ≡ D.document doc.old) }
 {
     if requested.len() as u64 > MAX_ACTIONS {
-        return Ok(JudgedBundle::Refused(limited(LimitKind::Actions, MAX_ACTIONS as u32)));
+        let verdict = limited(LimitKind::Actions, MAX_ACTIONS as u32);
+        return Ok((JudgedBundle::Refused(verdict), Trail::new(alloc)));
     }
-    let mut traces = Vec::new(alloc);
-    let judged = judge_in(alloc, doc, tally, ctx, requested, &mut traces);
-    go_back_all(doc, traces);
-    judged
+    let mut trail = Trail::new(alloc);
+    let judged = judge_in(alloc, doc, tally, ctx, requested, &mut trail);
+    settle(alloc, doc, judged, trail)
 }

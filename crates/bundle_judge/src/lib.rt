@@ -8,13 +8,14 @@
 //! Promises: `judge` and `judge_own_undo` answer what specs/Judgement.antt and specs/Undo.antt say
 //! for every document, over plain lists: the first fault of the first action that has one, or the
 //! steps that the bundle comes to, the rows in which they changed cells, what its actions created,
-//! and the tally of the document after them. The document is as before, whatever the answer. Each
-//! direct step is checked by the rules that stood at the bundle's start, and a denial names its
-//! rule. `do_for_good` does the steps of a plan, and `go_back_all` takes them back without memory.
-//! Costs: a bundle costs what its actions touch; where there are formulas the evaluation of the
-//! document after each action too. Its last actions are done once, in `do_for_good`, where there
-//! are no formulas and no rules. What is in force for the user is at hand; only a bundle or undo
-//! that renames a table or a column reads it once more, where rules may deny something.
+//! and the tally of the document after them. What is accepted stays done, with a trail: the trace
+//! of each step, and the inverse of all. Otherwise the document is as before. Each direct step is
+//! checked by the rules that stood at the bundle's start, and a denial names its rule.
+//! `go_back_all` goes back over the traces of a trail without memory, and `do_again` does the steps
+//! once more.
+//! Costs: each step is done once, and costs what it touches; where there are formulas, what
+//! evaluating what it changes costs too. What is in force for the user is at hand; only a bundle or
+//! undo that renames a table or a column reads it once more, where rules may deny something.
 //! Read first: specs/Judgement.antt, specs/Denials.antt and specs/Undo.antt, then judging.rt,
 //! checking.rt and undoing.rt.
 #![tactic(auto)]
@@ -32,6 +33,6 @@ mod undoing;
 pub use bare_verdict::BareVerdict;
 pub use created::{Created, all_told};
 pub use judging::{BundlePlan, JudgedBundle, judge};
-pub use rollback::{do_for_good, go_back_all};
+pub use rollback::{Trail, do_again, go_back_all};
 pub use split_steps::SplitSteps;
 pub use undoing::judge_own_undo;

@@ -1,11 +1,11 @@
 //! The judgement of an undo: each step is judged where those before it are done.
 
-ghost use Rattle.std.specs.Prelude.{◌≡◌, [], ◌<◌, ◌^◌, length, IfErr, IfOk, None, Some};
+ghost use Rattle.std.specs.Prelude.{◌≡◌, [], ◌<◌, ◌^◌, length, IfErr, IfOk, OnErr, None, Some};
 ghost use Rattle.doc_model.specs.DocumentLaws.{IsWhole};
 ghost use Rattle.action_limits.specs.Tallies.{IsTally};
 ghost use Rattle.bundle_judge.specs.declared.bare_verdict.BareVerdict.TheVariants.{Refused};
 ghost use Rattle.bundle_judge.specs.CarriedContexts.{MayCarry, carried_context};
-ghost use Rattle.bundle_judge.specs.JudgedBundles.{IsJudgedBundle};
+ghost use Rattle.bundle_judge.specs.JudgedBundles.{IsDoneBundle, IsJudgedBundle, IsToldBundle};
 ghost use Rattle.rule_contexts.specs.Context.{context};
 ghost use Rattle.bundle_judge.specs.Rollback.{AllLeadBack, gone_back};
 ghost use Rattle.bundle_judge.specs.Undo.{judge_own_undo, judge_undo, refusal_of, stale_at};
@@ -15,14 +15,14 @@ ghost use Rattle.undo_bundles.specs.BundleLog.{undo_of};
 use crate::bare_verdict::BareVerdict;
 use crate::carried_context::{CarriedContext, rename_any};
 use crate::checking::do_checked;
-use crate::judging::{BundlePlan, JudgedBundle, limited};
-use crate::rollback::go_back_all;
+use crate::judging::{BundlePlan, JudgedBundle, limited, settle};
+use crate::rollback::Trail;
 use crate::split_steps::SplitSteps;
 use acl_rules::Ctx;
 use action_limits::Tally;
 use doc_actions::is_valid;
 use doc_model::{DocAction, DocTables, Refusal, Step, StepList};
-use evaluated_doc::{Doc, Trace};
+use evaluated_doc::Doc;
 use std::alloc::{AllocError, Global};
 use undo_bundles::{BundleLog, LogFault};
 
@@ -59,19 +59,21 @@ fn judge_each<D: DocTables>(
     carried: &mut CarriedContext<'_>,
     number: u64,
     steps: &[Step],
-    traces: &mut Vec<Trace<D>>,
+    trail: &mut Trail<D>,
 ) -> Result<JudgedBundle, AllocError>
     requires whole { IsWhole (D.document doc.old) }
     requires tally { IsTally (D.document doc.old) tally }
     requires few { length steps.now < 2 ^ 32 }
-    requires first { traces.old.items ≡ [] }
+    requires first { trail.old.traces.items ≡ [] }
     requires may_carry { MayCarry carried.old steps.now }
     ensures judged { IfOk result (λ j. IsJudgedBundle
         (judge_undo (carried_context carried.old) (D.document doc.old) 0 steps.now) (Some number)
         (D.document doc.old) j) }
-    ensures led { AllLeadBack D.fits D.undone traces.new.items (D.document doc.new) }
-    ensures back { gone_back D.fits D.undone traces.new.items (D.document doc.new)
+    ensures led { AllLeadBack D.fits D.undone trail.new.traces.items (D.document doc.new) }
+    ensures back { gone_back D.fits D.undone trail.new.traces.items (D.document doc.new)
         ≡ D.document doc.old }
+    ensures told { IfOk result (IsToldBundle (D.document doc.old) (D.document doc.new)
+        trail.old.traces.items trail.new.traces.items trail.old.inverse trail.new.inverse) }
 {
     let mut tally = tally;
     let mut changed = Vec::new(alloc);
@@ -84,15 +86,7 @@ fn judge_each<D: DocTables>(
                 return Ok(JudgedBundle::Refused(verdict));
             }
         }
-        match do_checked(
-            alloc,
-            doc,
-            carried,
-            index as u32,
-            step,
-            traces,
-            &mut changed,
-        )? {
+        match do_checked(alloc, doc, carried, index as u32, step, trail, &mut changed)? {
             Some(denial) => {
                 drop(changed);
                 return Ok(JudgedBundle::Refused(denial));
@@ -111,7 +105,7 @@ fn judge_each<D: DocTables>(
 
 // Judges the steps that undo the bundle of that number under the rules in force, which are read
 // once more where a step renames something: they are done while they are judged, and gone back
-// over without memory. The document is as before, whatever the answer.
+// over without memory where they are not accepted.
 fn judge_steps<D: DocTables>(
     alloc: Global,
     doc: &mut Doc<D>,
@@ -119,14 +113,20 @@ fn judge_steps<D: DocTables>(
     ctx: &Ctx,
     number: u64,
     steps: &StepList,
-) -> Result<JudgedBundle, AllocError>
+) -> Result<(JudgedBundle, Trail<D>), AllocError>
     requires in_force { ctx.now ≡ context ctx.now.user.user (D.document doc.old) }
     requires whole { IsWhole (D.document doc.old) }
     requires tally { IsTally (D.document doc.old) tally }
-    ensures judged { IfOk result (λ j. IsJudgedBundle
+    ensures judged { IfOk result (λ r. IsJudgedBundle
         (judge_undo ctx.now (D.document doc.old) 0 steps.now) (Some number)
-        (D.document doc.old) j) }
-    ensures same { D.document doc.new ≡ D.document doc.old }
+        (D.document doc.old) r.0) }
+    ensures done { IfOk result (λ r. IsDoneBundle (D.document doc.old) (D.document doc.new)
+        r.1.traces.items r.1.inverse r.0) }
+    ensures led { IfOk result
+        (λ r. AllLeadBack D.fits D.undone r.1.traces.items (D.document doc.new)) }
+    ensures back { IfOk result (λ r. gone_back D.fits D.undone r.1.traces.items
+        (D.document doc.new) ≡ D.document doc.old) }
+    ensures err { OnErr result (D.document doc.new ≡ D.document doc.old) }
 {
     if steps.len() > u32::MAX as usize {
         // Never taken: no memory holds so many steps.
@@ -134,10 +134,9 @@ fn judge_steps<D: DocTables>(
     }
     let steps = steps.as_slice();
     let mut carried = CarriedContext::of(alloc, doc, ctx, rename_any(steps))?;
-    let mut traces = Vec::new(alloc);
-    let judged = judge_each(alloc, doc, tally, &mut carried, number, steps, &mut traces);
-    go_back_all(doc, traces);
-    judged
+    let mut trail = Trail::new(alloc);
+    let judged = judge_each(alloc, doc, tally, &mut carried, number, steps, &mut trail);
+    settle(alloc, doc, judged, trail)
 }
 
 fn refusal_of(fault: LogFault) -> Refusal
@@ -159,9 +158,9 @@ fn refused(refusal: Refusal) -> BareVerdict
 }
 
 /// Judges the undo of the bundle of that number in a user's log by what is in force for the user
-/// in the document now. The document is as before, whatever the answer.
+/// in the document now. An accepted undo stays done, as an accepted bundle of `judge` does.
 ///
-/// Errors: out of memory.
+/// Errors: out of memory. Cost: each step is done once.
 pub fn judge_own_undo<D: DocTables>(
     alloc: Global,
     doc: &mut Doc<D>,
@@ -169,17 +168,26 @@ pub fn judge_own_undo<D: DocTables>(
     ctx: &Ctx,
     log: &BundleLog,
     number: u64,
-) -> Result<JudgedBundle, AllocError>
+) -> Result<(JudgedBundle, Trail<D>), AllocError>
     requires in_force { ctx.now ≡ context ctx.now.user.user (D.document doc.old) }
     requires whole { IsWhole (D.document doc.old) }
     requires tally { IsTally (D.document doc.old) tally }
-    ensures judged { IfOk result (λ j. IsJudgedBundle
+    ensures judged { IfOk result (λ r. IsJudgedBundle
         (judge_own_undo ctx.now.user.user (undo_of log.now.log number)
-        (D.document doc.old)) (Some number) (D.document doc.old) j) }
-    ensures same { D.document doc.new ≡ D.document doc.old }
+        (D.document doc.old)) (Some number) (D.document doc.old) r.0) }
+    ensures done { IfOk result (λ r. IsDoneBundle (D.document doc.old) (D.document doc.new)
+        r.1.traces.items r.1.inverse r.0) }
+    ensures led { IfOk result
+        (λ r. AllLeadBack D.fits D.undone r.1.traces.items (D.document doc.new)) }
+    ensures back { IfOk result (λ r. gone_back D.fits D.undone r.1.traces.items
+        (D.document doc.new) ≡ D.document doc.old) }
+    ensures err { OnErr result (D.document doc.new ≡ D.document doc.old) }
 {
     match log.undo_of(number) {
         Ok(steps) => judge_steps(alloc, doc, tally, ctx, number, steps),
-        Err(fault) => Ok(JudgedBundle::Refused(refused(refusal_of(fault)))),
+        Err(fault) => {
+            let verdict = refused(refusal_of(fault));
+            Ok((JudgedBundle::Refused(verdict), Trail::new(alloc)))
+        }
     }
 }

@@ -34,6 +34,7 @@ use Rattle.formula_parse.proofs.operator.LookupKind.TheSendSync.{the_send as loo
 use Rattle.formula_parse.proofs.operator.PrefixOp.TheSendSync.{the_send as prefixOp-send}
 use Rattle.formula_parse.proofs.rule.RuleAtom.TheSendSync.{the_send as ruleAtom-send}
 use Rattle.known_reads.proofs.beside.KnownReads.TheSendSync.{the_send as knownReads-send}
+use Rattle.recalc.proofs.indexes.ColumnIndex.TheSendSync.{the_send as columnIndex-send}
 use Rattle.row_tables.proofs.tables.RowTables.TheSendSync.{the_send as rowTables-send}
 use Rattle.undo_bundles.proofs.log.BundleLog.TheSendSync.{the_send as bundleLog-send}
 use Rattle.user_attrs.proofs.attribute_rule.AttributeRule.TheSendSync.{the_send as attributeRule-send}
@@ -112,6 +113,7 @@ ruleset parts = (
   ruleAtom-send,
   rowTables-send,
   knownReads-send,
+  columnIndex-send,
   bundleLog-send,
   attributeRule-send,
 )

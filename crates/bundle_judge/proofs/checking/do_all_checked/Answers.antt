@@ -10,13 +10,14 @@ use Rattle.bundle_judge.proofs.ChangedLemmas.{outside_then, within_itself}
 use Rattle.bundle_judge.proofs.CheckLemmas.{checking_carried, checking_denied, checking_next, checking_undenied}
 use Rattle.bundle_judge.proofs.RollbackLemmas.{doing_ends, doing_next, doing_valid, left_at}
 use Rattle.bundle_judge.proofs.StepLemmas.{actions_left, one_within}
+use Rattle.bundle_judge.proofs.ToldLemmas.{telling_ends, telling_next}
 use Rattle.bundle_judge.proofs.checking.do_all_checked.Goals as goal
 
 pub do_checked-requires-clause-valid : goal.do_checked-requires-clause-valid
 do_checked-requires-clause-valid g c =
     let l = c.loop-step in
     let x = c.step-item.result in
-    doing_valid (led_back g.D.DocTables.fits g.D.DocTables.undone) (IsWayBack g.D.DocTables.fits g.D.DocTables.undone) (g.D.DocReader.document c.args.doc.now) (map action_of c.args.steps.now) c.args.traces.now.items l.step-index (g.D.DocReader.document l.doc) l.traces.items l.invariant.0
+    doing_valid (led_back g.D.DocTables.fits g.D.DocTables.undone) (IsWayBack g.D.DocTables.fits g.D.DocTables.undone) (g.D.DocReader.document c.args.doc.now) (map action_of c.args.steps.now) c.args.trail.now.traces.items l.step-index (g.D.DocReader.document l.doc) l.trail.traces.items l.invariant.0
     x.action (actions_left l.step-index c.args.steps.now x c.loop-step-test.true c.step-item.is)
 
 pub do_checked-requires-clause-may_carry : goal.do_checked-requires-clause-may_carry
@@ -40,8 +41,8 @@ loop-step-preserved g c =
     let x = c.step-item.result in
     let actions = map action_of c.args.steps.now in
     let more = c.in_ok-denial.ensures in (
-      doing_next (led_back g.D.DocTables.fits g.D.DocTables.undone) (IsWayBack g.D.DocTables.fits g.D.DocTables.undone) start actions c.args.traces.now.items l.step-index s l.traces.items l.invariant.0
-          x.action t c.do_checked.new.traces.items (actions_left l.step-index c.args.steps.now x c.loop-step-test.true c.step-item.is) more.done more.led more.back,
+      doing_next (led_back g.D.DocTables.fits g.D.DocTables.undone) (IsWayBack g.D.DocTables.fits g.D.DocTables.undone) start actions c.args.trail.now.traces.items l.step-index s l.trail.traces.items l.invariant.0
+          x.action t c.do_checked.new.trail.traces.items (actions_left l.step-index c.args.steps.now x c.loop-step-test.true c.step-item.is) more.done more.led more.back,
       outside_then actions (x.action ∷ []) actions l.changed.items c.do_checked.new.changed.items (filled start) (filled s) (filled t)
           (within_itself actions) (one_within c.args.steps.now l.step-index x c.loop-step-test.true c.step-item.is) more.stays l.invariant.1 more.outside,
       more.whole,
@@ -49,6 +50,8 @@ loop-step-preserved g c =
       checking_next (carried_context c.args.carried.now) start c.args.index c.args.steps.now l.step-index (carried_context l.carried) s l.invariant.4 x (carried_context c.do_checked.new.carried) t
           (left_at l.step-index c.args.steps.now x c.loop-step-test.true c.step-item.is) (sym c.in-None.is ∙ more.denied) more.carried more.done,
       more.kept ∙ l.invariant.5,
+      telling_next start c.args.steps.now l.step-index s c.args.trail.now.traces.items l.trail.traces.items c.args.trail.now.inverse l.trail.inverse l.invariant.6
+          x t c.do_checked.new.trail.traces.items c.do_checked.new.trail.inverse c.loop-step-test.true c.step-item.is more.done more.told,
     )
 
 pub returns-clause-ok : goal.returns-clause-ok
@@ -60,7 +63,12 @@ returns-clause-ok g c =
     record {
       undenied = checking_undenied (carried_context c.args.carried.now) start c.args.index c.args.steps.now l.step-index (carried_context l.carried) s l.invariant.4 le;
       carried = checking_carried (carried_context c.args.carried.now) start c.args.index c.args.steps.now l.step-index (carried_context l.carried) s l.invariant.4 le;
-      done = doing_ends (led_back g.D.DocTables.fits g.D.DocTables.undone) (IsWayBack g.D.DocTables.fits g.D.DocTables.undone) start (map action_of c.args.steps.now) c.args.traces.now.items l.step-index s l.traces.items l.invariant.0
+      done = doing_ends (led_back g.D.DocTables.fits g.D.DocTables.undone) (IsWayBack g.D.DocTables.fits g.D.DocTables.undone) start (map action_of c.args.steps.now) c.args.trail.now.traces.items l.step-index s l.trail.traces.items l.invariant.0
           (omega (arith, le, length_map action_of c.args.steps.now));
       outside = l.invariant.1;
     }
+
+pub returns-clause-told : goal.returns-clause-told
+returns-clause-told g c =
+    λ _. let l = c.loop-step in
+    telling_ends (g.D.DocReader.document c.args.doc.now) c.args.steps.now l.step-index (g.D.DocReader.document l.doc) c.args.trail.now.traces.items l.trail.traces.items c.args.trail.now.inverse l.trail.inverse l.invariant.6 (omega (arith, c.loop-step-test.false))

@@ -6,6 +6,7 @@ use Rattle.bundle_judge.specs.CarriedContexts.{carried_context, renames}
 use Rattle.bundle_judge.specs.Denials.{denial_of}
 use Rattle.bundle_judge.specs.JudgedActions.{AreLetDone, IsActionPlan}
 use Rattle.bundle_judge.specs.Judgement.{opposed_at}
+use Rattle.bundle_judge.specs.Losses.{AreTold}
 use Rattle.bundle_judge.proofs.CarriedLemmas.{no_renames}
 use Rattle.bundle_judge.proofs.JudgmentLemmas.{denied_refused, opposed_refused}
 use Rattle.bundle_judge.proofs.judging.judge_and_do.Goals as goal
@@ -43,3 +44,9 @@ returns-in-Ok-Some-clause-judged g c =
     let denied : denial_of x s c.args.index c.as_slice-steps.result.now ≡ Some c.in-Ok-Some.denial = rw c.in-Ok-Some.field-0-is at c.in-Ok-Some.ensures.ok in
     denied_refused x s c.args.index c.args.action.now c.in-Accepted.plan c.in-Ok-Some.denial (subst Q c.context.ensures (rw c.in-Accepted.is at c.in_ok-verdict.ensures))
     (ap (denial_of x s c.args.index) (sym c.as_slice-steps.ensures) ∙ denied)
+
+pub returns-in-Ok-None-clause-told : goal.returns-in-Ok-None-clause-told
+returns-in-Ok-None-clause-told g c =
+    let s = g.D.DocReader.document c.args.doc.now in
+    let P : List Step → Type 0 = λ l. AreTold s l c.args.trail.now.traces.items c.do_all_checked.new.trail.traces.items c.args.trail.now.inverse c.do_all_checked.new.trail.inverse in
+    subst P c.as_slice-steps.ensures (c.in-Ok-None.ensures.told c.in-Ok-None.field-0-is)

@@ -9,11 +9,13 @@ use Rattle.user_actions.specs.StepLaws.{action_of}
 use Rattle.bundle_judge.specs.CarriedContexts.{asks_rename, carried_context}
 use Rattle.bundle_judge.specs.JudgedActions.{IsAt, IsDonePlan}
 use Rattle.bundle_judge.specs.JudgedBundles.{after_steps}
+use Rattle.bundle_judge.specs.Losses.{AreTold}
 use Rattle.bundle_judge.proofs.CarriedLemmas.{none_at}
 use Rattle.bundle_judge.proofs.ChangedLemmas.{outside_then}
 use Rattle.bundle_judge.proofs.JudgmentLemmas.{at_done, at_next, holds_at, next_done, planned, refused_at, whole_at}
 use Rattle.bundle_judge.proofs.RollbackLemmas.{left_at}
 use Rattle.bundle_judge.proofs.StepLemmas.{back_within, front_within}
+use Rattle.bundle_judge.proofs.ToldLemmas.{told_then}
 use Rattle.bundle_judge.proofs.judging.judge_checked.Goals as goal
 
 pub judge_and_do-requires-clause-whole : goal.judge_and_do-requires-clause-whole
@@ -49,6 +51,7 @@ loop-index-preserved g c =
     let next : IsAt (carried_context c.args.carried.now) start c.args.requested.now (l.index + 1) (carried_context c.judge_and_do.new.carried) s l.steps.items n.steps c.push.new.self.items n.tally =
     at_next (carried_context c.args.carried.now) start c.args.requested.now l.index (carried_context l.carried) s l.steps.items l.created.items l.tally a (drop (l.index + 1) c.args.requested.now) l.invariant.0
     (left_at l.index c.args.requested.now a c.loop-index-test.true c.index-requested-index.is) n c.push.new.self.items (carried_context c.judge_and_do.new.carried) refl done.plan done.done.undenied done.done.carried c.in_ok-push-in-Accepted.ensures.items in
+    let told : AreTold s n.steps l.trail.traces.items c.judge_and_do.new.trail.traces.items l.trail.inverse c.judge_and_do.new.trail.inverse = rw c.in-Accepted.is at more.told in
     let all : c.append.new.self.items ≡ l.steps.items ++ n.steps = c.in_ok-append-in-Accepted.ensures.items ∙ ap (λ xs. l.steps.items ++ xs) c.into_vec.ensures in
     let W : List Step → Type 0 = λ xs. AreSameOutside (map action_of xs) changed (filled start) (filled t) in (
       at_done (carried_context c.args.carried.now) start c.args.requested.now (l.index + 1) (carried_context c.judge_and_do.new.carried) s l.steps.items n.steps c.push.new.self.items n.tally next t c.append.new.self.items done.done.done all,
@@ -57,6 +60,8 @@ loop-index-preserved g c =
       more.led,
       more.back ∙ l.invariant.3,
       more.kept ∙ l.invariant.4,
+      told_then start s l.steps.items n.steps c.append.new.self.items c.args.trail.now.traces.items l.trail.traces.items c.judge_and_do.new.trail.traces.items c.args.trail.now.inverse l.trail.inverse c.judge_and_do.new.trail.inverse
+          l.invariant.5 l.invariant.0.done_so_far told all,
     )
 
 pub returns-clause-judged : goal.returns-clause-judged
@@ -73,3 +78,13 @@ returns-clause-judged g c =
     planned (carried_context c.args.carried.now) start c.args.requested.now l.index (carried_context l.carried) s l.steps.items [] l.created.items l.tally l.invariant.0 _ le refl (c.in_ok-of.ensures ∙ sym nil) refl refl
     (subst U (sym (c.in_ok-of.ensures ∙ sym nil))
     (subst W (sym nil) (subst T (next_done (carried_context c.args.carried.now) start c.args.requested.now l.index (carried_context l.carried) s l.steps.items [] l.created.items l.tally l.invariant.0) l.invariant.1)))
+
+pub returns-clause-told : goal.returns-clause-told
+returns-clause-told g c =
+    let start = g.D.DocReader.document c.args.doc.now in
+    let l = c.loop-index in
+    let T : List Step → Type 0 = λ xs. AreTold start xs c.args.trail.now.traces.items l.trail.traces.items c.args.trail.now.inverse l.trail.inverse in
+    record {
+      document = l.invariant.0.done_so_far ∙ ap (after_steps start) (sym c.in_ok-of.ensures);
+      told = subst T (sym c.in_ok-of.ensures) l.invariant.5;
+    }

@@ -1,11 +1,8 @@
 use Rattle.std.proofs.Common.{List, [], ◌∷◌, ◌++◌, sym, ap, subst, ◌∙◌}
-use Rattle.doc_model.specs.Apply.{apply}
 use Rattle.doc_model.specs.Document.{Document}
 use Rattle.evaluated_doc.specs.WayBack.{Changed, IsWayBack}
 use Rattle.bundle_judge.specs.Rollback.{AllLeadBack, gone_back, led_back}
 use Rattle.bundle_judge.proofs.RollbackLemmas.{AllFit-last, rolled_back-last}
-use Rattle.recalc.specs.Lost.{lost}
-use Rattle.bundle_judge.proofs.LossLemmas.{told_last}
 use Rattle.bundle_judge.proofs.rollback.put_one.Goals as goal
 
 pub returns-clause-led : goal.returns-clause-led
@@ -26,11 +23,3 @@ returns-clause-back g c =
     ap (λ l. gone_back fits undone l t) (c.push_reserved.ensures.items ∙ ap (λ l. l ++ c.in_ok-trace.trace ∷ []) c.in_ok-reserve.ensures.items)
     ∙ rolled_back-last (led_back fits undone) (IsWayBack fits undone) c.args.traces.now.items c.in_ok-trace.trace t
     ∙ ap (gone_back fits undone c.args.traces.now.items) c.in_ok-trace.ensures.back
-
-pub returns-clause-cells : goal.returns-clause-cells
-returns-clause-cells g c =
-    let s = g.D.DocReader.document c.args.doc.now in
-    let a = c.args.action.now in
-    told_last c.args.traces.now.items c.push_reserved.new.self.items c.in_ok-trace.trace (lost s (apply s a) a)
-    (c.push_reserved.ensures.items ∙ ap (λ l. l ++ c.in_ok-trace.trace ∷ []) c.in_ok-reserve.ensures.items)
-    (c.in_ok-trace.ensures.cells ∙ ap (λ t. lost s t a) c.in_ok-trace.ensures.ok)

@@ -1,14 +1,18 @@
-use Rattle.std.proofs.Common.{◌≤◌, ◌∷◌, [], map, length, refl, sym, ap, subst, ◌∙◌, arith}
+use Rattle.std.proofs.Common.{◌≡◌, ◌+◌, ◌≤◌, List, ◌∷◌, [], map, take, length, refl, sym, ap, subst, ◌∙◌, arith}
+use Rattle.doc_model.specs.declared.action.Step.{Step}
 use Rattle.doc_model.specs.Document.{Document}
 use Rattle.recalc.specs.Evaluated.{filled}
 use Rattle.user_actions.specs.StepLaws.{action_of}
 use Rattle.bundle_judge.specs.CarriedContexts.{carried_context, renames}
+use Rattle.bundle_judge.specs.JudgedBundles.{after_steps}
+use Rattle.bundle_judge.specs.Losses.{AreTold}
 use Rattle.bundle_judge.specs.Undo.{stale_at}
 use Rattle.bundle_judge.specs.UndoneSteps.{MayGoOn}
 use Rattle.bundle_judge.proofs.CarriedLemmas.{none_at}
 use Rattle.bundle_judge.proofs.ChangedLemmas.{outside_then, within_itself}
 use Rattle.bundle_judge.proofs.StepLemmas.{one_within}
-use Rattle.bundle_judge.proofs.UndoneLemmas.{undo_ends, undo_next, undo_refused}
+use Rattle.bundle_judge.proofs.UndoneLemmas.{all_taken, take_next, undo_ends, undo_next, undo_refused}
+use Rattle.bundle_judge.proofs.ToldLemmas.{told_then}
 use Rattle.bundle_judge.proofs.undoing.judge_each.Goals as goal
 
 pub returns-in-Err-clause-judged : goal.returns-in-Err-clause-judged
@@ -43,6 +47,8 @@ loop-index-preserved g c =
       more.led,
       more.back ∙ l.invariant.4,
       more.kept ∙ l.invariant.5,
+      told_then start s (take l.index xs) (x ∷ []) (take (l.index + 1) xs) c.args.trail.now.traces.items l.trail.traces.items c.do_checked.new.trail.traces.items c.args.trail.now.inverse l.trail.inverse c.do_checked.new.trail.inverse
+          l.invariant.6 l.invariant.0.done_so_far more.told (sym (take_next xs l.index x c.loop-index-test.true c.index-steps-index.is)),
     )
 
 pub returns-clause-judged : goal.returns-clause-judged
@@ -50,3 +56,16 @@ returns-clause-judged g c =
     let l = c.loop-index in
     let le : length c.args.steps.now ≤ l.index = omega (arith, c.loop-index-test.false) in
     undo_ends (carried_context c.args.carried.now) (g.D.DocReader.document c.args.doc.now) c.args.steps.now l.index (carried_context l.carried) (g.D.DocReader.document l.doc) l.tally l.invariant.0 _ c.args.number le refl c.in_ok-copy_of.ensures c.new.ensures.items refl l.invariant.1
+
+pub returns-clause-told : goal.returns-clause-told
+returns-clause-told g c =
+    let l = c.loop-index in
+    let start = g.D.DocReader.document c.args.doc.now in
+    let xs = c.args.steps.now in
+    let le : length xs ≤ l.index = omega (arith, c.loop-index-test.false) in
+    let same : take l.index xs ≡ c.in_ok-copy_of.field-0 = all_taken xs l.index le ∙ sym c.in_ok-copy_of.ensures in
+    let T : List Step → Type 0 = λ ys. AreTold start ys c.args.trail.now.traces.items l.trail.traces.items c.args.trail.now.inverse l.trail.inverse in
+    record {
+      document = l.invariant.0.done_so_far ∙ ap (after_steps start) same;
+      told = subst T same l.invariant.6;
+    }

@@ -1,7 +1,7 @@
 use Rattle.std.proofs.Common.{take}
 use Rattle.context_changes.specs.Known.{AreKnown}
 use Rattle.bundle_core.specs.Followed.{AreAllKnown}
-use Rattle.bundle_core.proofs.bundle.know_all.Given as goal
+use Rattle.bundle_core.proofs.bundle.place_all.Given as goal
 
 abbrev pub invariant-loop-session : goal.invariant-loop-session
 invariant-loop-session g l = record {

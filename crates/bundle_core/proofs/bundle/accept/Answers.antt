@@ -4,13 +4,14 @@ use Rattle.undo_bundles.specs.BundleLog.{Log}
 use Rattle.bundle_core.specs.declared.session.BundleNote.{BundleNote}
 use Rattle.bundle_core.specs.Dispatch.{Posts, Stays, bundle_reply}
 use Rattle.bundle_judge.specs.JudgedBundles.{after_steps, told_changes}
+use Rattle.bundle_judge.specs.Rollback.{gone_back}
 use Rattle.bundle_core.specs.Noting.{MayBeUndone}
 use Rattle.bundle_core.proofs.Readied.{all_may_post, few_bundles, same_log}
-use Rattle.bundle_core.proofs.bundle.accept_known.Goals as goal
+use Rattle.bundle_core.proofs.bundle.accept.Goals as goal
 
 pub post-requires-clause-may : goal.post-requires-clause-may
 post-requires-clause-may g c =
-    all_may_post (told_changes (g.D.DocReader.document c.args.doc.now) (map action_of c.args.plan.now.steps)) c.args.sessions.now.items c.ready_to_keep.new.sessions.items c.in-Ok.ensures.same c.requires.few c.in-Ok.ensures.ready
+    all_may_post (told_changes (gone_back g.D.DocTables.fits g.D.DocTables.undone c.args.trail.traces.items (g.D.DocReader.document c.args.doc.now)) (map action_of c.args.plan.now.steps)) c.args.sessions.now.items c.ready_to_keep.new.sessions.items c.in-Ok.ensures.same c.requires.few c.in-Ok.ensures.ready
 
 pub post-requires-clause-few_bundles : goal.post-requires-clause-few_bundles
 post-requires-clause-few_bundles g c = few_bundles c.args.sessions.now.items c.ready_to_keep.new.sessions.items c.in-Ok.ensures.same c.requires.few_bundles
@@ -25,7 +26,7 @@ post-requires-clause-own g c =
 
 pub returns-in-Ok-keep-clause-ok : goal.returns-in-Ok-keep-clause-ok
 returns-in-Ok-keep-clause-ok g c =
-    let s = g.D.DocReader.document c.args.doc.now in
+    let s = gone_back g.D.DocTables.fits g.D.DocTables.undone c.args.trail.traces.items (g.D.DocReader.document c.args.doc.now) in
     let old = c.ready_to_keep.new.sessions.items in
     let new = c.post.new.sessions.items in
     let r = c.in-Ok.ready.bundle in

@@ -1,0 +1,176 @@
+//! Plan: ten thousand random changes, each done, taken back and done again; after each of these the
+//! document tells of each cell what one tells that was started over the same tables
+//! (`cells_are_as_from_the_start`). Out of memory counts as false.
+
+ghost use Rattle.std.specs.Prelude.{◌≡◌};
+ghost use Rattle.doc_model.specs.Document.{Document};
+ghost use Rattle.doc_model.specs.DocumentLaws.{IsWhole};
+
+use crate::changes::{change, opening};
+use crate::draws::Draws;
+use cell_types::{Name, Same};
+use doc_model::laws::new_document_law;
+use doc_model::{ColDef, DocAction, DocReader};
+use evaluated_doc::{ChangeFault, Doc};
+use row_tables::RowTables;
+use std::alloc::{AllocError, Global};
+
+const CHANGES: u32 = 10_000;
+
+// More than the document ever has.
+const MOST_TABLES: usize = 6;
+
+const MOST_COLUMNS: usize = 16;
+
+// Whether both tell the same of the column in these rows.
+fn is_column_same<L: DocReader, R: DocReader>(
+    left: &L,
+    right: &R,
+    table: &Name,
+    column: &ColDef,
+    rows: &[u32],
+) -> bool {
+    rows.iter().all(|row| {
+        match (
+            left.cell(table, &column.id, *row),
+            right.cell(table, &column.id, *row),
+        ) {
+            (Some(one), Some(other)) => one.same_as(other),
+            _ => false,
+        }
+    })
+}
+
+// Whether both have the column at that index of the table or neither, and tell the same of it in
+// these rows.
+fn is_same_at<L: DocReader, R: DocReader>(
+    left: &L,
+    right: &R,
+    table: &Name,
+    index: usize,
+    rows: &[u32],
+) -> bool {
+    match (left.column(table, index), right.column(table, index)) {
+        (Some(column), Some(_)) => is_column_same(left, right, table, column, rows),
+        (None, None) => true,
+        _ => false,
+    }
+}
+
+// Whether both tell the same of the first columns of the table.
+fn is_table_same<L: DocReader, R: DocReader>(left: &L, right: &R, table: &Name) -> bool {
+    match (left.rows(table), right.rows(table)) {
+        (Some(rows), Some(others)) => {
+            rows == others
+                && (0..MOST_COLUMNS).all(|index| is_same_at(left, right, table, index, rows))
+        }
+        _ => false,
+    }
+}
+
+// Whether both tell the same of each cell of the first tables.
+fn are_same<L: DocReader, R: DocReader>(left: &L, right: &R) -> bool {
+    (0..MOST_TABLES).all(|index| match (left.table(index), right.table(index)) {
+        (Some(table), Some(_)) => is_table_same(left, right, table),
+        (None, None) => true,
+        _ => false,
+    })
+}
+
+fn started(alloc: Global, tables: &RowTables) -> Result<Doc<RowTables>, AllocError>
+    requires { IsWhole tables.now }
+{
+    let copy = tables.copy(alloc)?;
+    Doc::start(alloc, copy)
+}
+
+// Whether the document tells what one tells that is started over its tables.
+fn is_as_started(alloc: Global, doc: &Doc<RowTables>) -> bool {
+    match started(alloc, doc.tables()) {
+        Ok(fresh) => are_same(doc, &fresh),
+        Err(_) => false,
+    }
+}
+
+// Whether the action was done; nothing where memory is wanting or a cell is not as it has to be,
+// after the action, after it was taken back, and after it was done again.
+fn play(alloc: Global, doc: &mut Doc<RowTables>, action: &DocAction) -> Option<bool> {
+    match doc.change(alloc, action) {
+        Ok(trace) => {
+            let is_right = is_as_started(alloc, &*doc);
+            doc.go_back(trace);
+            if is_right && is_as_started(alloc, &*doc) && is_done(alloc, doc, action) {
+                Some(true)
+            } else {
+                None
+            }
+        }
+        Err(ChangeFault::Invalid) => Some(false),
+        Err(ChangeFault::NoMemory) => None,
+    }
+}
+
+// Whether the action was done, and the document is then as it has to be.
+fn is_done(alloc: Global, doc: &mut Doc<RowTables>, action: &DocAction) -> bool {
+    match doc.change(alloc, action) {
+        Ok(trace) => {
+            drop(trace);
+            is_as_started(alloc, &*doc)
+        }
+        Err(_) => false,
+    }
+}
+
+fn play_next(alloc: Global, doc: &mut Doc<RowTables>, draws: &mut Draws) -> Option<bool> {
+    match change(alloc, draws) {
+        Ok(action) => play(alloc, doc, &action),
+        Err(_) => None,
+    }
+}
+
+fn is_opened(alloc: Global, doc: &mut Doc<RowTables>) -> bool {
+    (0..10).all(|number| match opening(alloc, number) {
+        Ok(action) => is_done(alloc, doc, &action),
+        Err(_) => false,
+    })
+}
+
+// How many changes were done, of so many that were drawn, until there were enough; none where one
+// went wrong.
+fn played(alloc: Global, doc: &mut Doc<RowTables>, drawn: u32) -> Option<u32> {
+    let mut draws = Draws::new(1);
+    let mut done = 0u32;
+    for _turn in 0..drawn {
+        if done < CHANGES && play_next(alloc, doc, &mut draws)? {
+            done = done.saturating_add(1);
+        }
+    }
+    Some(done)
+}
+
+fn new_doc(alloc: Global) -> Result<Doc<RowTables>, AllocError> {
+    new_document_law();
+    let tables = RowTables::new_document(alloc)?;
+    Doc::start(alloc, tables)
+}
+
+// How many changes were done; none where one went wrong.
+fn played_from_new(alloc: Global) -> Option<u32> {
+    match new_doc(alloc) {
+        Ok(mut doc) => {
+            if is_opened(alloc, &mut doc) {
+                played(alloc, &mut doc, 4 * CHANGES)
+            } else {
+                None
+            }
+        }
+        Err(_) => None,
+    }
+}
+
+#[test]
+fn cells_are_as_from_the_start(rt: HostRuntime) {
+    let done = played_from_new(rt.alloc());
+    assert!(rt; done.is_some());
+    assert!(rt; done == Some(CHANGES));
+}

@@ -14,10 +14,10 @@ The time of the formula's cells is that of the script with the column less that 
 has the reply and the stream line with all cells in it. Each script is run three times, and the least time
 counts. The memory is that of the peaks, in the same way. The last cell is compared with what it has to be.
 
-One evaluation of a chain is half of that, since a bundle is evaluated as it is judged and as it is done: at
-most, with half of the printing in it; at least, without the printing and the reading of as many numbers,
-which a data column with the same values tells. Where rustc is there, both are compared with what
-tools/boxed_chain.rs takes in the same run for the same additions over boxed values.
+One evaluation of a chain is that, since a bundle of records is evaluated once: at most, with the printing in it;
+at least, without the printing and the reading of as many numbers, which a data column with the same values
+tells. Where rustc is there, both are compared with what tools/boxed_chain.rs takes in the same run for the same
+additions over boxed values.
 """
 import json
 import os
@@ -114,7 +114,7 @@ def boxed(count):
 
 def show_evaluation(count, seconds, values):
     """What one evaluation takes, beside the boxed program."""
-    most, least = seconds / 2, (seconds - values) / 2
+    most, least = seconds, seconds - values
     print(f"one evaluation of {count} rows: {1e6 * least / count:.2f} to {1e6 * most / count:.2f} microseconds a cell")
     plain = boxed(count)
     if plain:

@@ -34,8 +34,6 @@ use Rattle.rule_contexts.specs.Context.{carry_all, context, view_in}
 use Rattle.bundle_judge.specs.Denials.{denial_of, or_else}
 use Rattle.bundle_judge.specs.JudgedBundles.{IsBundlePlan, IsJudgedBundle, after_steps}
 use Rattle.bundle_judge.specs.JudgedActions.{IsAt, IsActionPlan}
-use Rattle.recalc.specs.Evaluated.{filled}
-use Rattle.view_parts.specs.PartLaws.{AreSameOutside}
 use Rattle.bundle_judge.proofs.RollbackLemmas.{nothing_left}
 
 -- what holds of each holds of the one at an index
@@ -166,15 +164,14 @@ module _ (x : Ctx) (start : Document) (requested : List UserAction) where
     tally_then = let P : Document → Type 0 = λ t. IsTally t tally in subst P next_done h.may.counts
 
     -- the plan of the bundle
-    pub planned : (p : BundlePlan) → length requested ≤ i → p.undone ≡ None → p.steps ≡ done ++ next → p.created.items ≡ created → p.tally ≡ tally → AreSameOutside (map action_of p.steps) p.changed.items (filled start) (filled (after_steps start p.steps)) → IsBundlePlan (judge_from x start 0 requested) None start p
-    planned p le none same ms t outside =
+    pub planned : (p : BundlePlan) → length requested ≤ i → p.undone ≡ None → p.steps ≡ done ++ next → p.created.items ≡ created → p.tally ≡ tally → IsBundlePlan (judge_from x start 0 requested) None start p
+    planned p le none same ms t =
         let P : List Step → Type 0 = λ l. IsTally (after_steps start l) tally in
         let Q : Tally → Type 0 = λ u. IsTally (after_steps start p.steps) u in
         record {
           undoes = none;
           judged = judged_all le ∙ ap (λ l. accepted (after_steps start l) l created) (sym same) ∙ ap (accepted (after_steps start p.steps) p.steps) (sym ms);
           may = record { valid = ap (λ l. all_valid start (map action_of l)) same ∙ next_valid; counts = subst Q (sym t) (subst P (sym same) tally_then) };
-          outside = outside;
         }
 
   module _ (i : ℕ) (y : Ctx) (s : Document) (done : List Step) (created : List Created) (tally : Tally) (a : UserAction) (rest : List UserAction) (h : IsAt x start requested i y s done [] created tally) (e : drop i requested ≡ a ∷ rest) where

@@ -1,5 +1,4 @@
 pub mod CreatedLemmas
-pub mod ChangedLemmas
 pub mod CarriedLemmas
 pub mod CheckLemmas
 pub mod JudgmentLemmas

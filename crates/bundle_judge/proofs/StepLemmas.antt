@@ -1,30 +1,12 @@
 -- Steps one after another, by their actions.
 use Rattle.std.proofs.Common.{◌≡◌, ℕ, suc, zero, ◌+◌, ◌<◌, Bool, List, [], ◌∷◌, ◌++◌, map, drop, length, get_or, refl, sym, ap, ◌∙◌, arith}
-use Rattle.std.proofs.lemmas.List.{map-append}
-use Rattle.std.specs.List.{list_any}
 use Rattle.doc_model.specs.declared.action.DocAction.{DocAction}
 use Rattle.doc_model.specs.declared.action.Step.{Step}
-use Rattle.doc_model.proofs.Choices.{length_map}
 use Rattle.user_actions.specs.StepLaws.{action_of}
 use Rattle.bundle_judge.specs.SplitSteps.{joined}
-use Rattle.bundle_judge.proofs.ChangedLemmas.{Within, within_at, within_back, within_front}
 use Rattle.bundle_judge.proofs.RollbackLemmas.{left_at}
 
 -- ---- actions of steps
-
-pub front_within : (xs ys : List Step) → Within (map action_of xs) (map action_of (xs ++ ys))
-front_within xs ys p h = within_front (map action_of xs) (map action_of ys) p (ap (list_any p) (sym (map-append action_of xs ys)) ∙ h)
-
-pub back_within : (xs ys : List Step) → Within (map action_of ys) (map action_of (xs ++ ys))
-back_within xs ys p h = within_back (map action_of xs) (map action_of ys) p (ap (list_any p) (sym (map-append action_of xs ys)) ∙ h)
-
-action_at : (xs : List Step) (i : ℕ) (x : Step) → i < length xs → x ≡ get_or xs i x → x.action ≡ get_or (map action_of xs) i x.action
-action_at [] i x lt is = absurd (omega (arith, lt))
-action_at (y ∷ xs) zero x lt is = ap action_of is
-action_at (y ∷ xs) (suc i) x lt is = action_at xs i x (omega (arith, lt)) is
-
-pub one_within : (xs : List Step) (i : ℕ) (x : Step) → i < length xs → x ≡ get_or xs i x → Within (x.action ∷ []) (map action_of xs)
-one_within xs i x lt is = within_at (map action_of xs) i x.action (omega (arith, lt, length_map action_of xs)) (action_at xs i x lt is)
 
 pub drop_actions : (i : ℕ) (xs : List Step) → drop i (map action_of xs) ≡ map action_of (drop i xs)
 drop_actions zero xs = refl
@@ -53,9 +35,3 @@ pub joined_length : (as' : List DocAction) (marks : List Bool) → length as' �
 joined_length [] marks e = refl
 joined_length (a ∷ as') [] e = absurd (omega (arith, e))
 joined_length (a ∷ as') (d ∷ marks) e = ap (λ n. suc n) (joined_length as' marks (omega (arith, e)))
-
-pub joined_mark : (as' : List DocAction) (marks : List Bool) (i : ℕ) (d : Step) (m : Bool) → length as' ≡ length marks → i < length as' → (get_or (joined as' marks) i d).direct ≡ get_or marks i m
-joined_mark [] marks i d m e lt = absurd (omega (arith, lt))
-joined_mark (a ∷ as') [] i d m e lt = absurd (omega (arith, e))
-joined_mark (a ∷ as') (k ∷ marks) zero d m e lt = refl
-joined_mark (a ∷ as') (k ∷ marks) (suc i) d m e lt = joined_mark as' marks i d m (omega (arith, e)) (omega (arith, lt))

@@ -8,9 +8,7 @@ use Rattle.doc_model.specs.Valid.{valid}
 use Rattle.acl_rules.specs.declared.decision.Ctx.{Ctx}
 use Rattle.action_limits.specs.declared.tally.Tally.{Tally}
 use Rattle.action_limits.specs.Tallies.{IsTally}
-use Rattle.recalc.specs.Evaluated.{filled}
 use Rattle.user_actions.specs.StepLaws.{action_of}
-use Rattle.view_parts.specs.PartLaws.{AreSameOutside}
 use Rattle.bundle_judge.specs.declared.bare_verdict.BareVerdict.{BareVerdict}
 use Rattle.bundle_judge.specs.declared.judging.BundlePlan.{BundlePlan}
 use Rattle.rule_contexts.specs.Context.{carry}
@@ -41,14 +39,11 @@ module _ (rules : Ctx) (start : Document) (xs : List Step) where
 
   module _ (i : ℕ) (now : Ctx) (s : Document) (tally : Tally) (h : IsUndoAt rules start xs i now s tally) where
     -- all are judged, and the undo is accepted
-    pub undo_ends : (p : BundlePlan) (number : ℕ) → length xs ≤ i → p.undone ≡ Some number → p.steps ≡ xs → p.created.items ≡ [] → p.tally ≡ tally
-        → AreSameOutside (map action_of xs) p.changed.items (filled start) (filled s) → IsBundlePlan (judge_undo rules start 0 xs) (Some number) start p
-    undo_ends p number le undone same none t outside =
+    pub undo_ends : (p : BundlePlan) (number : ℕ) → length xs ≤ i → p.undone ≡ Some number → p.steps ≡ xs → p.created.items ≡ [] → p.tally ≡ tally → IsBundlePlan (judge_undo rules start 0 xs) (Some number) start p
+    undo_ends p number le undone same none t =
         let left : drop i xs ≡ [] = nothing_left i xs le in
         let all : take i xs ≡ xs = all_taken xs i le in
         let after : s ≡ after_steps start xs = h.done_so_far ∙ ap (after_steps start) all in
-        let A : List Step → Type 0 = λ l. AreSameOutside (map action_of l) p.changed.items (filled start) (filled (after_steps start l)) in
-        let S : Document → Type 0 = λ u. AreSameOutside (map action_of xs) p.changed.items (filled start) (filled u) in
         let C : List Step → Type 0 = λ l. IsTally (after_steps start l) p.tally in
         let D : Document → Type 0 = λ u. IsTally u p.tally in
         let T : Tally → Type 0 = λ u. IsTally s u in
@@ -64,7 +59,6 @@ module _ (rules : Ctx) (start : Document) (xs : List Step) where
             valid = ap (λ l. all_valid start (map action_of l)) (same ∙ sym all) ∙ h.valid;
             counts = subst C (sym same) (subst D after (subst T (sym t) h.counts));
           };
-          outside = subst A (sym same) (subst S after outside);
         }
 
     module _ (x : Step) (lt : i < length xs) (is : x ≡ get_or xs i x) where

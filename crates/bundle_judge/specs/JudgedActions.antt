@@ -18,9 +18,6 @@ use Rattle.bundle_judge.specs.Judgement.{judge_from, created_at, opposed_at, ref
 use Rattle.bundle_judge.specs.JudgedBundles.{MayBeDone, after_steps}
 use Rattle.bundle_judge.specs.Losses.{AreTold}
 use Rattle.evaluated_doc.specs.WayBack.{Changed}
-use Rattle.recalc.specs.Evaluated.{filled}
-use Rattle.view_parts.specs.declared.changed.ChangedRows.{ChangedRows}
-use Rattle.view_parts.specs.PartLaws.{AreSameOutside}
 
 -- nothing but a rule stands against the action at that index: its steps and what it created
 pub record IsActionPlan (x : Ctx) (s : Document) (i : ℕ) (a : UserAction)
@@ -37,23 +34,22 @@ IsJudgedAction x s i a (judged.Refused v) = opposed_at x s i a ≡ Some v
 
 -- these steps are done, and no rule denied one of them
 pub record AreLetDone (x : Ctx) (s : Document) (i : ℕ) (steps : List Step) (y : Ctx)
-    (t : Document) (changed : List ChangedRows) : Type 0 where
+    (t : Document) : Type 0 where
   pub undenied : denial_of x s i steps ≡ None
   pub carried : y ≡ carry_all steps x
   pub done : t ≡ after_steps s steps
-  pub outside : AreSameOutside (map action_of steps) changed (filled s) (filled t)
 
 -- nothing stands against the action at that index, and its steps are done
 pub record IsDonePlan (x : Ctx) (s : Document) (i : ℕ) (a : UserAction) (y : Ctx) (t : Document)
-    (changed : List ChangedRows) (n : ActionPlan) : Type 0 where
+    (n : ActionPlan) : Type 0 where
   pub plan : IsActionPlan x s i a n
-  pub done : AreLetDone x s i n.steps y t changed
+  pub done : AreLetDone x s i n.steps y t
 
 -- what the action at that index comes to, where it is done
-abbrev pub IsDoneAction : Ctx → Document → ℕ → UserAction → Ctx → Document → List ChangedRows
-    → JudgedAction → Type 0
-IsDoneAction x s i a y t changed (judged.Accepted n) = IsDonePlan x s i a y t changed n
-IsDoneAction x s i a y t changed (judged.Refused v) = refusal_at x s i a ≡ Some v
+abbrev pub IsDoneAction : Ctx → Document → ℕ → UserAction → Ctx → Document → JudgedAction
+    → Type 0
+IsDoneAction x s i a y t (judged.Accepted n) = IsDonePlan x s i a y t n
+IsDoneAction x s i a y t (judged.Refused v) = refusal_at x s i a ≡ Some v
 
 -- the steps of an accepted action are told
 abbrev pub IsToldAction : {B : Type 0} → Document → List (Changed B) → List (Changed B) → List Step

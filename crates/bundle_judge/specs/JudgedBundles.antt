@@ -17,8 +17,6 @@ use Rattle.bundle_judge.specs.Losses.{AreTold}
 use Rattle.evaluated_doc.specs.WayBack.{Changed}
 use Rattle.user_actions.specs.StepLaws.{action_of}
 use Rattle.rule_contexts.specs.Context.{view}
-use Rattle.recalc.specs.Evaluated.{filled}
-use Rattle.view_parts.specs.PartLaws.{AreSameOutside}
 
 -- actions that may be done, and the tally of the document after them
 pub record MayBeDone (s : Document) (actions : List DocAction) (tally : Tally) : Type 0 where
@@ -30,14 +28,12 @@ abbrev pub after_steps : Document → List Step → Document
 after_steps s steps = apply_all s (map action_of steps)
 
 -- the judgement, of a bundle or of the undo of one, accepts with these steps and what they make of
--- the document, which stays the same outside of what they and the changed cells are about
+-- the document
 pub record IsBundlePlan (judgement : Judgement) (undone : Option ℕ) (s : Document)
     (p : BundlePlan) : Type 0 where
   pub undoes : p.undone ≡ undone
   pub judged : judgement ≡ accepted (after_steps s p.steps) p.steps p.created.items
   pub may : MayBeDone s (map action_of p.steps) p.tally
-  pub outside : AreSameOutside (map action_of p.steps) p.changed.items (filled s)
-      (filled (after_steps s p.steps))
 
 -- what a judgement comes to
 abbrev pub IsJudgedBundle : Judgement → Option ℕ → Document → JudgedBundle → Type 0

@@ -7,7 +7,6 @@ pub mod JudgedBundles
 pub mod JudgedActions
 pub mod Rollback
 pub mod Losses
-pub mod ChangedCells
 pub mod SplitSteps
 pub mod Undo
 pub mod UndoneSteps

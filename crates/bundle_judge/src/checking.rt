@@ -8,9 +8,7 @@ ghost use Rattle.user_actions.specs.StepLaws.{action_of};
 ghost use Rattle.acl_checks.specs.BeforeStep.{row_of};
 ghost use Rattle.acl_checks.specs.Unchecked.{are_unchecked};
 ghost use Rattle.recalc.specs.Evaluated.{filled};
-ghost use Rattle.view_parts.specs.PartLaws.{AreSameOutside};
 ghost use Rattle.bundle_judge.specs.CarriedContexts.{MayCarry, carried_context, is_kept, renames};
-ghost use Rattle.bundle_judge.specs.ChangedCells.{StayNoted};
 ghost use Rattle.rule_contexts.specs.Context.{carry};
 ghost use Rattle.bundle_judge.specs.Denials.{denial_at, denial_of, denied_by, denying_row};
 ghost use Rattle.bundle_judge.specs.JudgedActions.{AreLetDone};
@@ -26,7 +24,6 @@ use acl_rules::{Ctx, RuleId, rule_ref};
 use doc_model::{DocTables, Step};
 use evaluated_doc::Doc;
 use std::alloc::{AllocError, Global};
-use view_parts::ChangedRows;
 
 // The denial of the action at that index by a rule, where one denies it.
 fn denied_by(
@@ -60,7 +57,6 @@ fn do_between<D: DocTables>(
     ctx: &Ctx,
     step: &Step,
     trail: &mut Trail<D>,
-    changed: &mut Vec<ChangedRows>,
 ) -> Result<Option<RuleId>, AllocError>
     requires whole { IsWhole (D.document doc.old) }
     requires valid { valid (D.document doc.old) step.now.action ≡ true }
@@ -74,17 +70,14 @@ fn do_between<D: DocTables>(
         ≡ gone_back D.fits D.undone trail.old.traces.items (D.document doc.old) }
     ensures told { OnOk result (AreTold (D.document doc.old) (step.now ∷ [])
         trail.old.traces.items trail.new.traces.items trail.old.inverse trail.new.inverse) }
-    ensures outside { OnOk result (AreSameOutside (step.now.action ∷ []) changed.new.items
-        (filled (D.document doc.old)) (filled (D.document doc.new))) }
-    ensures stays { OnOk result (StayNoted changed.old.items changed.new.items) }
 {
     unchecked_law();
     if is_checked(ctx, step) {
         let before = before_step(alloc, ctx, doc, &step.action)?;
-        do_one(alloc, doc, step, trail, changed)?;
+        do_one(alloc, doc, step, trail)?;
         return Ok(after_step(ctx, &before, doc, &step.action));
     }
-    do_one(alloc, doc, step, trail, changed)?;
+    do_one(alloc, doc, step, trail)?;
     Ok(None)
 }
 
@@ -97,7 +90,6 @@ pub fn do_checked<D: DocTables>(
     index: u32,
     step: &Step,
     trail: &mut Trail<D>,
-    changed: &mut Vec<ChangedRows>,
 ) -> Result<Option<BareVerdict>, AllocError>
     requires whole { IsWhole (D.document doc.old) }
     requires valid { valid (D.document doc.old) step.now.action ≡ true }
@@ -115,11 +107,8 @@ pub fn do_checked<D: DocTables>(
         ≡ gone_back D.fits D.undone trail.old.traces.items (D.document doc.old) }
     ensures told { OnOk result (AreTold (D.document doc.old) (step.now ∷ [])
         trail.old.traces.items trail.new.traces.items trail.old.inverse trail.new.inverse) }
-    ensures outside { OnOk result (AreSameOutside (step.now.action ∷ []) changed.new.items
-        (filled (D.document doc.old)) (filled (D.document doc.new))) }
-    ensures stays { OnOk result (StayNoted changed.old.items changed.new.items) }
 {
-    let rule = do_between(alloc, doc, carried.context(), step, trail, changed)?;
+    let rule = do_between(alloc, doc, carried.context(), step, trail)?;
     let denial = denied_by(alloc, carried.context(), index, rule)?;
     match carried.carry(alloc, &step.action) {
         Ok(()) => Ok(denial),
@@ -139,7 +128,6 @@ pub fn do_all_checked<D: DocTables>(
     index: u32,
     steps: &[Step],
     trail: &mut Trail<D>,
-    changed: &mut Vec<ChangedRows>,
 ) -> Result<Option<BareVerdict>, AllocError>
     requires whole { IsWhole (D.document doc.old) }
     requires valid { all_valid (D.document doc.old) (map action_of steps.now) ≡ true }
@@ -147,7 +135,7 @@ pub fn do_all_checked<D: DocTables>(
     requires may_carry { MayCarry carried.old steps.now }
     ensures ok { IfOk result (λ o. MatchOption o
         (AreLetDone (carried_context carried.old) (D.document doc.old) index steps.now
-        (carried_context carried.new) (D.document doc.new) changed.new.items)
+        (carried_context carried.new) (D.document doc.new))
         (λ v. denial_of (carried_context carried.old) (D.document doc.old) index steps.now
         ≡ Some v)) }
     ensures kept { OnOk result (is_kept carried.new ≡ is_kept carried.old) }
@@ -156,10 +144,9 @@ pub fn do_all_checked<D: DocTables>(
         ≡ gone_back D.fits D.undone trail.old.traces.items (D.document doc.old) }
     ensures told { IfOk result (λ o. o ≡ None → AreTold (D.document doc.old) steps.now
         trail.old.traces.items trail.new.traces.items trail.old.inverse trail.new.inverse) }
-    ensures stays { OnOk result (StayNoted changed.old.items changed.new.items) }
 {
     for step in steps {
-        match do_checked(alloc, doc, carried, index, step, trail, changed)? {
+        match do_checked(alloc, doc, carried, index, step, trail)? {
             Some(denial) => return Ok(Some(denial)),
             None => {}
         }

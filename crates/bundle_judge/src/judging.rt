@@ -12,7 +12,6 @@ ghost use Rattle.doc_model.specs.WellFormed.{is_well_formed};
 ghost use Rattle.bundle_judge.specs.declared.bare_verdict.BareVerdict.TheVariants.{Limited, Refused};
 ghost use Rattle.bundle_judge.specs.Judgement.{judge, judge_from, limited};
 ghost use Rattle.bundle_judge.specs.CarriedContexts.{MayCarryAll, asks_rename, carried_context, is_kept};
-ghost use Rattle.bundle_judge.specs.ChangedCells.{StayNoted};
 ghost use Rattle.bundle_judge.specs.Created.{created_of};
 ghost use Rattle.bundle_judge.specs.JudgedBundles.{IsDoneBundle, IsJudgedBundle, IsToldBundle};
 ghost use Rattle.bundle_judge.specs.JudgedActions.{IsDoneAction, IsJudgedAction, IsToldAction};
@@ -35,15 +34,14 @@ use evaluated_doc::Doc;
 use rule_contexts::seen_law;
 use std::alloc::{AllocError, Global};
 use user_actions::refuse;
-use view_parts::{ChangedRows, requested_law};
+use view_parts::requested_law;
 use view_refusals::asked_of;
 
-/// A bundle that is accepted: its steps, the rows in which they changed cells, what its user
-/// actions created, which bundle it undoes, and the tally of the document after it.
+/// A bundle that is accepted: its steps, what its user actions created, which bundle it undoes, and
+/// the tally of the document after it.
 #[derive(Drop)]
 pub struct BundlePlan {
     pub steps: SplitSteps,
-    pub changed: Vec<ChangedRows>,
     pub created: Vec<Created>,
     pub undone: Option<u64>,
     pub tally: Tally,
@@ -189,15 +187,14 @@ fn judge_unchecked<D: DocTables>(
     unchecked_law();
     let mut tally = tally;
     let mut steps = Vec::new(alloc);
-    let mut changed = Vec::new(alloc);
     let mut created = Vec::new(alloc);
     let mut next = Vec::new(alloc);
     for index in 0..requested.len() {
-        do_all(alloc, doc, &next, trail, &mut changed)?;
+        do_all(alloc, doc, &next, trail)?;
         steps.append(&mut next)?;
         match judge_action(alloc, doc, tally, ctx, &requested[index], index as u32)? {
             JudgedAction::Refused(verdict) => {
-                drop((steps, changed, created, next));
+                drop((steps, created, next));
                 return Ok(JudgedBundle::Refused(verdict));
             }
             JudgedAction::Accepted(plan) => {
@@ -207,11 +204,10 @@ fn judge_unchecked<D: DocTables>(
             }
         }
     }
-    do_all(alloc, doc, &next, trail, &mut changed)?;
+    do_all(alloc, doc, &next, trail)?;
     steps.append(&mut next)?;
     Ok(JudgedBundle::Accepted(BundlePlan {
         steps: SplitSteps::of(alloc, steps)?,
-        changed,
         created,
         undone: None,
         tally,
@@ -227,7 +223,6 @@ fn judge_and_do<D: DocTables>(
     action: &UserAction,
     index: u32,
     trail: &mut Trail<D>,
-    changed: &mut Vec<ChangedRows>,
 ) -> Result<JudgedAction, AllocError>
     requires whole { IsWhole (D.document doc.old) }
     requires well_formed { is_well_formed action.now ≡ true }
@@ -236,21 +231,20 @@ fn judge_and_do<D: DocTables>(
     requires may_carry { is_kept carried.old ≡ true → asks_rename action.now ≡ false }
     ensures judged { IfOk result (λ r. IsDoneAction (carried_context carried.old)
         (D.document doc.old) index action.now (carried_context carried.new) (D.document doc.new)
-        changed.new.items r) }
+        r) }
     ensures kept { OnOk result (is_kept carried.new ≡ is_kept carried.old) }
     ensures led { AllLeadBack D.fits D.undone trail.new.traces.items (D.document doc.new) }
     ensures back { gone_back D.fits D.undone trail.new.traces.items (D.document doc.new)
         ≡ gone_back D.fits D.undone trail.old.traces.items (D.document doc.old) }
     ensures told { IfOk result (IsToldAction (D.document doc.old)
         trail.old.traces.items trail.new.traces.items trail.old.inverse trail.new.inverse) }
-    ensures stays { OnOk result (StayNoted changed.old.items changed.new.items) }
 {
     let plan = match judge_action(alloc, doc, tally, carried.context(), action, index)? {
         JudgedAction::Refused(verdict) => return Ok(JudgedAction::Refused(verdict)),
         JudgedAction::Accepted(plan) => plan,
     };
     let steps = plan.steps.as_slice();
-    match do_all_checked(alloc, doc, carried, index, steps, trail, changed) {
+    match do_all_checked(alloc, doc, carried, index, steps, trail) {
         Ok(None) => Ok(JudgedAction::Accepted(plan)),
         Ok(Some(denial)) => {
             drop(plan);
@@ -289,22 +283,12 @@ fn judge_checked<D: DocTables>(
 {
     let mut tally = tally;
     let mut steps = Vec::new(alloc);
-    let mut changed = Vec::new(alloc);
     let mut created = Vec::new(alloc);
     for index in 0..requested.len() {
         let action = &requested[index];
-        match judge_and_do(
-            alloc,
-            doc,
-            tally,
-            carried,
-            action,
-            index as u32,
-            trail,
-            &mut changed,
-        )? {
+        match judge_and_do(alloc, doc, tally, carried, action, index as u32, trail)? {
             JudgedAction::Refused(verdict) => {
-                drop((steps, changed, created));
+                drop((steps, created));
                 return Ok(JudgedBundle::Refused(verdict));
             }
             JudgedAction::Accepted(plan) => {
@@ -316,7 +300,6 @@ fn judge_checked<D: DocTables>(
     }
     Ok(JudgedBundle::Accepted(BundlePlan {
         steps: SplitSteps::of(alloc, steps)?,
-        changed,
         created,
         undone: None,
         tally,

@@ -7,8 +7,8 @@
 //!
 //! Promises: `judge` and `judge_own_undo` answer what specs/Judgement.antt and specs/Undo.antt say
 //! for every document, over plain lists: the first fault of the first action that has one, or the
-//! steps that the bundle comes to, the rows in which they changed cells, what its actions created,
-//! and the tally of the document after them. What is accepted stays done, with a trail: the trace
+//! steps that the bundle comes to, what its actions created, and the tally of the document after
+//! them. What is accepted stays done, with a trail: the trace
 //! of each step, and the inverse of all. Otherwise the document is as before. Each direct step is
 //! checked by the rules that stood at the bundle's start, and a denial names its rule.
 //! `go_back_all` goes back over the traces of a trail without memory, and `do_again` does the steps
@@ -22,7 +22,6 @@
 
 mod bare_verdict;
 mod carried_context;
-mod changed_rows;
 mod checking;
 mod created;
 mod judging;

@@ -5,20 +5,14 @@ ghost use Rattle.doc_model.specs.Apply.{all_valid, apply, apply_all};
 ghost use Rattle.doc_model.specs.DocumentLaws.{IsWhole};
 ghost use Rattle.doc_model.specs.Valid.{valid};
 ghost use Rattle.user_actions.specs.StepLaws.{action_of};
-ghost use Rattle.recalc.specs.Evaluated.{filled};
-ghost use Rattle.view_parts.specs.PartLaws.{AreSameOutside};
-ghost use Rattle.bundle_judge.specs.ChangedCells.{StayNoted};
 ghost use Rattle.bundle_judge.specs.JudgedBundles.{after_steps};
 ghost use Rattle.bundle_judge.specs.Losses.{AreTold};
 ghost use Rattle.bundle_judge.specs.Rollback.{AllLeadBack, gone_back};
 
-use crate::changed_rows::note_rows;
 use doc_model::{DocAction, DocTables, Step};
 use evaluated_doc::{Doc, Trace};
-use recalc::laws::outside_law;
 use std::alloc::{AllocError, Global};
 use undo_bundles::BundleInverse;
-use view_parts::ChangedRows;
 
 /// Steps that were done: the traces that lead back over them, and the steps that take them back.
 #[derive(Drop)]
@@ -42,14 +36,13 @@ impl<D: DocTables> Trail<D> {
     }
 }
 
-/// Does a valid step, and notes the trace that leads back behind what is there, the inverse of the
-/// step, and the rows in which cells changed.
+/// Does a valid step, and notes the trace that leads back behind what is there, and the inverse of
+/// the step.
 pub fn do_one<D: DocTables>(
     alloc: Global,
     doc: &mut Doc<D>,
     step: &Step,
     trail: &mut Trail<D>,
-    changed: &mut Vec<ChangedRows>,
 ) -> Result<(), AllocError>
     requires whole { IsWhole (D.document doc.old) }
     requires valid { valid (D.document doc.old) step.now.action ≡ true }
@@ -61,18 +54,13 @@ pub fn do_one<D: DocTables>(
         ≡ gone_back D.fits D.undone trail.old.traces.items (D.document doc.old) }
     ensures told { OnOk result (AreTold (D.document doc.old) (step.now ∷ [])
         trail.old.traces.items trail.new.traces.items trail.old.inverse trail.new.inverse) }
-    ensures outside { OnOk result (AreSameOutside (step.now.action ∷ []) changed.new.items
-        (filled (D.document doc.old)) (filled (D.document doc.new))) }
-    ensures stays { OnOk result (StayNoted changed.old.items changed.new.items) }
 {
-    outside_law();
     trail.traces.reserve(1)?;
     let inverse = &mut trail.inverse;
     inverse.note(alloc, doc.tables(), &step.action, step.direct)?;
     let trace = doc.put(alloc, &step.action)?;
-    let noted = note_rows(alloc, trace.cells(), changed);
     trail.traces.push_reserved(trace);
-    noted
+    Ok(())
 }
 
 /// Does valid steps, and notes of each what `do_one` notes. When out of memory, some of them are
@@ -82,7 +70,6 @@ pub fn do_all<D: DocTables>(
     doc: &mut Doc<D>,
     steps: &[Step],
     trail: &mut Trail<D>,
-    changed: &mut Vec<ChangedRows>,
 ) -> Result<(), AllocError>
     requires whole { IsWhole (D.document doc.old) }
     requires valid { all_valid (D.document doc.old) (map action_of steps.now) ≡ true }
@@ -93,12 +80,9 @@ pub fn do_all<D: DocTables>(
         ≡ gone_back D.fits D.undone trail.old.traces.items (D.document doc.old) }
     ensures told { OnOk result (AreTold (D.document doc.old) steps.now
         trail.old.traces.items trail.new.traces.items trail.old.inverse trail.new.inverse) }
-    ensures outside { OnOk result (AreSameOutside (map action_of steps.now) changed.new.items
-        (filled (D.document doc.old)) (filled (D.document doc.new))) }
-    ensures stays { OnOk result (StayNoted changed.old.items changed.new.items) }
 {
     for step in steps {
-        do_one(alloc, doc, step, trail, changed)?;
+        do_one(alloc, doc, step, trail)?;
     }
     Ok(())
 }

@@ -66,12 +66,4 @@ impl SplitSteps {
     {
         &self.actions
     }
-
-    /// Whether the step of that index is direct.
-    pub fn is_direct(&self, index: usize) -> bool
-        requires { index < length self.now }
-        ensures { (d : Step) → result ≡ (get_or self.now index d).direct }
-    {
-        self.marks[index]
-    }
 }

@@ -76,27 +76,19 @@ fn judge_each<D: DocTables>(
         trail.old.traces.items trail.new.traces.items trail.old.inverse trail.new.inverse) }
 {
     let mut tally = tally;
-    let mut changed = Vec::new(alloc);
     for index in 0..steps.len() {
         let step = &steps[index];
         match judge_step(alloc, doc.tables(), tally, &step.action, index as u32) {
             Ok(next) => tally = next,
-            Err(verdict) => {
-                drop(changed);
-                return Ok(JudgedBundle::Refused(verdict));
-            }
+            Err(verdict) => return Ok(JudgedBundle::Refused(verdict)),
         }
-        match do_checked(alloc, doc, carried, index as u32, step, trail, &mut changed)? {
-            Some(denial) => {
-                drop(changed);
-                return Ok(JudgedBundle::Refused(denial));
-            }
+        match do_checked(alloc, doc, carried, index as u32, step, trail)? {
+            Some(denial) => return Ok(JudgedBundle::Refused(denial)),
             None => {}
         }
     }
     Ok(JudgedBundle::Accepted(BundlePlan {
         steps: SplitSteps::copy_of(alloc, steps)?,
-        changed,
         created: Vec::new(alloc),
         undone: Some(number),
         tally,

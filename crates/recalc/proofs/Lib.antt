@@ -20,8 +20,6 @@ pub mod Progress
 pub mod FilledCells
 pub mod FilledLaws
 pub mod WatchedCells
-pub mod OutsideRows
-pub mod PlainRows
 pub mod PlainLemmas
 pub mod SortedRows
 pub mod NarrowedRows

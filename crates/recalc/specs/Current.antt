@@ -6,11 +6,7 @@ use Rattle.doc_model.specs.declared.action.DocAction.{DocAction}
 use Rattle.doc_model.specs.declared.action.DocAction.TheVariants.{AddTable, AddColumn, ModifyColumn}
 use Rattle.doc_model.specs.declared.column.ColDef.{ColDef}
 use Rattle.doc_model.specs.Apply.{apply}
-use Rattle.doc_model.specs.ByIds.{find_id}
-use Rattle.doc_model.specs.Document.{Document, table_id}
-use Rattle.doc_model.specs.SameRows.{Both}
-use Rattle.doc_model.specs.Touched.{AreSameTables}
-use Rattle.recalc.specs.Evaluated.{filled}
+use Rattle.doc_model.specs.Document.{Document}
 use Rattle.recalc.specs.declared.kept.KeptTable.{KeptTable}
 use Rattle.recalc.specs.Kept.{IsEvaluated}
 
@@ -34,13 +30,6 @@ abbrev pub StaysPlainLaw : Type 0
 StaysPlainLaw =
     (s : Document) (a : DocAction) → has_formulas s ≡ false → brings_formula a ≡ false
     → has_formulas (apply s a) ≡ false
-
--- documents without formulas that hold the same in a row do so with their values in place
-abbrev pub PlainRowsLaw : Type 0
-PlainRowsLaw =
-    (s t : Document) → has_formulas s ≡ false → has_formulas t ≡ false → (id : List ℕ) (r : ℕ)
-    → Both (AreSameTables r) (find_id table_id id s) (find_id table_id id t)
-    → Both (AreSameTables r) (find_id table_id id (filled s)) (find_id table_id id (filled t))
 
 -- kept of this document as it is: the value of each formula cell, or no formula column is there
 abbrev pub IsCurrent : Document → Option (List KeptTable) → Type 0

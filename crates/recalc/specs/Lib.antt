@@ -14,4 +14,3 @@ pub mod Indexes
 pub mod FilledLaws
 pub mod Watched
 pub mod MayLose
-pub mod Outside

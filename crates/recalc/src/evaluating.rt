@@ -144,11 +144,10 @@ fn is_known<D: DocTables>(
     }
 }
 
-/// Makes the value of a formula cell known.
-///
-/// Errors: out of memory; what was known is then known still, and what is known is right.
-/// Memory and cost: none where it is known, else as to settle.
-pub fn make_known<D: DocTables>(
+// Makes the value of a formula cell known.
+//
+// When out of memory what was known is known still, and what is known is right.
+fn make_known<D: DocTables>(
     alloc: Global,
     tables: &D,
     kept: &mut Vec<KeptTable>,

@@ -1,9 +1,8 @@
 //! Laws of evaluated cells, each proved as the contract of a function that does nothing.
 
-ghost use Rattle.recalc.specs.Current.{PlainRowsLaw, StaysPlainLaw};
+ghost use Rattle.recalc.specs.Current.{StaysPlainLaw};
 ghost use Rattle.recalc.specs.FilledLaws.{LaidOutLaw, SamePartsLaw};
 ghost use Rattle.recalc.specs.MayLose.{MayLoseLaw};
-ghost use Rattle.recalc.specs.Outside.{OutsideLaw};
 ghost use Rattle.recalc.specs.SheetLaws.{CircularLaw, FuelLaw, SettledLaw, ValueLaw};
 ghost use Rattle.recalc.specs.Watched.{WatchedLaw};
 
@@ -51,15 +50,4 @@ pub fn watched_law()
 /// removes.
 pub fn may_lose_law()
     ensures { MayLoseLaw }
-{}
-
-/// Documents without formula columns that hold the same in a row do so with their values in place.
-pub fn plain_rows_law()
-    ensures { PlainRowsLaw }
-{}
-
-/// An action leaves each row of the evaluated document that it does not name, and in which it loses
-/// no cell.
-pub fn outside_law()
-    ensures { OutsideLaw }
 {}

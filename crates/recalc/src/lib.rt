@@ -36,7 +36,7 @@ mod watched;
 
 pub use cells::{cell_id, keep_lost, push_cells};
 pub use current::{brings_formula, has_formula, keep_values, keep_values_after};
-pub use evaluating::{blank_tables, evaluate_rest, make_known};
+pub use evaluating::{blank_tables, evaluate_rest};
 pub use indexes::{ColumnIndex, bucket_at, index_lookups};
 pub use kept::{KeptColumn, KeptTable};
 pub use names::{push_if, sorted};

@@ -1,12 +1,10 @@
 mod RequestedLemmas
 pub mod ColumnWalk
 pub mod NameLengths
-mod PartLemmasDocument
-mod PartLemmasViews
 pub mod PlacedLemmas
 pub mod SeenLemmas
 pub mod SeenParts
 pub mod SortedRows
 pub mod TableWalk
-pub mod AffectedRows
+pub mod Tests
 pub mod ViewLemmas

@@ -22,8 +22,8 @@ use Rattle.doc_model.proofs.RowsLaws.{IsAscending-filter}
 use Rattle.doc_readers.specs.Parts.{grid_at}
 use Rattle.view_parts.specs.declared.viewers.Viewer.{Viewer}
 use Rattle.view_parts.specs.declared.wanted.Wanted.{Wanted}
-use Rattle.view_parts.specs.declared.wanted.Wanted.TheVariants.{Affected, All, Requested}
-use Rattle.view_parts.specs.Parts.{is_row_affected, is_row_requested}
+use Rattle.view_parts.specs.declared.wanted.Wanted.TheVariants.{All, Requested}
+use Rattle.view_parts.specs.Parts.{is_row_requested}
 use Rattle.view_parts.specs.Shown.{is_column_shown, is_shown, rows_shown, shown_column, shown_table, view}
 use Rattle.view_parts.specs.Wanted.{cells_at, columns_of, is_wanted, rows_wanted, shown_with, table_wanted, wanted}
 use Rattle.view_parts.proofs.PlacedLemmas.{find-by_id}
@@ -107,7 +107,6 @@ IsShown-shown_with id g rows ascends =
 
 wanted_ascend : (o : Wanted) (id rows : List ℕ) → IsAscending rows → IsAscending (rows_wanted o id rows)
 wanted_ascend All id rows ascends = ascends
-wanted_ascend (Affected actions changed) id rows ascends = IsAscending-filter (is_row_affected actions.now changed.now id) rows ascends
 wanted_ascend (Requested action) id rows ascends = IsAscending-filter (is_row_requested action.now id) rows ascends
 
 pub IsView-wanted : (viewer : Viewer) (o : Wanted) (s : Document) → IsLaidOut s → IsView (wanted viewer o s)

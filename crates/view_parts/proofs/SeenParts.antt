@@ -24,15 +24,14 @@ use Rattle.doc_readers.specs.Parts.{grid_at}
 use Rattle.plain_view.specs.PartsOfViews.{part_of, passing, passing_cells}
 use Rattle.user_actions.specs.Kinds.{table_of}
 use Rattle.user_actions.specs.ObjectionLaws.{asks_for, is_about_rules}
-use Rattle.view_parts.specs.declared.changed.ChangedRows.{ChangedRows}
 use Rattle.view_parts.specs.declared.viewers.Viewer.{Viewer}
-use Rattle.view_parts.specs.declared.wanted.Wanted.TheVariants.{Affected, All, Requested}
-use Rattle.view_parts.specs.Parts.{requested_part, is_row_affected, is_row_requested, is_affected, affected_part, rows_requested}
+use Rattle.view_parts.specs.declared.wanted.Wanted.TheVariants.{All, Requested}
+use Rattle.view_parts.specs.Parts.{requested_part, is_row_requested, rows_requested}
 use Rattle.view_parts.specs.Shown.{is_shown, shown_table, view}
 use Rattle.view_parts.specs.Wanted.{cells_at, columns_of, shown_with, wanted}
 use Rattle.view_parts.proofs.PlacedLemmas.{find-by_id}
 use Rattle.view_parts.proofs.SeenLemmas.{find_seen, IsView-one, IsView-wanted}
-use Rattle.view_parts.proofs.AffectedRows.{everywhere}
+use Rattle.view_parts.proofs.Tests.{everywhere}
 
 -- ---- rows that pass
 
@@ -116,7 +115,7 @@ module _ (test : List ℕ → ℕ → Bool) where
   map-by_id [] = refl
   map-by_id (x ∷ xs) = map-put_by_id x (by_id shown_table_id xs) ∙ ap (put_by_id shown_table_id (passed x)) (map-by_id xs)
 
--- ---- the part that actions are about
+-- ---- the part that is wanted
 
 pub wanted_all : (viewer : Viewer) (s : Document) → wanted viewer All s ≡ view viewer s
 wanted_all viewer s = refl
@@ -144,19 +143,9 @@ module _ (some : List ℕ → Bool) (test : List ℕ → ℕ → Bool) (viewer :
       ∙ map_each (λ t. cut (shown_table t)) some_shown both
       (everywhere (λ (t : Table). cut (shown_table t) ≡ some_shown t) (λ t. passing-shown (test t.id) t) both)))
 
-pub wanted_affected : (viewer : Viewer) (actions : Bor (List DocAction)) (changed : Bor (List ChangedRows)) (s : Document) → IsLaidOut s
-    → wanted viewer (Affected actions changed) s ≡ affected_part actions.now changed.now (view viewer s)
-wanted_affected viewer actions changed s laid = seen_part (is_affected actions.now changed.now) (is_row_affected actions.now changed.now) viewer s laid
-
 pub wanted_requested : (viewer : Viewer) (action : Bor UserAction) (s : Document) → IsLaidOut s
     → wanted viewer (Requested action) s ≡ requested_part action.now (view viewer s)
 wanted_requested viewer action s laid = seen_part (asks_for action.now) (is_row_requested action.now) viewer s laid
-
-pub IsView-affected : (viewer : Viewer) (actions : List DocAction) (changed : List ChangedRows) (s : Document) → IsLaidOut s → IsView (affected_part actions changed (view viewer s))
-IsView-affected viewer actions changed s laid =
-    let a : Bor (List DocAction) = record { ref_ptr = (0, 0); now = actions } in
-    let b : Bor (List ChangedRows) = record { ref_ptr = (0, 0); now = changed } in
-    subst IsView (wanted_affected viewer a b s laid) (IsView-wanted viewer (Affected a b) s laid)
 
 -- ---- the part that a user action requests, where it asks for the table alone that it names
 

@@ -1,10 +1,6 @@
 -- Views of some tables with some of their rows, as the code builds them.
-use Rattle.std.specs.Prelude.{ℕ, Bool, true, false, cond, ◌&&◌, List, [], ◌∷◌, ◌++◌, map, filter}
-use Rattle.std.specs.List.{list_any}
-use Rattle.std.specs.Str.{bytes_eq}
+use Rattle.std.specs.Prelude.{ℕ, Bool, true, cond, ◌&&◌, List, map, filter}
 use Rattle.cell_types.specs.declared.value.CellValue.{CellValue}
-use Rattle.doc_model.specs.declared.action.DocAction.{DocAction}
-use Rattle.doc_model.specs.declared.action.DocAction.TheVariants.{BulkAdd, BulkUpdate, BulkRemove}
 use Rattle.doc_model.specs.declared.column.ColDef.{ColDef}
 use Rattle.doc_model.specs.declared.view.ViewCol.{ViewCol}
 use Rattle.doc_model.specs.declared.view.ViewTable.{ViewTable}
@@ -16,12 +12,10 @@ use Rattle.doc_model.specs.Grid.{Grid, cell}
 use Rattle.doc_model.specs.ViewEdits.{shown_id}
 use Rattle.doc_readers.specs.Parts.{grid_at}
 use Rattle.view_parts.specs.declared.viewers.Viewer.{Viewer}
-use Rattle.doc_model.specs.Touched.{names_table}
-use Rattle.view_parts.specs.declared.changed.ChangedRows.{ChangedRows}
 use Rattle.view_parts.specs.declared.wanted.Wanted.{Wanted}
-use Rattle.view_parts.specs.declared.wanted.Wanted.TheVariants.{Affected, All, Requested}
+use Rattle.view_parts.specs.declared.wanted.Wanted.TheVariants.{All, Requested}
 use Rattle.user_actions.specs.ObjectionLaws.{asks_for}
-use Rattle.view_parts.specs.Parts.{is_row_affected, is_row_requested, is_affected}
+use Rattle.view_parts.specs.Parts.{is_row_requested}
 use Rattle.view_parts.specs.Shown.{is_shown, shown_column}
 
 -- the cells of a row, one for each of the columns
@@ -44,14 +38,11 @@ shown_with id g rows = record {
 -- whether the table is wanted
 abbrev pub is_wanted : Wanted → List ℕ → Bool
 is_wanted All id = true
-is_wanted (Affected actions changed) id = is_affected actions.now changed.now id
 is_wanted (Requested action) id = asks_for action.now id
 
 -- the rows of a table that are wanted
 abbrev pub rows_wanted : Wanted → List ℕ → List ℕ → List ℕ
 rows_wanted All id rows = rows
-rows_wanted (Affected actions changed) id rows =
-    filter (is_row_affected actions.now changed.now id) rows
 rows_wanted (Requested action) id rows = filter (is_row_requested action.now id) rows
 
 -- a wanted table, with its wanted rows
@@ -73,32 +64,3 @@ abbrev pub wanted : Viewer → Wanted → Document → List ViewTable
 wanted viewer w s =
     by_id shown_table_id
     (map (table_wanted w) (filter (λ (t : Table). is_wanted w t.id && is_shown viewer t.id) s))
-
--- whether the action is about all rows of its table
-abbrev pub is_about_all : DocAction → Bool
-is_about_all (BulkAdd table rows ks) = false
-is_about_all (BulkUpdate table rows ks) = false
-is_about_all (BulkRemove table rows) = false
-is_about_all _ = true
-
--- the rows that a record action names
-abbrev pub rows_of : DocAction → List ℕ
-rows_of (BulkAdd table rows ks) = rows
-rows_of (BulkUpdate table rows ks) = rows
-rows_of (BulkRemove table rows) = rows
-rows_of _ = []
-
--- the rows of the table that record actions name, in the order of the actions
-abbrev pub rows_named : List DocAction → List ℕ → List ℕ
-rows_named [] id = []
-rows_named (a ∷ actions) id =
-    cond (names_table a id) (rows_of a) [] ++ rows_named actions id
-
--- the rows of the table in which formula cells changed, in their order
-abbrev pub rows_changed : List ChangedRows → List ℕ → List ℕ
-rows_changed [] id = []
-rows_changed (w ∷ changed) id = cond (bytes_eq w.table id) w.rows [] ++ rows_changed changed id
-
--- whether some action is about all rows of the table
-abbrev pub is_wholly_affected : List DocAction → List ℕ → Bool
-is_wholly_affected actions id = list_any (λ a. names_table a id && is_about_all a) actions

@@ -1,24 +1,20 @@
-//! Views of a document, and the parts of them that actions and changed formula cells are about.
+//! Views of a document by plain tables, and the parts of them that user actions ask for.
 //!
 //! Stands on `doc_model` (documents, views and changes), `doc_readers` (what a document tells) and
 //! `user_actions` (what stands against a user action). Used by the core.
 //!
-//! Promises: `whole_view` is what a viewer sees of a document. `affected_view` is the part of it
-//! that actions and changed formula cells are about, and `part_law` says that this part tells all
-//! changes from one document to another that holds the same elsewhere; `outside_law`: valid actions
-//! change nothing elsewhere, where no formulas are evaluated. `requested_view` is the part that a
+//! Promises: `whole_view` is what a viewer sees of a document. `requested_view` is the part that a
 //! user action asks for, and `requested_law` says that what stands against the action rests on it
 //! alone. `view_law`: each is a view. `allowed_law`: a document allows what nothing stands against
 //! in a view of it, or of what it evaluates to. `rows_shown` and `is_column_shown` tell of such a
 //! view without making it, and take no memory.
-//! Costs: `affected_view` and `requested_view` cost the rows that are named or changed, not those
-//! of the table, unless a schema action names it; and the square of a table's columns. An action on
-//! rows of rules costs those of all resources, and a walk over the tables.
+//! Costs: `requested_view` costs the rows that are named, not those of the table, and the square of
+//! a table's columns. An action on rows of rules costs those of all resources, and a walk over the
+//! tables.
 //! Read first: specs/Viewers.antt, specs/Shown.antt and specs/Parts.antt, then whole.rt, parts.rt
 //! and wanted.rt.
 #![tactic(auto)]
 
-mod changed;
 mod columns;
 mod laws;
 mod parts;
@@ -29,8 +25,7 @@ mod viewers;
 mod wanted;
 mod whole;
 
-pub use changed::ChangedRows;
-pub use laws::{allowed_law, outside_law, part_law, requested_law, view_law};
-pub use parts::{affected_view, requested_view};
+pub use laws::{allowed_law, requested_law, view_law};
+pub use parts::requested_view;
 pub use viewers::Viewer;
 pub use whole::{is_column_shown, rows_shown, whole_view};

@@ -1,4 +1,4 @@
-//! The parts of a view that actions and changed formula cells are about.
+//! The parts of a view that user actions ask for.
 
 ghost use Rattle.std.specs.Prelude.{◌≡◌, false, IfOk, MatchOption};
 ghost use Rattle.std.specs.Option.{option_to_list};
@@ -7,45 +7,19 @@ ghost use Rattle.doc_model.specs.Changes.{IsView};
 ghost use Rattle.doc_model.specs.LaidOut.{IsLaidOut};
 ghost use Rattle.user_actions.specs.Kinds.{table_of};
 ghost use Rattle.user_actions.specs.ObjectionLaws.{is_about_rules};
-ghost use Rattle.view_parts.specs.Parts.{requested_part, affected_part};
+ghost use Rattle.view_parts.specs.Parts.{requested_part};
 ghost use Rattle.view_parts.specs.Shown.{view};
 
-use crate::changed::ChangedRows;
 use crate::requested::rows_requested;
 use crate::rows::rows_among;
 use crate::tables::shown_with;
 use crate::viewers::Viewer;
 use crate::wanted::{Wanted, wanted_tables};
 use cell_types::{CellText, Name};
-use doc_model::{DocAction, DocReader, UserAction, View, ViewTable, ViewTableList};
+use doc_model::{DocReader, UserAction, View, ViewTable, ViewTableList};
 use doc_readers::{has_table, rows_in};
 use std::alloc::{AllocError, Global};
 use user_actions::{is_about_rules, table_of};
-
-/// The part of what a viewer sees of a document that these actions and changed formula cells are
-/// about: the tables that they name, with the rows that they are about.
-///
-/// Errors: out of memory. Cost: the cells of those rows, for each the logarithm of the rows of its
-/// table, and whole tables for schema actions; the tables times the actions, and times the tables
-/// with changed cells.
-pub fn affected_view<D: DocReader>(
-    alloc: Global,
-    tables: &D,
-    viewer: Viewer,
-    actions: &[DocAction],
-    changed: &[ChangedRows],
-) -> Result<View, AllocError>
-    requires laid_out { IsLaidOut (D.document tables.now) }
-    ensures tables { IfOk result (λ v. v.tables
-        ≡ affected_part actions.now changed.now (view viewer (D.document tables.now))) }
-    ensures is_view { IfOk result (λ v. IsView v.tables) }
-{
-    let want = Wanted::Affected { actions, changed };
-    let affected = wanted_tables(alloc, tables, viewer, &want)?;
-    Ok(View {
-        tables: ViewTableList::from(affected),
-    })
-}
 
 // The id of the table that the action names; a text that is no name is no table's id.
 fn requested_id(alloc: Global, action: &UserAction) -> Result<Option<Name>, AllocError>

@@ -20,7 +20,7 @@ use Rattle.doc_model.proofs.Choices.{both_true, cond_true, each_mapped, each_pas
 use Rattle.doc_model.proofs.RowsLaws.{each_has}
 use Rattle.acl_formula.specs.RuleRow.{RuleRow}
 use Rattle.view_parts.specs.Shown.{is_shown as is_seen, shown_column as column_today, shown_table as table_today}
-use Rattle.view_parts.proofs.AffectedRows.{everywhere, filter_same}
+use Rattle.view_parts.proofs.Tests.{everywhere, filter_same}
 use Rattle.censored_view.specs.Readable.{Readable, by_rules, hidden, row_of, whole}
 use Rattle.censored_view.specs.View.{is_row_shown, is_shown, shown_column, shown_table}
 use Rattle.censored_view.proofs.ShownRows.{its_cell, its_columns, its_rows, shown_grid}

@@ -1,11 +1,8 @@
 use Rattle.std.proofs.Common.{◌≡◌, map}
 use Rattle.doc_model.specs.DocumentLaws.{IsWhole}
 use Rattle.user_actions.specs.StepLaws.{action_of}
-use Rattle.recalc.specs.Evaluated.{filled}
 use Rattle.evaluated_doc.specs.WayBack.{IsWayBack}
-use Rattle.view_parts.specs.PartLaws.{AreSameOutside}
 use Rattle.bundle_judge.specs.CarriedContexts.{carried_context, is_kept}
-use Rattle.bundle_judge.specs.ChangedCells.{StayNoted}
 use Rattle.bundle_judge.specs.Rollback.{led_back}
 use Rattle.bundle_judge.proofs.CheckLemmas.{IsChecking}
 use Rattle.bundle_judge.proofs.RollbackLemmas.{IsDoing}
@@ -15,9 +12,7 @@ use Rattle.bundle_judge.proofs.checking.do_all_checked.Given as goal
 abbrev pub invariant-loop-step : goal.invariant-loop-step
 invariant-loop-step g l =
     IsDoing (led_back g.D.DocTables.fits g.D.DocTables.undone) (IsWayBack g.D.DocTables.fits g.D.DocTables.undone) (g.D.DocReader.document l.initial.doc) (map action_of l.steps) l.initial.trail.traces.items l.step-index (g.D.DocReader.document l.doc) l.trail.traces.items
-    × AreSameOutside (map action_of l.steps) l.changed.items (filled (g.D.DocReader.document l.initial.doc)) (filled (g.D.DocReader.document l.doc))
     × IsWhole (g.D.DocReader.document l.doc)
-    × StayNoted l.initial.changed.items l.changed.items
     × IsChecking (carried_context l.initial.carried) (g.D.DocReader.document l.initial.doc) l.index l.steps l.step-index (carried_context l.carried) (g.D.DocReader.document l.doc)
     × (is_kept l.carried ≡ is_kept l.initial.carried)
     × IsTelling (g.D.DocReader.document l.initial.doc) l.steps l.step-index (g.D.DocReader.document l.doc) l.initial.trail.traces.items l.trail.traces.items l.initial.trail.inverse l.trail.inverse

@@ -29,7 +29,7 @@ pub returns-in-Ok-None-clause-judged : goal.returns-in-Ok-None-clause-judged
 returns-in-Ok-None-clause-judged g c =
     let s = g.D.DocReader.document c.args.doc.now in
     let t = g.D.DocReader.document c.do_all_checked.new.doc in
-    let P : List Step → Type 0 = λ l. AreLetDone (carried_context c.args.carried.now) s c.args.index l (carried_context c.do_all_checked.new.carried) t c.do_all_checked.new.changed.items in
+    let P : List Step → Type 0 = λ l. AreLetDone (carried_context c.args.carried.now) s c.args.index l (carried_context c.do_all_checked.new.carried) t in
     let Q : Ctx → Type 0 = λ x. IsActionPlan x s c.args.index c.args.action.now c.in-Accepted.plan in
     record {
       plan = subst Q c.context.ensures (rw c.in-Accepted.is at c.in_ok-verdict.ensures);

@@ -3,18 +3,14 @@ use Rattle.std.proofs.lemmas.List.{append-nil}
 use Rattle.doc_model.specs.declared.action.Step.{Step}
 use Rattle.doc_model.specs.Document.{Document}
 use Rattle.doc_model.specs.WellFormed.{is_well_formed}
-use Rattle.recalc.specs.Evaluated.{filled}
-use Rattle.view_parts.specs.PartLaws.{AreSameOutside}
 use Rattle.user_actions.specs.StepLaws.{action_of}
 use Rattle.bundle_judge.specs.CarriedContexts.{asks_rename, carried_context}
 use Rattle.bundle_judge.specs.JudgedActions.{IsAt, IsDonePlan}
 use Rattle.bundle_judge.specs.JudgedBundles.{after_steps}
 use Rattle.bundle_judge.specs.Losses.{AreTold}
 use Rattle.bundle_judge.proofs.CarriedLemmas.{none_at}
-use Rattle.bundle_judge.proofs.ChangedLemmas.{outside_then}
 use Rattle.bundle_judge.proofs.JudgmentLemmas.{at_done, at_next, holds_at, next_done, planned, refused_at, whole_at}
 use Rattle.bundle_judge.proofs.RollbackLemmas.{left_at}
-use Rattle.bundle_judge.proofs.StepLemmas.{back_within, front_within}
 use Rattle.bundle_judge.proofs.ToldLemmas.{told_then}
 use Rattle.bundle_judge.proofs.judging.judge_checked.Goals as goal
 
@@ -29,7 +25,7 @@ judge_and_do-requires-clause-well_formed g c = holds_at is_well_formed c.args.re
 pub judge_and_do-requires-clause-may_carry : goal.judge_and_do-requires-clause-may_carry
 judge_and_do-requires-clause-may_carry g c =
     let l = c.loop-index in
-    λ kept. none_at asks_rename c.args.requested.now l.index c.index-requested-index.result (c.requires.may_carry (sym l.invariant.4 ∙ kept)) c.loop-index-test.true c.index-requested-index.is
+    λ kept. none_at asks_rename c.args.requested.now l.index c.index-requested-index.result (c.requires.may_carry (sym l.invariant.3 ∙ kept)) c.loop-index-test.true c.index-requested-index.is
 
 pub returns-in-Refused-clause-judged : goal.returns-in-Refused-clause-judged
 returns-in-Refused-clause-judged g c =
@@ -46,22 +42,18 @@ loop-index-preserved g c =
     let a = c.index-requested-index.result in
     let n = c.in-Accepted.plan in
     let more = c.in_ok-verdict.ensures in
-    let changed = c.judge_and_do.new.changed.items in
-    let done : IsDonePlan (carried_context l.carried) s l.index a (carried_context c.judge_and_do.new.carried) t changed n = rw c.in-Accepted.is at more.judged in
+    let done : IsDonePlan (carried_context l.carried) s l.index a (carried_context c.judge_and_do.new.carried) t n = rw c.in-Accepted.is at more.judged in
     let next : IsAt (carried_context c.args.carried.now) start c.args.requested.now (l.index + 1) (carried_context c.judge_and_do.new.carried) s l.steps.items n.steps c.push.new.self.items n.tally =
     at_next (carried_context c.args.carried.now) start c.args.requested.now l.index (carried_context l.carried) s l.steps.items l.created.items l.tally a (drop (l.index + 1) c.args.requested.now) l.invariant.0
     (left_at l.index c.args.requested.now a c.loop-index-test.true c.index-requested-index.is) n c.push.new.self.items (carried_context c.judge_and_do.new.carried) refl done.plan done.done.undenied done.done.carried c.in_ok-push-in-Accepted.ensures.items in
     let told : AreTold s n.steps l.trail.traces.items c.judge_and_do.new.trail.traces.items l.trail.inverse c.judge_and_do.new.trail.inverse = rw c.in-Accepted.is at more.told in
-    let all : c.append.new.self.items ≡ l.steps.items ++ n.steps = c.in_ok-append-in-Accepted.ensures.items ∙ ap (λ xs. l.steps.items ++ xs) c.into_vec.ensures in
-    let W : List Step → Type 0 = λ xs. AreSameOutside (map action_of xs) changed (filled start) (filled t) in (
+    let all : c.append.new.self.items ≡ l.steps.items ++ n.steps = c.in_ok-append-in-Accepted.ensures.items ∙ ap (λ xs. l.steps.items ++ xs) c.into_vec.ensures in (
       at_done (carried_context c.args.carried.now) start c.args.requested.now (l.index + 1) (carried_context c.judge_and_do.new.carried) s l.steps.items n.steps c.push.new.self.items n.tally next t c.append.new.self.items done.done.done all,
-      subst W (sym all) (outside_then (map action_of l.steps.items) (map action_of n.steps) (map action_of (l.steps.items ++ n.steps)) l.changed.items changed (filled start) (filled s) (filled t)
-          (front_within l.steps.items n.steps) (back_within l.steps.items n.steps) more.stays l.invariant.1 done.done.outside),
       more.led,
-      more.back ∙ l.invariant.3,
-      more.kept ∙ l.invariant.4,
+      more.back ∙ l.invariant.2,
+      more.kept ∙ l.invariant.3,
       told_then start s l.steps.items n.steps c.append.new.self.items c.args.trail.now.traces.items l.trail.traces.items c.judge_and_do.new.trail.traces.items c.args.trail.now.inverse l.trail.inverse c.judge_and_do.new.trail.inverse
-          l.invariant.5 l.invariant.0.done_so_far told all,
+          l.invariant.4 l.invariant.0.done_so_far told all,
     )
 
 pub returns-clause-judged : goal.returns-clause-judged
@@ -70,14 +62,7 @@ returns-clause-judged g c =
     let s = g.D.DocReader.document c.loop-index.doc in
     let l = c.loop-index in
     let le : length c.args.requested.now ≤ l.index = omega (arith, c.loop-index-test.false) in
-    let all = l.steps.items ++ [] in
-    let nil = append-nil l.steps.items in
-    let T : Document → Type 0 = λ u. AreSameOutside (map action_of l.steps.items) l.changed.items (filled start) (filled u) in
-    let W : List Step → Type 0 = λ xs. AreSameOutside (map action_of xs) l.changed.items (filled start) (filled (after_steps start all)) in
-    let U : List Step → Type 0 = λ xs. AreSameOutside (map action_of xs) l.changed.items (filled start) (filled (after_steps start xs)) in
-    planned (carried_context c.args.carried.now) start c.args.requested.now l.index (carried_context l.carried) s l.steps.items [] l.created.items l.tally l.invariant.0 _ le refl (c.in_ok-of.ensures ∙ sym nil) refl refl
-    (subst U (sym (c.in_ok-of.ensures ∙ sym nil))
-    (subst W (sym nil) (subst T (next_done (carried_context c.args.carried.now) start c.args.requested.now l.index (carried_context l.carried) s l.steps.items [] l.created.items l.tally l.invariant.0) l.invariant.1)))
+    planned (carried_context c.args.carried.now) start c.args.requested.now l.index (carried_context l.carried) s l.steps.items [] l.created.items l.tally l.invariant.0 _ le refl (c.in_ok-of.ensures ∙ sym (append-nil l.steps.items)) refl refl
 
 pub returns-clause-told : goal.returns-clause-told
 returns-clause-told g c =
@@ -86,5 +71,5 @@ returns-clause-told g c =
     let T : List Step → Type 0 = λ xs. AreTold start xs c.args.trail.now.traces.items l.trail.traces.items c.args.trail.now.inverse l.trail.inverse in
     record {
       document = l.invariant.0.done_so_far ∙ ap (after_steps start) (sym c.in_ok-of.ensures);
-      told = subst T (sym c.in_ok-of.ensures) l.invariant.5;
+      told = subst T (sym c.in_ok-of.ensures) l.invariant.4;
     }

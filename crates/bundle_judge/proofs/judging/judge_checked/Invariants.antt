@@ -1,7 +1,4 @@
-use Rattle.std.proofs.Common.{◌≡◌, [], map}
-use Rattle.user_actions.specs.StepLaws.{action_of}
-use Rattle.recalc.specs.Evaluated.{filled}
-use Rattle.view_parts.specs.PartLaws.{AreSameOutside}
+use Rattle.std.proofs.Common.{◌≡◌, []}
 use Rattle.bundle_judge.specs.CarriedContexts.{carried_context, is_kept}
 use Rattle.bundle_judge.specs.JudgedActions.{IsAt}
 use Rattle.bundle_judge.specs.Losses.{AreTold}
@@ -11,7 +8,6 @@ use Rattle.bundle_judge.proofs.judging.judge_checked.Given as goal
 abbrev pub invariant-loop-index : goal.invariant-loop-index
 invariant-loop-index g l =
     IsAt (carried_context l.initial.carried) (g.D.DocReader.document l.initial.doc) l.requested l.index (carried_context l.carried) (g.D.DocReader.document l.doc) l.steps.items [] l.created.items l.tally
-    × AreSameOutside (map action_of l.steps.items) l.changed.items (filled (g.D.DocReader.document l.initial.doc)) (filled (g.D.DocReader.document l.doc))
     × AllLeadBack g.D.DocTables.fits g.D.DocTables.undone l.trail.traces.items (g.D.DocReader.document l.doc)
     × (gone_back g.D.DocTables.fits g.D.DocTables.undone l.trail.traces.items (g.D.DocReader.document l.doc) ≡ g.D.DocReader.document l.initial.doc)
     × (is_kept l.carried ≡ is_kept l.initial.carried)

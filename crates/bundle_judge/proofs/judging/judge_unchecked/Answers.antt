@@ -2,17 +2,13 @@ use Rattle.std.proofs.Common.{◌≡◌, ◌+◌, List, [], ◌++◌, map, ◌�
 use Rattle.doc_model.specs.declared.action.Step.{Step}
 use Rattle.doc_model.specs.Document.{Document}
 use Rattle.doc_model.specs.WellFormed.{is_well_formed}
-use Rattle.recalc.specs.Evaluated.{filled}
-use Rattle.view_parts.specs.PartLaws.{AreSameOutside}
 use Rattle.user_actions.specs.StepLaws.{action_of}
 use Rattle.bundle_judge.specs.JudgedActions.{IsAt}
 use Rattle.bundle_judge.specs.JudgedBundles.{after_steps}
 use Rattle.bundle_judge.specs.Losses.{AreTold}
-use Rattle.bundle_judge.proofs.ChangedLemmas.{outside_then}
 use Rattle.bundle_judge.proofs.CheckLemmas.{unchecked_carried, unchecked_undenied}
 use Rattle.bundle_judge.proofs.JudgmentLemmas.{at_done, at_next, holds_at, next_done, opposed_refused, planned, refused_at, whole_at}
 use Rattle.bundle_judge.proofs.RollbackLemmas.{left_at}
-use Rattle.bundle_judge.proofs.StepLemmas.{back_within, front_within}
 use Rattle.bundle_judge.proofs.ToldLemmas.{told_then}
 use Rattle.bundle_judge.proofs.judging.judge_unchecked.Goals as goal
 
@@ -63,20 +59,15 @@ loop-index-preserved g c =
     at_done c.args.ctx.now start c.args.requested.now l.index c.args.ctx.now s l.steps.items l.next.items l.created.items l.tally l.invariant.0 t c.append.new.self.items
     (c.in_ok-do_all.ensures.done ∙ ap (after_steps s) c.deref.ensures.value) c.in_ok-append.ensures.items in
     let more = c.in_ok-do_all.ensures in
-    let changed = c.do_all.new.changed.items in
-    let O : List Step → Type 0 = λ xs. AreSameOutside (map action_of xs) changed (filled s) (filled t) in
     let G : List Step → Type 0 = λ xs. AreTold s xs l.trail.traces.items c.do_all.new.trail.traces.items l.trail.inverse c.do_all.new.trail.inverse in
-    let N : List Step → Type 0 = λ xs. IsAt c.args.ctx.now start c.args.requested.now (l.index + 1) c.args.ctx.now t c.append.new.self.items xs c.push.new.self.items c.in-Accepted.plan.tally in
-    let W : List Step → Type 0 = λ xs. AreSameOutside (map action_of xs) changed (filled start) (filled t) in (
+    let N : List Step → Type 0 = λ xs. IsAt c.args.ctx.now start c.args.requested.now (l.index + 1) c.args.ctx.now t c.append.new.self.items xs c.push.new.self.items c.in-Accepted.plan.tally in (
       subst N (sym c.into_vec-next.ensures) (at_next c.args.ctx.now start c.args.requested.now l.index c.args.ctx.now t c.append.new.self.items l.created.items l.tally c.index-requested-index.result (drop (l.index + 1) c.args.requested.now) now
           (left_at l.index c.args.requested.now c.index-requested-index.result c.loop-index-test.true c.index-requested-index.is) c.in-Accepted.plan c.push.new.self.items c.args.ctx.now refl (rw c.in-Accepted.is at c.in_ok-verdict.ensures)
           (unchecked_undenied c.unchecked_law.ensures c.args.ctx.now t l.index c.in-Accepted.plan.steps c.requires.unchecked) (unchecked_carried c.in-Accepted.plan.steps c.args.ctx.now c.requires.unchecked) c.in_ok-push-in-Accepted.ensures.items),
-      subst W (sym c.in_ok-append.ensures.items) (outside_then (map action_of l.steps.items) (map action_of l.next.items) (map action_of (l.steps.items ++ l.next.items)) l.changed.items changed (filled start) (filled s) (filled t)
-          (front_within l.steps.items l.next.items) (back_within l.steps.items l.next.items) more.stays l.invariant.1 (subst O c.deref.ensures.value more.outside)),
       more.led,
-      more.back ∙ l.invariant.3,
+      more.back ∙ l.invariant.2,
       told_then start s l.steps.items l.next.items c.append.new.self.items c.args.trail.now.traces.items l.trail.traces.items c.do_all.new.trail.traces.items c.args.trail.now.inverse l.trail.inverse c.do_all.new.trail.inverse
-          l.invariant.4 l.invariant.0.done_so_far (subst G c.deref.ensures.value more.told) c.in_ok-append.ensures.items,
+          l.invariant.3 l.invariant.0.done_so_far (subst G c.deref.ensures.value more.told) c.in_ok-append.ensures.items,
     )
 
 pub returns-clause-judged : goal.returns-clause-judged
@@ -85,18 +76,7 @@ returns-clause-judged g c =
     let s = g.D.DocReader.document c.loop-index.doc in
     let l = c.loop-index in
     let le : length c.args.requested.now ≤ l.index = omega (arith, c.loop-index-test.false) in
-    let all = l.steps.items ++ l.next.items in
-    let more = c.in_ok-do_all-2.ensures in
-    let changed = c.do_all-2.new.changed.items in
-    let t = g.D.DocReader.document c.do_all-2.new.doc in
-    let D : Document → Type 0 = λ u. AreSameOutside (map action_of l.next.items) changed (filled s) (filled u) in
-    let O : List Step → Type 0 = λ xs. AreSameOutside (map action_of xs) changed (filled s) (filled t) in
-    let T : Document → Type 0 = λ u. AreSameOutside (map action_of all) changed (filled start) (filled u) in
-    let W : List Step → Type 0 = λ xs. AreSameOutside (map action_of xs) changed (filled start) (filled (after_steps start xs)) in
-    let outside = outside_then (map action_of l.steps.items) (map action_of l.next.items) (map action_of all) l.changed.items changed (filled start) (filled s) (filled (after_steps s l.next.items))
-    (front_within l.steps.items l.next.items) (back_within l.steps.items l.next.items) more.stays l.invariant.1 (subst D (more.done ∙ ap (after_steps s) c.deref-2.ensures.value) (subst O c.deref-2.ensures.value more.outside)) in
     planned c.args.ctx.now start c.args.requested.now l.index c.args.ctx.now s l.steps.items l.next.items l.created.items l.tally l.invariant.0 _ le refl (c.in_ok-of.ensures ∙ c.in_ok-append-2.ensures.items) refl refl
-    (subst W (sym (c.in_ok-of.ensures ∙ c.in_ok-append-2.ensures.items)) (subst T (next_done c.args.ctx.now start c.args.requested.now l.index c.args.ctx.now s l.steps.items l.next.items l.created.items l.tally l.invariant.0) outside))
 
 pub returns-clause-told : goal.returns-clause-told
 returns-clause-told g c =
@@ -112,5 +92,5 @@ returns-clause-told g c =
           ∙ next_done c.args.ctx.now start c.args.requested.now l.index c.args.ctx.now s l.steps.items l.next.items l.created.items l.tally l.invariant.0
           ∙ ap (after_steps start) (sym same);
       told = told_then start s l.steps.items l.next.items c.in_ok-of.field-0 c.args.trail.now.traces.items l.trail.traces.items c.do_all-2.new.trail.traces.items c.args.trail.now.inverse l.trail.inverse c.do_all-2.new.trail.inverse
-          l.invariant.4 l.invariant.0.done_so_far (subst G c.deref-2.ensures.value more.told) same;
+          l.invariant.3 l.invariant.0.done_so_far (subst G c.deref-2.ensures.value more.told) same;
     }

@@ -1,7 +1,4 @@
-use Rattle.std.proofs.Common.{◌≡◌, map}
-use Rattle.user_actions.specs.StepLaws.{action_of}
-use Rattle.recalc.specs.Evaluated.{filled}
-use Rattle.view_parts.specs.PartLaws.{AreSameOutside}
+use Rattle.std.proofs.Common.{◌≡◌}
 use Rattle.bundle_judge.specs.JudgedActions.{IsAt}
 use Rattle.bundle_judge.specs.Losses.{AreTold}
 use Rattle.bundle_judge.specs.Rollback.{AllLeadBack, gone_back}
@@ -10,7 +7,6 @@ use Rattle.bundle_judge.proofs.judging.judge_unchecked.Given as goal
 abbrev pub invariant-loop-index : goal.invariant-loop-index
 invariant-loop-index g l =
     IsAt l.ctx (g.D.DocReader.document l.initial.doc) l.requested l.index l.ctx (g.D.DocReader.document l.doc) l.steps.items l.next.items l.created.items l.tally
-    × AreSameOutside (map action_of l.steps.items) l.changed.items (filled (g.D.DocReader.document l.initial.doc)) (filled (g.D.DocReader.document l.doc))
     × AllLeadBack g.D.DocTables.fits g.D.DocTables.undone l.trail.traces.items (g.D.DocReader.document l.doc)
     × (gone_back g.D.DocTables.fits g.D.DocTables.undone l.trail.traces.items (g.D.DocReader.document l.doc) ≡ g.D.DocReader.document l.initial.doc)
     × AreTold (g.D.DocReader.document l.initial.doc) l.steps.items l.initial.trail.traces.items l.trail.traces.items l.initial.trail.inverse l.trail.inverse

@@ -1,11 +1,9 @@
-use Rattle.std.proofs.Common.{◌∷◌, [], map, arith}
-use Rattle.recalc.specs.Evaluated.{filled}
+use Rattle.std.proofs.Common.{map, arith}
 use Rattle.evaluated_doc.specs.WayBack.{IsWayBack}
 use Rattle.user_actions.specs.StepLaws.{action_of}
 use Rattle.bundle_judge.specs.Rollback.{led_back}
-use Rattle.bundle_judge.proofs.ChangedLemmas.{outside_then, within_itself}
 use Rattle.bundle_judge.proofs.RollbackLemmas.{doing_next, doing_valid}
-use Rattle.bundle_judge.proofs.StepLemmas.{actions_left, one_within}
+use Rattle.bundle_judge.proofs.StepLemmas.{actions_left}
 use Rattle.bundle_judge.proofs.ToldLemmas.{telling_ends, telling_next}
 use Rattle.bundle_judge.proofs.rollback.do_all.Goals as goal
 
@@ -27,15 +25,12 @@ loop-step-preserved g c =
     let more = c.in_ok-do_one.ensures in (
       doing_next (led_back g.D.DocTables.fits g.D.DocTables.undone) (IsWayBack g.D.DocTables.fits g.D.DocTables.undone) start actions c.args.trail.now.traces.items l.step-index s l.trail.traces.items l.invariant.0
           x.action t c.do_one.new.trail.traces.items (actions_left l.step-index c.args.steps.now x c.loop-step-test.true c.step-item.is) more.done more.led more.back,
-      outside_then actions (x.action ∷ []) actions l.changed.items c.do_one.new.changed.items (filled start) (filled s) (filled t)
-          (within_itself actions) (one_within c.args.steps.now l.step-index x c.loop-step-test.true c.step-item.is) more.stays l.invariant.1 more.outside,
       more.whole,
-      λ table row h. more.stays table row (l.invariant.3 table row h),
-      telling_next start c.args.steps.now l.step-index s c.args.trail.now.traces.items l.trail.traces.items c.args.trail.now.inverse l.trail.inverse l.invariant.4
+      telling_next start c.args.steps.now l.step-index s c.args.trail.now.traces.items l.trail.traces.items c.args.trail.now.inverse l.trail.inverse l.invariant.2
           x t c.do_one.new.trail.traces.items c.do_one.new.trail.inverse c.loop-step-test.true c.step-item.is more.done more.told,
     )
 
 pub returns-clause-told : goal.returns-clause-told
 returns-clause-told g c =
     let l = c.loop-step in
-    telling_ends (g.D.DocReader.document c.args.doc.now) c.args.steps.now l.step-index (g.D.DocReader.document l.doc) c.args.trail.now.traces.items l.trail.traces.items c.args.trail.now.inverse l.trail.inverse l.invariant.4 (omega (arith, c.loop-step-test.false))
+    telling_ends (g.D.DocReader.document c.args.doc.now) c.args.steps.now l.step-index (g.D.DocReader.document l.doc) c.args.trail.now.traces.items l.trail.traces.items c.args.trail.now.inverse l.trail.inverse l.invariant.2 (omega (arith, c.loop-step-test.false))

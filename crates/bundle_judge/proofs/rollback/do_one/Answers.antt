@@ -1,16 +1,11 @@
 use Rattle.std.proofs.Common.{List, [], ◌∷◌, ◌++◌, map, sym, ap, subst, ◌∙◌}
-use Rattle.std.proofs.lemmas.Result.{on_ok_weaker}
-use Rattle.cell_types.specs.declared.cell.CellOld.{CellOld}
 use Rattle.doc_model.specs.Apply.{apply}
 use Rattle.doc_model.specs.Document.{Document}
 use Rattle.doc_model.specs.Inverse.{inverse}
 use Rattle.recalc.specs.Lost.{lost}
 use Rattle.undo_bundles.specs.InverseSteps.{marked}
 use Rattle.evaluated_doc.specs.WayBack.{Changed, IsWayBack}
-use Rattle.bundle_judge.specs.ChangedCells.{AreNoted}
-use Rattle.bundle_judge.specs.Losses.{AreTold}
 use Rattle.bundle_judge.specs.Rollback.{AllLeadBack, gone_back, led_back}
-use Rattle.bundle_judge.proofs.ChangedLemmas.{outside_one}
 use Rattle.bundle_judge.proofs.LossLemmas.{told_last}
 use Rattle.bundle_judge.proofs.RollbackLemmas.{AllFit-last, rolled_back-last}
 use Rattle.bundle_judge.proofs.rollback.do_one.Goals as goal
@@ -34,26 +29,14 @@ returns-clause-back g c =
     ∙ rolled_back-last (led_back fits undone) (IsWayBack fits undone) c.args.trail.now.traces.items c.in_ok-trace.trace t
     ∙ ap (gone_back fits undone c.args.trail.now.traces.items) c.in_ok-trace.ensures.back
 
-pub returns-clause-outside : goal.returns-clause-outside
-returns-clause-outside g c =
-    let s = g.D.DocReader.document c.args.doc.now in
-    let t = g.D.DocReader.document c.put.new.self in
-    let changed = c.note_rows-noted.new.changed.items in
-    let trace = c.in_ok-trace.ensures in
-    let P : List CellOld → Type 0 = λ l. AreNoted l changed in
-    on_ok_weaker c.note_rows-noted.result (λ (noted : AreNoted c.cells.result.now changed).
-    outside_one c.outside_law.ensures s c.args.step.now.action t c.in_ok-trace.trace.cells changed c.requires.whole c.requires.valid trace.ok trace.cells (subst P c.cells.ensures noted)) c.note_rows-noted.ensures.noted
-
 pub returns-clause-told : goal.returns-clause-told
 returns-clause-told g c =
     let s = g.D.DocReader.document c.args.doc.now in
     let x = c.args.step.now in
     let a = x.action in
-    let changed = c.note_rows-noted.new.changed.items in
-    let told : AreTold s (x ∷ []) c.args.trail.now.traces.items c.push_reserved.new.self.items c.args.trail.now.inverse c.note.new.self = record {
+    record {
       cells = told_last c.args.trail.now.traces.items c.push_reserved.new.self.items c.in_ok-trace.trace (lost s (apply s a) a)
           (c.push_reserved.ensures.items ∙ ap (λ l. l ++ c.in_ok-trace.trace ∷ []) c.in_ok-reserve.ensures.items)
           (c.in_ok-trace.ensures.cells ∙ ap (λ t. lost s t a) c.in_ok-trace.ensures.ok);
       inverse = c.in_ok-note.ensures ∙ ap (λ d. map (marked x.direct) (inverse (g.D.DocReader.document d) a) ++ c.args.trail.now.inverse) c.tables.ensures.value;
-    } in
-    on_ok_weaker c.note_rows-noted.result (λ (_ : AreNoted c.cells.result.now changed). told) c.note_rows-noted.ensures.noted
+    }

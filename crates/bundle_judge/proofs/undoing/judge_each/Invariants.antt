@@ -1,8 +1,5 @@
-use Rattle.std.proofs.Common.{◌≡◌, map, take}
+use Rattle.std.proofs.Common.{◌≡◌, take}
 use Rattle.doc_model.specs.DocumentLaws.{IsWhole}
-use Rattle.recalc.specs.Evaluated.{filled}
-use Rattle.user_actions.specs.StepLaws.{action_of}
-use Rattle.view_parts.specs.PartLaws.{AreSameOutside}
 use Rattle.bundle_judge.specs.CarriedContexts.{carried_context, is_kept}
 use Rattle.bundle_judge.specs.Losses.{AreTold}
 use Rattle.bundle_judge.specs.Rollback.{AllLeadBack, gone_back}
@@ -12,7 +9,6 @@ use Rattle.bundle_judge.proofs.undoing.judge_each.Given as goal
 abbrev pub invariant-loop-index : goal.invariant-loop-index
 invariant-loop-index g l =
     IsUndoAt (carried_context l.initial.carried) (g.D.DocReader.document l.initial.doc) l.steps l.index (carried_context l.carried) (g.D.DocReader.document l.doc) l.tally
-    × AreSameOutside (map action_of l.steps) l.changed.items (filled (g.D.DocReader.document l.initial.doc)) (filled (g.D.DocReader.document l.doc))
     × IsWhole (g.D.DocReader.document l.doc)
     × AllLeadBack g.D.DocTables.fits g.D.DocTables.undone l.trail.traces.items (g.D.DocReader.document l.doc)
     × (gone_back g.D.DocTables.fits g.D.DocTables.undone l.trail.traces.items (g.D.DocReader.document l.doc) ≡ g.D.DocReader.document l.initial.doc)

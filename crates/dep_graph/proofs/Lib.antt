@@ -1,4 +1,5 @@
 pub mod LinkLaws
 pub mod NameLaws
+pub mod OfNames
 pub mod ReaderLaws
 pub mod RecordLaws

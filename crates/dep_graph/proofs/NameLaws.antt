@@ -1,5 +1,5 @@
 -- Numbers of names, and of what is read, as more names are given numbers.
-use Rattle.std.proofs.Common.{ℕ, zero, suc, Bool, true, false, cond, List, [], ◌∷◌, ◌++◌, ◌+◌, map, take, get_or, length, Option, Some, None, slice_get, ◌≡◌, ◌<◌, ◌≤◌, refl, sym, ap, ◌∙◌, subst, arith}
+use Rattle.std.proofs.Common.{ℕ, zero, suc, Bool, true, false, cond, List, [], ◌∷◌, ◌++◌, ◌+◌, map, take, get_or, length, Option, Some, None, slice_get, ◌≡◌, ◌<◌, ◌≤◌, ◌⊎◌, inl, inr, refl, sym, ap, ◌∙◌, subst, arith}
 use Rattle.std.specs.Option.{option_map, option_or}
 use Rattle.std.specs.Str.{bytes_eq}
 use Rattle.std.proofs.lemmas.Slice.Eq.{bytes_eq-Decides}
@@ -10,7 +10,7 @@ use Rattle.dep_graph.specs.declared.numbers.ReadNumber.{ReadNumber}
 use Rattle.dep_graph.specs.declared.numbers.ReadNumber.TheVariants as read
 use Rattle.dep_graph.specs.declared.numbers.CellNumber.{CellNumber}
 use Rattle.dep_graph.specs.declared.numbers.ColumnNumber.{ColumnNumber}
-use Rattle.dep_graph.specs.Names.{IsGrown, NumberLaw, number_in}
+use Rattle.dep_graph.specs.Names.{AreNumbered, IsGrown, NumberLaw, number_in}
 use Rattle.dep_graph.specs.Sources.{AreNumbers, Source, all_source, cell_in, column_in, column_of, part_source, read_source, source_in, sources, sources_of, value_source}
 
 -- ---- names
@@ -72,6 +72,22 @@ grown_added names name none = record {
     new : (q : List ℕ) (n : ℕ) → number_in names q ≡ None → (b : Bool) → cond b (Some (length names)) (number_in names q) ≡ Some n → length names ≤ n
     new q n was true is = let same : length names ≡ n = cc in omega arith
     new q n was false is = absurd (none≢some n (sym was ∙ is))
+
+-- what stands in a list with one more, last
+there_or_last : (names : List (List ℕ)) (name : List ℕ) (n : ℕ) (q : List ℕ) → slice_get (names ++ name ∷ []) n ≡ Some q → (slice_get names n ≡ Some q) ⊎ ((n ≡ length names) × (name ≡ q))
+there_or_last [] name zero q h = let same : name ≡ q = cc in inr (refl, same)
+there_or_last [] name (suc n) q h = absurd (cc)
+there_or_last (m ∷ names) name zero q h = inl h
+there_or_last (m ∷ names) name (suc n) q h = elim (there_or_last names name n q h) [
+  | inl there ↦ inl there
+  | inr last ↦ inr (ap suc last.0, last.1)
+]
+
+pub numbered_added : (names : List (List ℕ)) (name : List ℕ) → number_in names name ≡ None → AreNumbered names → AreNumbered (names ++ name ∷ [])
+numbered_added names name none numbered n q h = elim (there_or_last names name n q h) [
+  | inl there ↦ (grown_added names name none).stays q n (numbered n q there)
+  | inr last ↦ added_number names name none q ∙ ap (λ b. cond b (Some (length names)) (number_in names q)) ((bytes_eq-Decides name q).1 last.1) ∙ ap (λ k. Some k) (sym last.0)
+]
 
 pub grown_same : (names : List (List ℕ)) → IsGrown names names
 grown_same names = record { stays = λ q n h. h; follows = λ q n was is. absurd (none≢some n (sym was ∙ is)); longer = omega arith }

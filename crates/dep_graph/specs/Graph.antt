@@ -38,5 +38,8 @@ pub record IsKept (old new : Graph) : Type 0 where
 pub record IsDropped (old new : Graph) (reader : CellId) : Type 0 where
   pub names : new.names ≡ old.names
   pub unknown : cell_in old.names reader ≡ None → HasSameReads old.reads new.reads
+  -- nor will it read anything for getting a number
+  pub later : cell_in old.names reader ≡ None → (names : List (List ℕ)) (k : CellNumber)
+      → IsGrown old.names names → cell_in names reader ≡ Some k → reads_under old.reads k ≡ []
   pub known : (k : CellNumber) → cell_in old.names reader ≡ Some k
       → IsRecorded old.reads new.reads k []

@@ -19,3 +19,8 @@ pub record IsGrown (old new : List (List ℕ)) : Type 0 where
 abbrev pub NumberLaw : Type 0
 NumberLaw = (names : List (List ℕ)) (name : List ℕ) (n : ℕ)
     → number_in names name ≡ Some n → slice_get names n ≡ Some name
+
+-- each name has the number of its place, so none stands twice
+abbrev pub AreNumbered : List (List ℕ) → Type 0
+AreNumbered names = (n : ℕ) (name : List ℕ)
+    → slice_get names n ≡ Some name → number_in names name ≡ Some n

@@ -1,5 +1,5 @@
 -- The reads of each cell, and the cells of each read as their inverse.
-use Rattle.std.specs.Prelude.{Bool, true, cond, not, ◌&&◌, ◌||◌, List, Vec, ◌≡◌}
+use Rattle.std.specs.Prelude.{ℕ, Bool, true, cond, not, ◌&&◌, ◌||◌, List, [], length, Vec, ◌≡◌, ◌≤◌, ◌⊎◌}
 use Rattle.std.specs.Global.{Global}
 use Rattle.std.specs.List.{list_any}
 use Rattle.std.specs.Map.{lookup}
@@ -25,6 +25,12 @@ abbrev pub IsRecorded : List (CellNumber × Vec ReadNumber Global)
     → List (CellNumber × Vec ReadNumber Global) → CellNumber → List ReadNumber → Type 0
 IsRecorded old new cell reads = (c : CellNumber)
     → reads_under new c ≡ cond (is_cell cell c) reads (reads_under old c)
+
+-- only cells whose table and column have numbers have reads
+abbrev pub AreOfNames : List (List ℕ) → List (CellNumber × Vec ReadNumber Global) → Type 0
+AreOfNames names reads = (c : CellNumber)
+    → (length names ≤ c.column.table) ⊎ (length names ≤ c.column.column)
+    → reads_under reads c ≡ []
 
 -- each cell has the reads that it had
 abbrev pub HasSameReads : List (CellNumber × Vec ReadNumber Global)

@@ -1,6 +1,6 @@
 //! The graph of reads.
 
-ghost use Rattle.std.specs.Prelude.{◌≡◌, [], ℕ, true, OnOk, OnErr, Some, slice_get};
+ghost use Rattle.std.specs.Prelude.{◌≡◌, [], ℕ, true, IfSome, OnOk, OnErr, Some, slice_get};
 ghost use Rattle.std.specs.Option.{option_copied};
 ghost use Rattle.doc_model.specs.Rows.{has, IsAscending};
 ghost use Rattle.std.specs.List.{list_any};
@@ -34,13 +34,14 @@ pub struct DepGraph {
 
 impl Model for DepGraph {
     ghost use Rattle.dep_graph.specs.Graph.{Graph};
-    ghost use Rattle.dep_graph.specs.Records.{IsInverse};
+    ghost use Rattle.dep_graph.specs.Records.{AreOfNames, IsInverse};
 
     ghost Value = { Graph };
 
     ghost view = { λ g. record { names = g.names; reads = g.reads.entries } };
 
-    ghost invariant = { λ g. IsInverse g.reads.entries g.readers };
+    ghost invariant = { λ g. IsInverse g.reads.entries g.readers
+        × AreOfNames g.names g.reads.entries };
 }
 
 impl DepGraph {
@@ -108,11 +109,12 @@ impl DepGraph {
         Some(ColumnNumber { table, column })
     }
 
-    /// The name of a number.
+    /// The name of a number, which is the number of no other name.
     ///
     /// Memory: none.
     pub fn name(&self, number: u32) -> Option<&Name>
-        ensures { option_copied result ≡ slice_get self.now.names number }
+        ensures name { option_copied result ≡ slice_get self.now.names number }
+        ensures number { IfSome result (λ name. number_in self.now.names name.now ≡ Some number) }
     {
         self.names.name(number)
     }

@@ -158,7 +158,7 @@ pub(crate) fn note_numbers(
     ensures ok { IfOk result (λ reads. AreNumbers names.new (sources notes.now) reads.items) }
     ensures grown { IsGrown names.old names.new }
 {
-    let mut reads = Vec::new(alloc);
+    let mut reads = Vec::with_capacity(alloc, notes.len())?;
     for note in notes {
         push_note(names, note, &mut reads)?;
     }

@@ -1,6 +1,6 @@
 //! Attributes of records and sets of records, and what may stand in a list.
 
-ghost use Rattle.std.specs.Prelude.{◌≡◌, ◌++◌, ◌∷◌, [], IfOk, map};
+ghost use Rattle.std.specs.Prelude.{◌≡◌, ◌++◌, ◌∷◌, [], None, Some, IfOk, MatchOption, map};
 ghost use Rattle.cell_types.specs.Reference.{row_items};
 ghost use Rattle.value_ops.specs.Joined.{bounded_list};
 ghost use Rattle.formula_parse.specs.Lexemes.{is_id, id_word};
@@ -11,9 +11,9 @@ ghost use Rattle.formula_eval.specs.Attribute.{item_of, as_item, listed, column_
 ghost use Rattle.formula_eval.specs.Halted.{Comes, ComesAs, IsOut, IsOutAs};
 
 use crate::halt::Halt;
-use crate::reading::read_cell;
+use crate::reading::{read_cell, read_typed};
 use crate::{CellReader, NoteKeeper};
-use cell_types::{CellItem, CellList, CellValue, ErrKind, Name, RowRef, RowSet};
+use cell_types::{CellItem, CellList, CellValue, ColType, ErrKind, Name, RowRef, RowSet};
 use std::alloc::{AllocError, Global};
 use value_ops::MAX_JOINED_ITEMS;
 
@@ -125,9 +125,10 @@ fn column_items<R: CellReader, N: NoteKeeper>(
     ensures { ComesAs (λ v. v.items) result (N.noted notes.old) (N.noted notes.new)
         (collect (map as_item (column_runs (R.told reader.now) table.now column.now rows.now))) }
 {
-    let mut items = Vec::new(alloc);
+    let ty = reader.ty(table, column);
+    let mut items = Vec::with_capacity(alloc, rows.len())?;
     for row in rows {
-        let item = read_item(alloc, reader, table, column, *row, notes)?;
+        let item = read_item(alloc, reader, table, column, ty, *row, notes)?;
         items.push(item)?;
     }
     Ok(items)
@@ -138,11 +139,14 @@ fn read_item<R: CellReader, N: NoteKeeper>(
     reader: &R,
     table: &Name,
     column: &Name,
+    ty: Option<&ColType>,
     row: u32,
     notes: &mut N,
 ) -> Result<CellItem, Halt>
+    requires { MatchOption ty ((R.told reader.now).kind table.now column.now ≡ None)
+        (λ ty. (R.told reader.now).kind table.now column.now ≡ Some ty.now) }
     ensures { ComesAs (λ i. i) result (N.noted notes.old) (N.noted notes.new)
         (as_item (read_cell (R.told reader.now) (cell_at table.now column.now row))) }
 {
-    item_of(read_cell(alloc, reader, table, column, row, notes)?)
+    item_of(read_typed(alloc, reader, table, column, ty, row, notes)?)
 }

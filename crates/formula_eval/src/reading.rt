@@ -1,6 +1,6 @@
 //! The reads of cells.
 
-ghost use Rattle.std.specs.Prelude.{◌≡◌, ◌++◌, ◌∷◌, [], Err, IfOk, OnOk, OnErr, option_map, ⊤};
+ghost use Rattle.std.specs.Prelude.{◌≡◌, ◌++◌, ◌∷◌, [], Err, None, Some, IfOk, MatchOption, OnOk, OnErr, option_map, ⊤};
 ghost use Rattle.cell_types.specs.Conversion.{default_value};
 ghost use Rattle.cell_types.specs.Reference.{row_number, no_zero};
 ghost use Rattle.formula_eval.specs.Reader.{cell_at};
@@ -35,15 +35,41 @@ pub(crate) fn read_cell<R: CellReader, N: NoteKeeper>(
     ensures { Comes result (N.noted notes.old) (N.noted notes.new)
         (read_cell (R.told reader.now) (cell_at table.now column.now row)) }
 {
+    read_typed(
+        alloc,
+        reader,
+        table,
+        column,
+        reader.ty(table, column),
+        row,
+        notes,
+    )
+}
+
+/// The same, where the type of the column is told.
+pub(crate) fn read_typed<R: CellReader, N: NoteKeeper>(
+    alloc: Global,
+    reader: &R,
+    table: &Name,
+    column: &Name,
+    ty: Option<&ColType>,
+    row: u32,
+    notes: &mut N,
+) -> Result<CellValue, Halt>
+    requires { MatchOption ty ((R.told reader.now).kind table.now column.now ≡ None)
+        (λ ty. (R.told reader.now).kind table.now column.now ≡ Some ty.now) }
+    ensures { Comes result (N.noted notes.old) (N.noted notes.new)
+        (read_cell (R.told reader.now) (cell_at table.now column.now row)) }
+{
     notes.cell(table, column, row)?;
     match reader.cell(table, column, row) {
         Reading::Need => Err(Halt::Need(cell_id(table, column, row)?)),
         Reading::Known(CellValue::Err(ErrKind::Circular)) => Err(Halt::Circular),
-        Reading::Known(value) => match reader.ty(table, column) {
+        Reading::Known(value) => match ty {
             Some(ty) => known(alloc, ty, value),
             None => Err(Halt::Raised(ErrKind::Attribute)),
         },
-        Reading::NoRow => match reader.ty(table, column) {
+        Reading::NoRow => match ty {
             Some(ty) => Ok(default_read(alloc, ty)?),
             None => Err(Halt::Raised(ErrKind::Attribute)),
         },
@@ -80,7 +106,8 @@ pub fn as_read(alloc: Global, ty: &ColType, value: &CellValue) -> Result<CellVal
     }
 }
 
-fn row_number(number: i64) -> Option<u32>
+/// The row id that a number is, where it is one.
+pub(crate) fn row_number(number: i64) -> Option<u32>
     ensures { result ≡ row_number number }
 {
     u32::try_from(number).ok()

@@ -1,18 +1,19 @@
 //! Lookups over any source of cells, by a look at every key's cell in every row.
 
-ghost use Rattle.std.specs.Prelude.{◌≡◌, ◌&&◌, ◌∷◌, ℕ, Bool, List, IfOk, reverse};
+ghost use Rattle.std.specs.Prelude.{◌≡◌, ◌&&◌, ◌∷◌, ℕ, Bool, List, IfOk, map, reverse};
 ghost use Rattle.std.specs.List.{list_all, list_any};
 ghost use Rattle.cell_types.specs.Item.{value_of_item};
 ghost use Rattle.formula_eval.specs.Asked.{IsMatching};
 ghost use Rattle.value_ops.specs.Equality.{is_row_of};
 ghost use Rattle.formula_eval.specs.Lookup.{agrees, holds, is_key_column, kept_row, key_met, matched, meets, row_met, scan, told_meets, value_meets};
 ghost use Rattle.formula_eval.specs.Reader.{known};
+ghost use Rattle.formula_eval.specs.Reading.{as_record};
 ghost use Rattle.formula_eval.specs.Run.{Out, both, gives};
 ghost use Rattle.formula_eval.specs.Scanned.{IsMet, IsScanned};
 
 use crate::attribute::is_id;
 use crate::lookup::is_key_column;
-use crate::reading::{as_read, cell_id};
+use crate::reading::{as_read, cell_id, row_number};
 use crate::{CellSource, Matching, Reading};
 use cell_types::{
     CellId, CellItem, CellValue, ColType, ErrKind, KeyItem, KeyList, Name, RowList, RowSet, Same,
@@ -119,12 +120,63 @@ fn value_meets(key: &KeyItem, held: &CellValue) -> bool
     }
 }
 
-// Whether a cell of a column of the type meets the key, as it is read.
+// Whether a cell of a column of references meets the key, as it is read.
+fn reference_meets(key: &KeyItem, table: &Name, value: &CellValue) -> bool
+    ensures { result ≡ value_meets key.now (as_record table.now value.now) }
+{
+    let CellValue::Int(number) = value else {
+        return value_meets(key, value);
+    };
+    match row_number(*number) {
+        Some(row) => !key.contains && row_agrees(table, row, &key.value),
+        None => value_meets(key, value),
+    }
+}
+
+// Whether a cell of a column of the type meets the key, as it is read. Only a list of references is
+// copied for that.
 fn is_met(alloc: Global, key: &KeyItem, ty: &ColType, value: &CellValue) -> Result<bool, AllocError>
     ensures { IfOk result (λ met. met ≡ told_meets key.now (Some ty.now) (known value.now)) }
 {
-    let read = as_read(alloc, ty, value)?;
-    Ok(value_meets(key, &read))
+    match ty {
+        ColType::Ref(table) => Ok(reference_meets(key, table, value)),
+        ColType::RefList(_) => {
+            let read = as_read(alloc, ty, value)?;
+            Ok(value_meets(key, &read))
+        }
+        _ => Ok(value_meets(key, value)),
+    }
+}
+
+fn type_of<S: CellSource>(
+    source: &S,
+    table: &Name,
+    column: &Name,
+) -> Result<Option<ColType>, AllocError>
+    ensures { IfOk result (λ ty. ty ≡ (S.told source.now).kind table.now column.now) }
+{
+    match source.ty(table, column) {
+        Some(ty) => Ok(Some(ty.clone()?)),
+        None => Ok(None),
+    }
+}
+
+// The types of the keys' columns, which are the same for each row.
+fn types_of<S: CellSource>(
+    alloc: Global,
+    source: &S,
+    table: &Name,
+    keys: &[KeyItem],
+) -> Result<Vec<Option<ColType>>, AllocError>
+    ensures { IfOk result (λ types. types.items
+        ≡ map (λ k. (S.told source.now).kind table.now k.column) keys.now) }
+{
+    let mut types = Vec::with_capacity(alloc, keys.len())?;
+    for key in keys {
+        let ty = type_of(source, table, &key.column)?;
+        types.push(ty)?;
+    }
+    Ok(types)
 }
 
 fn met_if(met: bool) -> Met
@@ -133,14 +185,16 @@ fn met_if(met: bool) -> Met
     if met { Met::Yes } else { Met::No }
 }
 
-// Whether a row meets a key. The row is its own cell in `id`.
+// Whether a row meets a key, whose column has the type. The row is its own cell in `id`.
 fn key_met<S: CellSource>(
     alloc: Global,
     source: &S,
     table: &Name,
     row: u32,
     key: &KeyItem,
+    ty: &Option<ColType>,
 ) -> Result<Met, AllocError>
+    requires { ty.now ≡ (S.told source.now).kind table.now key.now.column }
     ensures { IfOk result
         (λ met. IsMet met (key_met (S.told source.now) table.now row key.now)) }
 {
@@ -150,7 +204,7 @@ fn key_met<S: CellSource>(
     match source.cell(table, &key.column, row) {
         Reading::Need => Ok(Met::Need(cell_id(table, &key.column, row)?)),
         Reading::Known(CellValue::Err(ErrKind::Circular)) => Ok(Met::Circular),
-        Reading::Known(value) => match source.ty(table, &key.column) {
+        Reading::Known(value) => match ty {
             Some(ty) => Ok(met_if(is_met(alloc, key, ty, value)?)),
             None => Ok(Met::No),
         },
@@ -183,15 +237,20 @@ fn row_met<S: CellSource>(
     table: &Name,
     row: u32,
     keys: &[KeyItem],
+    types: &[Option<ColType>],
 ) -> Result<Met, AllocError>
+    requires { types.now ≡ map (λ k. (S.told source.now).kind table.now k.column) keys.now }
     ensures { IfOk result
         (λ met. IsMet met (row_met (S.told source.now) table.now row keys.now)) }
 {
     let Some((key, rest)) = keys.split_first() else {
         return Ok(Met::Yes);
     };
-    let first = key_met(alloc, source, table, row, key)?;
-    match row_met(alloc, source, table, row, rest) {
+    let Some((ty, types)) = types.split_first() else {
+        unreachable!();
+    };
+    let first = key_met(alloc, source, table, row, key, ty)?;
+    match row_met(alloc, source, table, row, rest, types) {
         Ok(others) => Ok(both_met(first, others)),
         Err(error) => {
             drop(first);
@@ -244,12 +303,13 @@ fn scan_rows<S: CellSource>(
     ensures { IfOk result
         (λ found. IsScanned found (scan (S.told source.now) table.now keys.now rows.now)) }
 {
+    let types = types_of(alloc, source, table, keys)?;
     let mut found = Scanned::Rows(Vec::new(alloc));
     let mut index = rows.len();
     while index > 0 {
         index -= 1;
         let row = rows[index];
-        let met = row_met(alloc, source, table, row, keys)?;
+        let met = row_met(alloc, source, table, row, keys, &types)?;
         found = kept(row, met, found)?;
     }
     Ok(found)
@@ -284,7 +344,8 @@ fn in_order(rows: Vec<u32>) -> RowList
 /// Which of the given rows of a table meet all the keys of a lookup.
 ///
 /// Errors: want of memory.
-/// Memory: the rows that are found, and a copy of each cell that is compared.
+/// Memory: the rows that are found, the types of the keys' columns, and a copy of each list of
+/// references that is compared.
 /// Cost: each key's cell in each of the rows.
 pub fn scan_among<S: CellSource>(
     alloc: Global,
@@ -303,7 +364,8 @@ pub fn scan_among<S: CellSource>(
 /// The rows that meet all the keys of a lookup, for a source without an index.
 ///
 /// Errors: want of memory.
-/// Memory: the rows that are found, and a copy of each cell that is compared.
+/// Memory: the rows that are found, the types of the keys' columns, and a copy of each list of
+/// references that is compared.
 /// Cost: each key's cell in each row of the table.
 pub fn scan<S: CellSource>(
     alloc: Global,

@@ -1,7 +1,10 @@
 -- One step of a walk over keys and the values beside them.
-use Rattle.std.proofs.Common.{ℕ, zero, suc, Bool, true, false, List, [], ◌∷◌, ◌+◌, filter, take, drop, ◌++◌, get_or, length, ◌≡◌, ◌<◌, refl, sym, ap, ◌∙◌, Option, Some, None, slice_get}
+use Rattle.std.proofs.Common.{ℕ, zero, suc, Bool, true, false, ◌&&◌, nat_eq, List, [], ◌∷◌, ◌+◌, filter, take, drop, ◌++◌, get_or, length, ◌≡◌, ◌<◌, refl, sym, ap, ◌∙◌, Option, Some, None, slice_get}
 use Rattle.std.proofs.lemmas.List.{drop_more, take_more, drop-drop}
 use Rattle.std.proofs.lemmas.List.Elements.{filter-append}
+use Rattle.std.proofs.lemmas.Bool.{eq-eqb}
+use Rattle.std.proofs.lemmas.Slice.Eq.{bytes_eq-Decides}
+use Rattle.std.specs.Str.{bytes_eq}
 use Rattle.doc_model.specs.Grid.{beside}
 use Rattle.row_tables.specs.Kept.{found_beside}
 use Rattle.doc_model.proofs.Choices.{cond_true, cond_false}
@@ -59,3 +62,19 @@ pub filter_step : {X : Type 0} (p : X → Bool) (xs : List X) (i : ℕ) (x : X) 
 filter_step p xs i x ys zs l e h q =
     q ∙ ap (λ l. l ++ filter p (x ∷ [])) h ∙ sym (filter-append p (take i xs) (x ∷ []))
     ∙ ap (λ y. filter p (take i xs ++ y ∷ [])) e ∙ ap (filter p) (sym (take_more xs i x l))
+
+-- ---- ids whose lengths are compared first
+
+pub lengths_first : (a b : List ℕ) → (nat_eq (length a) (length b) && bytes_eq a b) ≡ bytes_eq a b
+lengths_first a b = by_test (bytes_eq a b) refl
+  where
+    by_test : (t : Bool) → bytes_eq a b ≡ t → (nat_eq (length a) (length b) && t) ≡ t
+    by_test true e = ap (λ u. u && true) (eq-eqb (length a) (length b) (ap length ((bytes_eq-Decides a b).0 e)))
+    by_test false e = elim (nat_eq (length a) (length b)) as (λ u. (u && false) ≡ false) [ true ↦ refl | false ↦ refl ]
+
+pub other_lengths : (a b : List ℕ) → (length a ≡ length b → ⊥) → bytes_eq a b ≡ false
+other_lengths a b other = by_test (bytes_eq a b) refl
+  where
+    by_test : (t : Bool) → bytes_eq a b ≡ t → t ≡ false
+    by_test true e = absurd (other (ap length ((bytes_eq-Decides a b).0 e)))
+    by_test false e = refl

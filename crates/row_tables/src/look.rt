@@ -1,6 +1,6 @@
 //! Cells found by their rows and columns.
 
-ghost use Rattle.std.specs.Prelude.{◌≡◌, nat_eq, [], None};
+ghost use Rattle.std.specs.Prelude.{◌≡◌, true, nat_eq, [], None, Some, slice_get, unwrap_or};
 ghost use Rattle.std.specs.Option.{option_copied};
 ghost use Rattle.std.specs.Str.{bytes_eq};
 ghost use Rattle.doc_model.specs.Column.{column_id};
@@ -28,20 +28,58 @@ pub(crate) fn cells_of_row<'a>(rows: &[u32], cells: &'a [ValueList], row: u32) -
     &[]
 }
 
-/// The cells of a row among ascending ones; none where there is no such row.
-///
-/// Memory: none. Cost: the logarithm of the number of rows.
-pub(crate) fn search_cells<'a>(rows: &[u32], cells: &'a [ValueList], row: u32) -> &'a [CellValue]
-    requires { IsAscending rows.now }
-    ensures { result.now ≡ beside (λ q. nat_eq q row) rows.now cells.now [] }
+// Whether the row stands at the index.
+fn stands_at(rows: &[u32], index: usize, row: u32) -> bool
+    ensures { result ≡ true → slice_get rows.now index ≡ Some row }
 {
-    let Ok(index) = search_row(rows, row) else {
-        return &[];
-    };
+    match rows.get(index) {
+        Some(found) => *found == row,
+        None => false,
+    }
+}
+
+// The index of a row among rows from 1 on without a gap.
+fn dense_index(row: u32) -> usize {
+    let row = row as usize;
+    if row == 0 { 0 } else { row - 1 }
+}
+
+// The cells at an index; none past the end.
+fn cells_at(cells: &[ValueList], index: usize) -> &[CellValue]
+    ensures { result.now ≡ unwrap_or (slice_get cells.now index) [] }
+{
     match cells.get(index) {
         Some(list) => list.as_slice(),
         None => &[],
     }
+}
+
+/// The cells of a row among ascending ones; none where there is no such row.
+///
+/// Memory: none. Cost: the logarithm of the number of rows, and nothing where they have no gap.
+pub(crate) fn search_cells<'a>(rows: &[u32], cells: &'a [ValueList], row: u32) -> &'a [CellValue]
+    requires { IsAscending rows.now }
+    ensures { result.now ≡ beside (λ q. nat_eq q row) rows.now cells.now [] }
+{
+    // Most tables have no gap.
+    let dense = dense_index(row);
+    if stands_at(rows, dense, row) {
+        return cells_at(cells, dense);
+    }
+    match search_row(rows, row) {
+        Ok(index) => cells_at(cells, index),
+        Err(_) => &[],
+    }
+}
+
+/// Whether two ids are the same.
+#[tactic(auto, using(crate::proofs::Walks::lengths_first, crate::proofs::Walks::other_lengths))]
+pub(crate) fn is_same_id(left: &Name, right: &Name) -> bool
+    ensures { result ≡ bytes_eq left.now right.now }
+{
+    // Lengths first: they differ mostly, and cost least.
+    let (left, right) = (left.as_str(), right.as_str());
+    left.len() == right.len() && left == right
 }
 
 /// The cell of a column among the cells of a row; nothing where there is no such column.
@@ -56,7 +94,7 @@ pub(crate) fn cell_in_row<'a>(
         ≡ found_beside (λ d. bytes_eq (column_id d) id.now) columns.now cells.now }
 {
     for (index, column) in columns.iter().enumerate() {
-        if column.id.as_str() == id.as_str() {
+        if is_same_id(&column.id, id) {
             return cells.get(index);
         }
     }

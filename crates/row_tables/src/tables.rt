@@ -10,6 +10,7 @@ ghost use Rattle.row_tables.specs.Known.{empty_table};
 
 use crate::RowTable;
 use crate::known::Known;
+use crate::look::is_same_id;
 use crate::metadata::empty_table;
 use crate::put::{Replaced, action_put, put_back};
 use crate::schema::{schema_tables, swap_schema};
@@ -70,9 +71,7 @@ fn new_tables(alloc: Global) -> Result<Vec<RowTable>, AllocError>
 fn find_table<'a>(tables: &'a [RowTable], id: &Name) -> Option<&'a RowTable>
     ensures { option_copied result ≡ find_id table_id id.now tables.now }
 {
-    tables
-        .iter()
-        .find(|table| table.id().as_str() == id.as_str())
+    tables.iter().find(|table| is_same_id(table.id(), id))
 }
 
 impl RowTables {

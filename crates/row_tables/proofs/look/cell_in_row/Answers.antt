@@ -1,4 +1,4 @@
-use Rattle.std.proofs.Common.{sym, ap, ◌∙◌}
+use Rattle.std.proofs.Common.{sym, ◌∙◌}
 use Rattle.std.specs.Str.{bytes_eq}
 use Rattle.doc_model.specs.Column.{column_id}
 use Rattle.row_tables.proofs.Walks.{found_skip}
@@ -8,5 +8,5 @@ pub loop-index-preserved : goal.loop-index-preserved
 loop-index-preserved c =
     found_skip (λ d. bytes_eq (column_id d) c.args.id.now) c.args.columns.now c.args.cells.now c.loop-index.index c.index-columns-index.result c.loop-index-test.true
     c.index-columns-index.is
-    (sym (ap (λ n. bytes_eq n c.args.id.now) c.as_str.ensures.value) ∙ sym (ap (bytes_eq c.as_str.result.now) c.as_str-in-loop-index.ensures.value) ∙ sym c.eq.ensures ∙ c.if-eq.false)
+    (sym c.is_same_id.ensures ∙ c.if-is_same_id.false)
     ∙ c.loop-index.invariant

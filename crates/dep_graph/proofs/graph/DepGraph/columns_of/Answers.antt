@@ -7,4 +7,4 @@ use Rattle.dep_graph.proofs.graph.DepGraph.columns_of.Goals as goal
 pub returns : goal.returns
 returns c d h =
     subst (λ columns. list_any (is_column d.column) columns ≡ true) (sym c.columns.ensures.columns)
-    (c.columns.ensures.whole c.args.read d (c.self.invariant c.args.read d ∙ ap (λ g. holds (reads_under g.reads d) c.args.read) c.self.view_is ∙ h))
+    (c.columns.ensures.whole c.args.read d (c.self.invariant.0 c.args.read d ∙ ap (λ g. holds (reads_under g.reads d) c.args.read) c.self.view_is ∙ h))

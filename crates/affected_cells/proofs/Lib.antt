@@ -18,3 +18,4 @@ pub mod TableActions
 pub mod AddedTable
 pub mod RemovedTable
 pub mod RenamedTable
+pub mod Needed

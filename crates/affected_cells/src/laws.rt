@@ -1,5 +1,6 @@
 //! Laws of cells that a change does not affect.
 
+ghost use Rattle.affected_cells.specs.Bound.{NeededLaw};
 ghost use Rattle.affected_cells.specs.Laws.{KeepsLaw, StillKnownLaw};
 ghost use Rattle.affected_cells.specs.Met.{MetLaw};
 ghost use Rattle.affected_cells.specs.Noted.{UnaffectedNotesLaw};
@@ -30,4 +31,10 @@ pub fn keeps_law()
 /// The values before, of cells that an action does not affect, are right after it.
 pub fn still_known_law()
     ensures { StillKnownLaw }
+{}
+
+/// A cell that an attempt needs, where what is known is right, is named by the reads that the
+/// attempted cell makes over the evaluated cells.
+pub fn needed_law()
+    ensures { NeededLaw }
 {}

@@ -1,9 +1,12 @@
 pub mod ActionLaws
 pub mod ColumnLaws
+pub mod ExactNotes
 pub mod FoundLaws
+pub mod ListedTouched
 pub mod LosingLaws
 pub mod NarrowLaws
 pub mod NotedLaws
+pub mod NumbersHeld
 pub mod ReachedLaws
 pub mod RecordReads
 pub mod RecordingLaws
@@ -12,6 +15,6 @@ pub mod RowFlats
 pub mod RowValueLaws
 pub mod SearchLaws
 pub mod SheetLaws
-pub mod TouchedLaws
+pub mod CellNumbers
 pub mod UpkeepLaws
 pub mod WithinLaws

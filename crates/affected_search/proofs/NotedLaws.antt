@@ -26,15 +26,17 @@ use Rattle.dep_graph.proofs.NameLaws.{cell_stays, numbers_stay}
 use Rattle.dep_graph.specs.declared.numbers.CellNumber.{CellNumber}
 use Rattle.dep_graph.specs.declared.numbers.ReadNumber.{ReadNumber}
 use Rattle.dep_graph.specs.Graph.{Graph, IsSet}
-use Rattle.dep_graph.specs.NumberLaws.{cell_itself, read_itself, same_cell}
-use Rattle.dep_graph.specs.Numbers.{is_cell, is_read}
+use Rattle.dep_graph.specs.NumberLaws.{cell_itself, same_cell}
+use Rattle.dep_graph.specs.Numbers.{is_cell}
 use Rattle.dep_graph.specs.Records.{holds, reads_under}
-use Rattle.dep_graph.specs.Sources.{AreNumbers, Source, all_source, cell_in, read_source, source_of_key, sources, sources_of, sources_of_keys}
+use Rattle.dep_graph.specs.Sources.{Source, all_source, cell_in, read_source, source_of_key, sources, sources_of, sources_of_keys}
 use Rattle.affected_search.specs.NotedUpkeep.{CarriedNotesLaw, NotesReadsLaw, SetNotesLaw}
 use Rattle.affected_search.specs.Noted.{FoundNotesLaw, HoldsNotes, HoldsNotesOf, IsFree, IsFreeKey, IsHeldSource, ListsChanges, ListsRows}
 use Rattle.affected_search.specs.Reached.{is_among, IsClosed}
 use Rattle.affected_search.specs.Sheets.{IsHeld, is_found}
 use Rattle.affected_search.proofs.ActionLaws.{any_at}
+use Rattle.affected_search.proofs.ExactNotes.{set_exact}
+use Rattle.affected_search.proofs.NumbersHeld.{numbers_held}
 use Rattle.affected_search.proofs.SheetLaws.{none_found, not_found}
 use Rattle.affected_search.proofs.UpkeepLaws.{one_cell}
 
@@ -185,15 +187,6 @@ found_notes_law s t graph numbers cells fresh ls lt old_cell was held lists clos
 
 -- ---- what is recorded
 
-module _ (names : List (List ℕ)) where
-  held_more : (numbers : List ReadNumber) (n : ReadNumber) (xs : List Source) → AllByRecursion (IsHeldSource names numbers) xs → AllByRecursion (IsHeldSource names (n ∷ numbers)) xs
-  held_more numbers n = all_weaker (IsHeldSource names numbers) (IsHeldSource names (n ∷ numbers)) (λ x h. (h.0, h.1, or_right (is_read h.0 n) (holds numbers h.0) h.2))
-
-  numbers_held : (xs : List Source) (numbers : List ReadNumber) → AreNumbers names xs numbers → AllByRecursion (IsHeldSource names numbers) xs
-  numbers_held [] numbers h = tt
-  numbers_held (x ∷ xs) [] h = absurd h
-  numbers_held (x ∷ xs) (n ∷ numbers) h = ((n, h.0, or_left (is_read n n) (holds numbers n) (read_itself n)), held_more numbers n xs (numbers_held xs numbers h.1))
-
 module _ (old new : Graph) (s : Sheet) (reader : CellId) (given : List Note) (set : IsSet old new reader given) (same : notes s reader ≡ given) where
   recorded : reads_under new.reads set.cell ≡ set.reads
   recorded = set.recorded set.cell ∙ ap (λ b. cond b set.reads (reads_under old.reads set.cell)) (cell_itself set.cell)
@@ -225,7 +218,12 @@ module _ (old new : Graph) (s : Sheet) (reader : CellId) (given : List Note) (se
           )
 
 pub set_notes_law : SetNotesLaw
-set_notes_law old new s reader given set same = record { here = here old new s reader given set same; others = others old new s reader given set same }
+set_notes_law old new s reader given set same = record {
+  here = here old new s reader given set same;
+  others = others old new s reader given set same;
+  exact = (set_exact old new s reader given set same).0;
+  keeps = (set_exact old new s reader given set same).1;
+}
 
 -- ---- what is kept up
 

@@ -37,13 +37,13 @@ use Rattle.affected_search.specs.Listed.{KeepsListed, RecordReadsLaw, cells_belo
 use Rattle.affected_search.specs.Reached.{IsAffected}
 use Rattle.affected_search.specs.RecordsListed.{ListsCells, ListsGiven, ListsValues}
 use Rattle.affected_search.specs.RowValues.{column_values, row_values}
-use Rattle.affected_search.specs.TouchedReads.{cell_at, column_at}
+use Rattle.affected_search.specs.CellNumbers.{cell_at, column_at}
 use Rattle.affected_search.proofs.ActionLaws.{record_right}
 use Rattle.affected_search.proofs.NarrowLaws.{old_cell}
 use Rattle.affected_search.proofs.NotedLaws.{found_notes_law}
 use Rattle.affected_search.proofs.RecordsListed.{came_cell, no_rows, records_listed_law, wrote}
 use Rattle.affected_search.proofs.RowValueLaws.{at_cell, first_list, made_listed, row_values_law, second_list}
-use Rattle.affected_search.proofs.TouchedLaws.{cells_hold, column_below, column_parts, is_below, mapped, mixed, nothing}
+use Rattle.affected_search.proofs.CellNumbers.{cells_hold, column_below, column_parts, is_below, mapped, mixed, nothing}
 
 -- ---- what the lists hold
 

@@ -24,7 +24,7 @@ use Rattle.dep_graph.specs.Sources.{cell_in, read_source}
 use Rattle.affected_search.specs.Sheets.{IsHeld, is_found}
 use Rattle.affected_search.specs.Upkeep.{CarriedLaw, HoldsReadsOf, SetLaw}
 use Rattle.affected_search.proofs.SheetLaws.{held}
-use Rattle.affected_search.proofs.TouchedLaws.{cell_parts}
+use Rattle.affected_search.proofs.CellNumbers.{cell_parts}
 
 -- a cell of a number is one cell
 pub one_cell : (names : List (List ℕ)) (c d : CellId) (k : CellNumber) → cell_in names c ≡ Some k → cell_in names d ≡ Some k → c ≡ d

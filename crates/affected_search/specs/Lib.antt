@@ -1,5 +1,6 @@
 pub mod Actions
 pub mod ByColumn
+pub mod ExactNotes
 pub mod Found
 pub mod Listed
 pub mod Losing
@@ -11,5 +12,5 @@ pub mod Recording
 pub mod RecordsListed
 pub mod RowValues
 pub mod Sheets
-pub mod TouchedReads
+pub mod CellNumbers
 pub mod Upkeep

@@ -1,5 +1,7 @@
 -- The reads to be listed of an action on records, by numbers, as a document shows its rows.
 use Rattle.std.specs.Prelude.{ℕ, zero, suc, true, List, [], ◌∷◌, ◌++◌, map, length, Option, Some, None, ◌≡◌}
+use Rattle.std.specs.List.{list_any}
+use Rattle.cell_types.specs.declared.cell.CellId.{CellId}
 use Rattle.doc_model.specs.declared.action.DocAction.{DocAction}
 use Rattle.doc_model.specs.declared.action.DocAction.TheVariants.{BulkAdd, BulkRemove, BulkUpdate}
 use Rattle.doc_model.specs.declared.column.CellColumn.{CellColumn}
@@ -13,18 +15,22 @@ use Rattle.doc_model.specs.Valid.{valid}
 use Rattle.doc_readers.specs.Parts.{grid_at}
 use Rattle.recalc.specs.Evaluated.{sheet_of}
 use Rattle.recalc.specs.MayLose.{is_record}
+use Rattle.recalc.specs.Sheet.{Sheet, reads}
+use Rattle.affected_cells.specs.Affected.{affected}
 use Rattle.dep_graph.specs.declared.numbers.CellNumber.{CellNumber}
 use Rattle.dep_graph.specs.declared.numbers.ColumnNumber.{ColumnNumber}
 use Rattle.dep_graph.specs.declared.numbers.ReadNumber.{ReadNumber}
 use Rattle.dep_graph.specs.declared.numbers.ReadNumber.TheVariants as read
 use Rattle.dep_graph.specs.Graph.{Graph}
 use Rattle.dep_graph.specs.Names.{number_in}
-use Rattle.dep_graph.specs.Records.{holds}
-use Rattle.dep_graph.specs.Sources.{column_in}
+use Rattle.dep_graph.specs.Records.{holds, reads_under}
+use Rattle.dep_graph.specs.Sources.{cell_in, column_in}
 use Rattle.affected_search.specs.Actions.{KeepsOthers}
 use Rattle.affected_search.specs.Noted.{HoldsNotes, ListsChanges}
+use Rattle.affected_search.specs.Reached.{is_among}
 use Rattle.affected_search.specs.RowValues.{column_values, row_values}
-use Rattle.affected_search.specs.TouchedReads.{cell_at, column_at}
+use Rattle.affected_search.specs.Sheets.{has_number}
+use Rattle.affected_search.specs.CellNumbers.{cell_at, column_at}
 
 -- the cells in rows of each column of a table whose number is below this
 abbrev pub cells_below : ℕ → List ℕ → ℕ → List ReadNumber
@@ -84,3 +90,26 @@ abbrev pub KeepsListed : Graph → List ReadNumber → List ReadNumber → List 
 KeepsListed graph before after cells = (s : Document) (a : DocAction) → is_record a ≡ true
     → before ≡ record_reads graph.names s a → after ≡ record_reads graph.names (apply s a) a
     → HoldsNotes graph (sheet_of s) → KeepsOthers s graph a cells
+
+-- the read that a run makes beside this one: which rows the table has, where all of them are taken,
+-- and the column as a key column, where a value of it is looked up
+abbrev pub read_beside : ReadNumber → ReadNumber
+read_beside (read.All t) = read.Rows t
+read_beside (read.Value v) = read.Key v.column
+read_beside (read.Part v) = read.Key v.column
+read_beside n = n
+
+-- the graph has nothing of a cell but what its formula reads, or looks up beside that
+abbrev pub HoldsNoMore : Graph → Sheet → Type 0
+HoldsNoMore graph s = (c : CellId) (k : CellNumber) (n : ReadNumber)
+    → cell_in graph.names c ≡ Some k → holds (reads_under graph.reads k) n ≡ true
+    → list_any (has_number graph.names (read_beside n)) (reads s c) ≡ true
+
+-- a formula cell that is found is one that the action may affect, over each action on records of
+-- which these were listed before and after, where the graph holds no more than formula cells note
+abbrev pub FindsListed : Graph → List ReadNumber → List ReadNumber → List CellNumber → Type 0
+FindsListed graph before after cells = (s : Document) (a : DocAction) → is_record a ≡ true
+    → before ≡ record_reads graph.names s a → after ≡ record_reads graph.names (apply s a) a
+    → valid s a ≡ true → HoldsNoMore graph (sheet_of s)
+    → (c : CellId) (k : CellNumber) (f : List ℕ) → (sheet_of (apply s a)).formula c ≡ Some f
+    → cell_in graph.names c ≡ Some k → is_among cells k ≡ true → affected s a c ≡ true

@@ -9,14 +9,18 @@ use Rattle.recalc.specs.Sheet.{Sheet, evaluated, over}
 use Rattle.affected_cells.specs.Noted.{notes}
 use Rattle.dep_graph.specs.declared.numbers.CellNumber.{CellNumber}
 use Rattle.dep_graph.specs.Graph.{Graph, IsSet}
+use Rattle.affected_search.specs.ExactNotes.{HasNotesOf, KeepsExact}
 use Rattle.affected_search.specs.Noted.{HoldsNotes, HoldsNotesOf, KeepsNotes}
 use Rattle.affected_search.specs.Sheets.{is_found}
 use Rattle.affected_search.specs.Upkeep.{HoldsReadsOf}
 
--- after a cell was set to the notes of its run the graph has them, and those that it had
+-- after a cell was set to the notes of its run the graph has them, and those that it had; and no
+-- more of the cell, nor of others than it had
 pub record NotesRecordedOf (new : Graph) (old : Graph) (s : Sheet) (reader : CellId) : Type 0 where
   pub here : HoldsNotesOf new s reader
   pub others : (c : CellId) → HoldsNotesOf old s c → HoldsNotesOf new s c
+  pub exact : HasNotesOf new s reader
+  pub keeps : KeepsExact s old new
 
 abbrev pub SetNotesLaw : Type 0
 SetNotesLaw = (old new : Graph) (s : Sheet) (reader : CellId) (given : List Note)

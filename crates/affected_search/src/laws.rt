@@ -1,5 +1,6 @@
 //! Laws of affected cells.
 
+ghost use Rattle.affected_search.specs.ExactNotes.{DroppedExactLaw, ExactLaw, KeptExactLaw, NoneExactLaw};
 ghost use Rattle.affected_search.specs.Listed.{RecordReadsLaw};
 ghost use Rattle.affected_search.specs.Narrow.{NarrowLaw};
 ghost use Rattle.affected_search.specs.Noted.{FoundNotesLaw};
@@ -94,4 +95,15 @@ pub fn records_listed_law()
 /// all that the action changes.
 pub fn record_reads_law()
     ensures { RecordReadsLaw }
+{}
+
+/// A graph that has just what each cell notes holds what formula cells note, and no more: so what
+/// is found by it over an action on records keeps all others, and is affected. It has that still
+/// where each cell reads what it read, once a cell without a formula reads nothing, and of cells
+/// without formulas where no cell reads anything.
+pub fn exact_notes_law()
+    ensures exact { ExactLaw }
+    ensures kept { KeptExactLaw }
+    ensures dropped { DroppedExactLaw }
+    ensures none { NoneExactLaw }
 {}

@@ -20,24 +20,24 @@
 //! action changes (`record_reads_law`), so a formula cell that `affected_by_records` does not find
 //! keeps its value and what its run notes, unless it is new. By `within_law` no other formula cell
 //! is reached than the action may affect, where the graph holds nothing else and readers of what is
-//! listed read something touched. Of an action on records `touched_reads` lists exactly the reads
-//! that it touches, of those that have numbers, so that `affected_by_action` has both laws on its
-//! contract. What such an action loses is found, or written or removed (`narrow_law`):
+//! listed read something touched; so what `affected_by_records` finds is affected, where the graph
+//! holds no more than formula cells note. A graph that has just what each cell notes holds what
+//! formula cells note, and no more (`exact_notes_law`); `DepGraph::set` keeps it so. What an action
+//! on records loses is found, or written or removed (`narrow_law`):
 //! `narrow_cells` tells exactly these cells of a document, in order. `record_cell` records what the
 //! formula of a cell reads, by one attempt at most; once the new and the found cells are recorded
 //! anew, the graph holds the reads of each formula cell again (`set_law`, `carried_law`).
-//! Not promised: which reads a schema action touches, by numbers. `touched_reads` lists key columns
-//! and rows whole, not by values. That `affected_by_records` finds affected cells alone: of a
-//! formula column, and of one with an error in one of the rows, whoever looks up by it is found.
+//! Not promised: which reads a schema action touches, by numbers; that `affected_by_records` finds
+//! as few cells as can be: what an action affects is told by key columns whole, and of a formula
+//! column, and of one with an error in one of the rows, whoever looks up by it is found.
 //! Costs: each reader of a touched read, of a found cell and of a found cell's column as a key
 //! column is looked up once for each of these reads; a column is asked for once, however many of
 //! its cells are found. The rest of the document is not gone over. Where rows come or go, each name
 //! that has a number is asked for once, and once for each row. `narrow_cells` asks for each column
 //! of the tables that are written or have a number, and then for the named rows alone.
-//! Read first: specs/Reached.antt, then search.rt; specs/Actions.antt, then acting.rt.
+//! Read first: specs/Reached.antt, then search.rt; specs/Listed.antt, then listed.rt.
 #![tactic(auto)]
 
-mod acting;
 mod affected;
 mod by_column;
 mod laws;
@@ -46,19 +46,16 @@ mod losing;
 mod recording;
 mod row_reads;
 mod search;
-mod touched;
 
-pub use acting::affected_by_action;
 pub use affected::AffectedCells;
 pub use by_column::rows_by_column;
 pub use laws::{
-    carried_law, carried_notes_law, found_law, found_notes_law, held_law, least_law, narrow_law,
-    notes_reads_law, record_reads_law, records_listed_law, row_values_law, set_law, set_notes_law,
-    within_law,
+    carried_law, carried_notes_law, exact_notes_law, found_law, found_notes_law, held_law,
+    least_law, narrow_law, notes_reads_law, record_reads_law, records_listed_law, row_values_law,
+    set_law, set_notes_law, within_law,
 };
 pub use listed::{affected_by_records, record_reads};
 pub use losing::narrow_cells;
 pub use recording::record_cell;
 pub use row_reads::row_values;
 pub use search::affected_by;
-pub use touched::touched_reads;

@@ -8,19 +8,28 @@ ghost use Rattle.doc_model.specs.Column.{column_id};
 ghost use Rattle.doc_readers.specs.Parts.{grid_at};
 ghost use Rattle.recalc.specs.MayLose.{is_record};
 ghost use Rattle.dep_graph.specs.Sources.{column_in};
-ghost use Rattle.affected_search.specs.Listed.{KeepsListed, cells_below, given_reads, moved_cells, moved_reads, record_reads, update_reads};
+ghost use Rattle.affected_search.specs.Listed.{FindsListed, KeepsListed, cells_below, given_reads, moved_cells, moved_reads, record_reads, update_reads};
 ghost use Rattle.affected_search.specs.Reached.{IsAffected};
-ghost use Rattle.affected_search.specs.TouchedReads.{cell_at};
+ghost use Rattle.affected_search.specs.CellNumbers.{cell_at};
 
 use crate::affected::AffectedCells;
 use crate::row_reads::{push_column, row_values};
 use crate::search::affected_by;
-use crate::touched::number_after;
 use cell_types::Name;
 use dep_graph::{CellNumber, ColumnNumber, DepGraph, ReadNumber};
 use doc_model::{CellColumn, DocAction, DocReader};
 use doc_readers::find_column;
 use std::alloc::{AllocError, Global};
+
+// The number after one; none follows the last one of all.
+fn number_after(number: u32) -> Result<u32, AllocError>
+    ensures { IfOk result (λ n. n ≡ number + 1) }
+{
+    match number.checked_add(1) {
+        Some(next) => Ok(next),
+        None => Err(AllocError),
+    }
+}
 
 fn push_cells(
     column: ColumnNumber,
@@ -156,7 +165,8 @@ pub fn record_reads<R: DocReader>(
 }
 
 /// Finds the cells that an action on records affects, by what `record_reads` listed before it and
-/// after it, over a graph of what formula cells note.
+/// after it, over a graph of what formula cells note: each formula cell that it finds is affected,
+/// where the graph holds nothing else.
 ///
 /// Errors: out of memory. Memory and cost: those of `affected_by`.
 pub fn affected_by_records(
@@ -167,6 +177,7 @@ pub fn affected_by_records(
 ) -> Result<AffectedCells, AllocError>
     ensures affected { IfOk result (IsAffected graph.now.reads (before.items ++ after.now)) }
     ensures others { IfOk result (KeepsListed graph.now before.items after.now) }
+    ensures only { IfOk result (FindsListed graph.now before.items after.now) }
 {
     let mut reads = before;
     reads.extend_from_slice(after)?;

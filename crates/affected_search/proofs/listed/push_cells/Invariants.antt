@@ -1,6 +1,6 @@
 use Rattle.std.proofs.Common.{◌≡◌, ◌++◌, map, drop}
 use Rattle.dep_graph.specs.declared.numbers.ReadNumber.TheVariants as read
-use Rattle.affected_search.specs.TouchedReads.{cell_at}
+use Rattle.affected_search.specs.CellNumbers.{cell_at}
 use Rattle.affected_search.proofs.listed.push_cells.Given as goal
 
 -- the cells so far, and those that are to come

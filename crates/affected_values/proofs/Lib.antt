@@ -4,7 +4,11 @@ mod NamedLemmas
 pub mod SamePlaces
 mod WaysBack
 pub mod HeldNone
-mod CarriedLemmas
 mod RowCellLemmas
 pub mod IndexLemmas
 pub mod LeftIndexes
+mod TradedLemmas
+mod ExchangedLemmas
+pub mod RelaidLemmas
+pub mod LaidLemmas
+mod RowsOver

@@ -16,7 +16,7 @@ use Rattle.affected_values.specs.WaysBack.{LeadsOverLaw, WayBackLaw}
 use Rattle.affected_values.proofs.SamePlaces.{same_places}
 
 -- the value that is kept of a formula cell
-kept_value : (s : Document) (ks : List KeptTable) → IsEvaluated s ks → (c : CellId) → is_some (formula_at s c) ≡ true → held_at s ks c ≡ Some (evaluated (sheet_of s) c)
+pub kept_value : (s : Document) (ks : List KeptTable) → IsEvaluated s ks → (c : CellId) → is_some (formula_at s c) ≡ true → held_at s ks c ≡ Some (evaluated (sheet_of s) c)
 unfolding value_of
 kept_value s ks known c there = by (formula_at s c) refl there
   where

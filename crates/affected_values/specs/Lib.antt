@@ -3,3 +3,5 @@ pub mod SamePlaces
 pub mod WaysBack
 pub mod Carried
 pub mod Indexing
+pub mod Relaid
+pub mod RowsOver

@@ -1,6 +1,6 @@
 //! Laws of values that are kept over an action.
 
-ghost use Rattle.affected_values.specs.Carried.{RightOverLaw};
+ghost use Rattle.affected_values.specs.RowsOver.{LeadsOverRowsLaw, RightLaidLaw, RowsBackLaw, RowsLeftLaw};
 ghost use Rattle.affected_values.specs.SamePlaces.{LeftRightLaw, SamePlacesLaw};
 ghost use Rattle.affected_values.specs.WaysBack.{LeadsOverLaw, WayBackLaw};
 
@@ -24,7 +24,23 @@ pub fn way_back_law()
     ensures { WayBackLaw }
 {}
 
-/// Over rows that come or go the values of formula cells that are not found are right still.
-pub fn right_over_law()
-    ensures { RightOverLaw }
+/// Over rows that come or go the values that were laid anew are known and right, but of the found
+/// cells and those of the rows.
+pub fn right_laid_law()
+    ensures { RightLaidLaw }
+{}
+
+/// What leads back to the values that were laid anew leads back over the rows.
+pub fn leads_over_rows_law()
+    ensures { LeadsOverRowsLaw }
+{}
+
+/// What was taken put back, and the table laid back, the values are those before the rows.
+pub fn rows_back_law()
+    ensures { RowsBackLaw }
+{}
+
+/// So they are where the values that were laid anew are as they were.
+pub fn rows_left_law()
+    ensures { RowsLeftLaw }
 {}

@@ -1,6 +1,6 @@
 //! Cells that were found by numbers, by name.
 
-ghost use Rattle.std.specs.Prelude.{◌≡◌, Some, true, IfOk, OnOk};
+ghost use Rattle.std.specs.Prelude.{◌≡◌, ◌⊎◌, Some, true, IfOk, IfSome, OnOk};
 ghost use Rattle.cell_types.specs.declared.cell.CellId.{CellId};
 ghost use Rattle.dep_graph.specs.Sources.{cell_in};
 ghost use Rattle.recalc.specs.Stack.{on};
@@ -14,8 +14,10 @@ use std::alloc::{AllocError, Global};
 
 // The cell of a number, where there is one.
 fn cell_of_number(graph: &DepGraph, number: CellNumber) -> Result<Option<CellId>, AllocError>
-    ensures { IfOk result
+    ensures cell { IfOk result
         (λ o. (c : CellId) → cell_in graph.now.names c ≡ Some number → o ≡ Some c) }
+    ensures number { IfOk result
+        (λ o. IfSome o (λ c. cell_in graph.now.names c ≡ Some number)) }
 {
     let Some(table) = graph.name(number.column.table) else {
         return Ok(None);
@@ -36,6 +38,8 @@ fn push_named(
         ((c : CellId) → on named.old.items c ≡ true → on named.new.items c ≡ true) }
     ensures named { OnOk result ((c : CellId) → cell_in graph.now.names c ≡ Some number
         → on named.new.items c ≡ true) }
+    ensures only { OnOk result ((c : CellId) → on named.new.items c ≡ true
+        → (on named.old.items c ≡ true) ⊎ (cell_in graph.now.names c ≡ Some number)) }
 {
     if let Some(cell) = cell_of_number(graph, number)? {
         named.push(cell)?;
@@ -43,8 +47,8 @@ fn push_named(
     Ok(())
 }
 
-/// The cells that were found, by name, the first one last: whoever takes them from the end takes
-/// them in the order in which they were found.
+/// The cells that were found, by name, and no others, the first one last: whoever takes them from
+/// the end takes them in the order in which they were found.
 ///
 /// Errors: out of memory. Memory: the cells. Cost: linear in the cells.
 pub fn named_cells(
@@ -52,8 +56,10 @@ pub fn named_cells(
     graph: &DepGraph,
     found: &AffectedCells,
 ) -> Result<Vec<CellId>, AllocError>
-    ensures { IfOk result (λ v. (c : CellId) → is_found graph.now found.now c ≡ true
+    ensures found { IfOk result (λ v. (c : CellId) → is_found graph.now found.now c ≡ true
         → on v.items c ≡ true) }
+    ensures only { IfOk result (λ v. (c : CellId) → on v.items c ≡ true
+        → is_found graph.now found.now c ≡ true) }
 {
     let mut named = Vec::new(alloc);
     let cells = found.cells();

@@ -2,9 +2,10 @@
 
 ghost use Rattle.std.specs.Prelude.{◌≡◌, ◌++◌, true, map, OnOk};
 ghost use Rattle.cell_types.specs.declared.cell.CellId.{CellId};
+ghost use Rattle.doc_readers.specs.Parts.{grid_at};
 ghost use Rattle.recalc.specs.Cells.{cell_of};
 ghost use Rattle.recalc.specs.Stack.{on};
-ghost use Rattle.affected_values.specs.Carried.{HasCellsOf, HasCellsOfColumn};
+ghost use Rattle.affected_values.specs.Carried.{HasCellsOf, HasCellsOfColumn, HasCellsWith};
 
 use cell_types::{CellId, Name};
 use doc_model::{ColDef, DocTables};
@@ -59,6 +60,9 @@ pub fn push_row_cells<D: DocTables>(
         ((c : CellId) → on cells.old.items c ≡ true → on cells.new.items c ≡ true) }
     ensures pushed { OnOk result
         (HasCellsOf (D.document tables.now) table.now rows.now cells.new.items) }
+    ensures alike { OnOk result
+        (HasCellsWith (grid_at (D.document tables.now) table.now).columns table.now rows.now
+        cells.new.items) }
 {
     let mut index = 0;
     while let Some(column) = tables.column(table, index) {

@@ -1,31 +1,40 @@
 -- Rows that come or go in a document of which values are kept.
-use Rattle.std.proofs.Common.{ℕ, Bool, true, false, ◌||◌, List, ◌≡◌, refl, sym, ap, ◌∙◌, subst, Option, Some, None}
-use Rattle.std.proofs.lemmas.Bool.{false≢true, true≢false}
-use Rattle.std.specs.List.{AllByRecursion}
+use Rattle.std.proofs.Common.{ℕ, Bool, true, false, cond, ◌||◌, List, [], ◌∷◌, ◌≡◌, refl, sym, ap, ◌∙◌, subst, Option, Some, None}
+use Rattle.std.specs.Str.{bytes_eq}
 use Rattle.cell_types.specs.declared.cell.CellId.{CellId}
 use Rattle.doc_model.specs.declared.action.DocAction.{DocAction}
 use Rattle.doc_model.specs.declared.action.DocAction.TheVariants.{AddColumn, AddTable, BulkAdd, BulkRemove, BulkUpdate, ModifyColumn, RemoveColumn, RemoveTable, RenameColumn, RenameTable}
-use Rattle.doc_model.specs.declared.column.CellColumn.{CellColumn}
 use Rattle.doc_model.specs.Apply.{apply}
-use Rattle.doc_model.specs.Document.{Document}
+use Rattle.doc_model.specs.declared.column.ColDef.{ColDef}
+use Rattle.doc_model.specs.ByIds.{find_id}
+use Rattle.doc_model.specs.Column.{column_id, start_of}
+use Rattle.doc_model.specs.Document.{Document, Table, on_grid, table_id, with_table}
+use Rattle.doc_model.specs.Grid.{Grid}
+use Rattle.doc_model.specs.Records.{add_rows, remove_rows}
+use Rattle.doc_model.specs.Schema.{no_grid}
+use Rattle.doc_readers.specs.Parts.{grid_at}
 use Rattle.doc_model.specs.DocumentLaws.{IsWhole}
 use Rattle.doc_model.specs.Valid.{valid}
-use Rattle.dep_graph.specs.declared.numbers.ReadNumber.{ReadNumber}
 use Rattle.dep_graph.specs.Graph.{Graph}
-use Rattle.dep_graph.specs.Records.{reads_under}
-use Rattle.dep_graph.specs.Sources.{sources}
 use Rattle.recalc.specs.declared.kept.KeptTable.{KeptTable}
-use Rattle.recalc.specs.Current.{IsCurrent}
+use Rattle.recalc.specs.Current.{IsCurrent, has_formula, has_formulas}
 use Rattle.recalc.specs.Kept.{IsEvaluated}
 use Rattle.recalc.specs.MayLose.{is_record}
 use Rattle.recalc.specs.Stack.{on}
-use Rattle.affected_search.specs.Noted.{IsHeldSource}
-use Rattle.affected_values.specs.Carried.{AreRightStill, HasCellsOf, RightOverLaw, moved_rows, moved_table}
+use Rattle.affected_values.specs.declared.relaying.LaidAside.{LaidAside}
+use Rattle.affected_values.specs.declared.taking.HeldValue.{HeldValue}
+use Rattle.affected_values.specs.Carried.{HasCellsOf, HasCellsWith, moved_rows, moved_table}
+use Rattle.affected_values.specs.Relaid.{IsLaidAnew, IsMovedFrom}
+use Rattle.affected_values.specs.RowsOver.{LeadsOverRowsLaw, RightLaidLaw}
+use Rattle.affected_values.specs.Taken.{IsRightBut, LeadsBack}
+use Rattle.affected_values.proofs.LaidLemmas.{moved_alike}
+use Rattle.affected_values.proofs.RelaidLemmas.{IsAlikeBut}
 use Rattle.known_reads.specs.Beside.{Beside, IsNoted, KnowsOthers}
 use Rattle.known_reads.specs.Moved.{NotedLaw, ReadsBackLaw, ReadsOverLaw, ReadsSameAfter}
 use Rattle.known_reads.specs.Recorded.{KnowsBut}
+use Rattle.known_reads.proofs.BesideLemmas.{read_same}
 use Rattle.evaluated_doc.specs.declared.moving.Moved.{Moved}
-use Rattle.evaluated_doc.specs.Moved.{IsMoved}
+use Rattle.evaluated_doc.specs.Moved.{IsMoved, IsMoving, LeadsFromRows}
 
 none_some : (x : List ℕ) → None ≡ Some x → ⊥
 none_some x e = cc
@@ -43,36 +52,118 @@ moved_records (RemoveColumn u c) t h = absurd (none_some t h)
 moved_records (RenameColumn u c n) t h = absurd (none_some t h)
 moved_records (ModifyColumn u c i) t h = absurd (none_some t h)
 
+-- ---- columns, which stay
+
+abbrev columns_of : Option Table → List ColDef
+columns_of None = []
+columns_of (Some u) = u.grid.columns
+
+at_grid : (s : Document) (t : List ℕ) → (grid_at s t).columns ≡ columns_of (find_id table_id t s)
+at_grid s t = by (find_id table_id t s)
+  where
+    by : (o : Option Table) → (elim o as (λ _. Grid ColDef) [ None ↦ no_grid | Some u ↦ u.grid ]).columns ≡ columns_of o
+    by None = refl
+    by (Some u) = refl
+
+columns_mapped : (t : List ℕ) (f : Grid ColDef → Grid ColDef) → ((g : Grid ColDef) → (f g).columns ≡ g.columns) → (s : Document) → columns_of (find_id table_id t (with_table t (on_grid f) s)) ≡ columns_of (find_id table_id t s)
+columns_mapped t f h [] = refl
+columns_mapped t f h (x ∷ s) = by (columns_mapped t f h s) (bytes_eq x.id t) refl
+  where
+    by : columns_of (find_id table_id t (with_table t (on_grid f) s)) ≡ columns_of (find_id table_id t s) → (b : Bool) → bytes_eq x.id t ≡ b
+        → columns_of (find_id table_id t (cond (bytes_eq x.id t) (on_grid f x) x ∷ with_table t (on_grid f) s)) ≡ columns_of (cond (bytes_eq x.id t) (Some x) (find_id table_id t s))
+    by later true is =
+        ap (λ b. columns_of (find_id table_id t (cond b (on_grid f x) x ∷ with_table t (on_grid f) s))) is
+        ∙ ap (λ b. columns_of (cond b (Some (on_grid f x)) (find_id table_id t (with_table t (on_grid f) s)))) is
+        ∙ h x.grid
+        ∙ sym (ap (λ b. columns_of (cond b (Some x) (find_id table_id t s))) is)
+    by later false is =
+        ap (λ b. columns_of (find_id table_id t (cond b (on_grid f x) x ∷ with_table t (on_grid f) s))) is
+        ∙ ap (λ b. columns_of (cond b (Some x) (find_id table_id t (with_table t (on_grid f) s)))) is
+        ∙ later
+        ∙ sym (ap (λ b. columns_of (cond b (Some x) (find_id table_id t s))) is)
+
+kept_or : (s next : Document) (t : List ℕ) (b : Bool) → columns_of (find_id table_id t next) ≡ columns_of (find_id table_id t s) → columns_of (find_id table_id t (cond b next s)) ≡ columns_of (find_id table_id t s)
+kept_or s next t true h = h
+kept_or s next t false h = refl
+
+some_same : (x y : List ℕ) → Some x ≡ Some y → x ≡ y
+some_same x y e = cc
+
+-- rows come or go under the columns that there were
+pub columns_moved : (s : Document) (a : DocAction) (t : List ℕ) → moved_table a ≡ Some t → (grid_at (apply s a) t).columns ≡ (grid_at s t).columns
+columns_moved s a t moved = at_grid (apply s a) t ∙ by a moved ∙ sym (at_grid s t)
+  where
+    by : (a : DocAction) → moved_table a ≡ Some t → columns_of (find_id table_id t (apply s a)) ≡ columns_of (find_id table_id t s)
+    by (BulkAdd u rows ks) h =
+        subst (λ n. columns_of (find_id table_id n (apply s (BulkAdd u rows ks))) ≡ columns_of (find_id table_id n s)) (some_same u t h)
+        (kept_or s (with_table u (on_grid (add_rows column_id start_of rows ks)) s) u (valid s (BulkAdd u rows ks)) (columns_mapped u (add_rows column_id start_of rows ks) (λ g. refl) s))
+    by (BulkRemove u rows) h =
+        subst (λ n. columns_of (find_id table_id n (apply s (BulkRemove u rows))) ≡ columns_of (find_id table_id n s)) (some_same u t h)
+        (kept_or s (with_table u (on_grid (remove_rows column_id rows)) s) u (valid s (BulkRemove u rows)) (columns_mapped u (remove_rows column_id rows) (λ g. refl) s))
+    by (BulkUpdate u rows ks) h = absurd (none_some t h)
+    by (AddTable u r cs) h = absurd (none_some t h)
+    by (RemoveTable u) h = absurd (none_some t h)
+    by (RenameTable u n) h = absurd (none_some t h)
+    by (AddColumn u d) h = absurd (none_some t h)
+    by (RemoveColumn u c) h = absurd (none_some t h)
+    by (RenameColumn u c n) h = absurd (none_some t h)
+    by (ModifyColumn u c i) h = absurd (none_some t h)
+
 module _ (s next : Document) (a : DocAction) (t rows : List ℕ) (x : Moved) (ok : valid s a ≡ true) (moved : moved_table a ≡ Some t) (done : next ≡ apply s a) where
-  -- what was kept of cells that are not found is right still
-  pub right : RightOverLaw → (graph : Graph) (ks : List KeptTable) → IsMoved graph a s t rows x → IsEvaluated s ks → AreRightStill next t x.rows.items ks graph x.found
-  right law graph ks is known =
-      subst (λ d. AreRightStill d t x.rows.items ks graph x.found) (sym done)
-      (subst (λ rs. AreRightStill (apply s a) t rs ks graph x.found) (sym is.were) (law s a t ks graph x.found moved ok is.keeps known))
+  columns_same : (grid_at s t).columns ≡ (grid_at next t).columns
+  columns_same = sym (ap (λ d. (grid_at d t).columns) done ∙ columns_moved s a t moved)
 
   -- the graph is right of each cell but the found ones and those of the rows
   pub known_but : ReadsOverLaw → (known : Beside) (cells : List CellId) → IsMoved known.graph a s t rows x
-      → ((c : CellId) → on x.noted.items c ≡ true → on cells c ≡ true) → HasCellsOf next t (moved_rows a) cells → KnowsOthers s known → KnowsBut next known cells
-  known_but over known cells is stays has others c fresh other there =
+      → ((c : CellId) → on x.noted.items c ≡ true → on cells c ≡ true) → HasCellsWith (grid_at next t).columns t (moved_rows a) cells → KnowsOthers s known → KnowsBut next known cells
+  known_but over known cells is stays has others c fresh other =
       let same = subst (λ d. ReadsSameAfter s d cells) (sym done)
-      (over s a t known.graph x.found cells moved ok is.keeps (λ c h. stays c (is.noted c h)) (subst (λ d. HasCellsOf d t (moved_rows a) cells) done has)) in
-      let h = others c fresh (same.there c there other) in
-      (h.0, h.1, subst (λ ns. AllByRecursion (IsHeldSource known.graph.names (reads_under known.graph.reads h.0)) (sources ns)) (same.same c there other) h.2)
+      (over s a t known.graph x.found cells moved ok is.keeps (λ c h. stays c (is.noted c h)) (has s columns_same) (subst (λ d. HasCellsOf d t (moved_rows a) cells) done (has next refl))) in
+      read_same s next known.graph c (same.there c other) (λ there. same.same c there other) (others c fresh)
 
   -- and back
   pub reads_before : ReadsBackLaw → (graph : Graph) → moved_rows a ≡ rows → IsMoved graph a s t rows x → ReadsSameAfter next s x.stale.items
   reads_before law graph these is =
+      let has : HasCellsWith (grid_at s t).columns t (moved_rows a) x.stale.items = subst (λ rs. HasCellsWith (grid_at s t).columns t rs x.stale.items) (sym these) is.moved in
       subst (λ d. ReadsSameAfter d s x.stale.items) (sym done)
-      (law s a t graph x.found x.stale.items moved ok is.keeps is.stale (subst (λ rs. HasCellsOf s t rs x.stale.items) (sym these) is.moved))
+      (law s a t graph x.found x.stale.items moved ok is.keeps is.stale (has s refl) (has (apply s a) (columns_moved s a t moved)))
 
--- ---- the way back to what was kept
+-- ---- rows that were put
 
-pub back_to_kept : NotedLaw → (s now d : Document) (kept : Option (List KeptTable)) (stale : List CellId) (all : Bool) (old new : Beside) → d ≡ s → IsWhole s
-    → IsCurrent s kept → (all ≡ false → ReadsSameAfter now s stale) → IsNoted old new stale → (all ≡ true → new.are_all_stale ≡ true) → KnowsOthers now old
-    → IsWhole d × IsCurrent d kept × KnowsOthers d new
-back_to_kept law s now d kept stale all old new is whole current reads noted wide others =
-    subst (λ d. IsWhole d × IsCurrent d kept × KnowsOthers d new) (sym is) (whole, current, by all refl)
-  where
-    by : (b : Bool) → all ≡ b → KnowsOthers s new
-    by true e = λ c fresh. absurd (true≢false (sym (ap (λ b. b || on new.stale c) (wide e)) ∙ fresh))
-    by false e = law now s stale old new (reads e) noted others
+module _ (s now : Document) (t rows : List ℕ) (kept : List KeptTable) (known : Beside) (x : Moved) (is : IsMoving s now t rows kept known x) where
+  pub reads_but : ReadsOverLaw → (cells : List CellId) → ((c : CellId) → on x.noted.items c ≡ true → on cells c ≡ true) → HasCellsWith (grid_at now t).columns t rows cells → KnowsBut now known cells
+  reads_but law cells stays has =
+      known_but s now is.moved.action t rows x is.moved.ok is.moved.moved is.moved.done law known cells is.found stays (subst (λ rs. HasCellsWith (grid_at now t).columns t rs cells) (sym is.these) has) is.others
+
+  pub right_but : RightLaidLaw → (new : List KeptTable) (aside : LaidAside) (cells : List CellId) → IsLaidAnew s now t kept new aside → ((c : CellId) → on x.noted.items c ≡ true → on cells c ≡ true) → HasCellsWith (grid_at now t).columns t rows cells
+      → IsRightBut now new cells
+  right_but law new aside cells laid stays has =
+      law s now t known.graph x.found cells kept new aside is.moved is.found.keeps (λ c h. stays c (is.found.noted c h)) (subst (λ rs. HasCellsOf now t rs cells) (sym is.these) (has now refl)) is.right laid
+
+  -- what leads back
+  pub leads_from : LeadsOverRowsLaw → ReadsBackLaw → (laid new : List KeptTable) (aside : LaidAside) (taken : List HeldValue) → IsLaidAnew s now t kept laid aside → IsEvaluated now new → LeadsBack now taken new laid
+      → LeadsFromRows s now taken aside x.stale.items
+  leads_from law back laid new aside taken at right leads = record {
+    moved = subst (IsMovedFrom s now) (sym at.table) is.moved;
+    has_aside = at.has_aside;
+    leads = law s now t taken kept laid new aside is.moved is.right at right leads;
+    reads = reads_before s now is.moved.action t rows x is.moved.ok is.moved.moved is.moved.done back known.graph is.these is.found;
+  }
+
+-- ---- the way back
+
+-- where no column has a formula, none had
+has_same : (id : List ℕ) (s n : Document) → IsAlikeBut id s n → has_formulas s ≡ has_formulas n
+has_same id [] [] h = refl
+has_same id (t ∷ s) (u ∷ n) h = λ i. has_formula (h.1 i) || has_same id s n h.3 i
+has_same id [] (u ∷ n) h = absurd h
+has_same id (t ∷ s) [] h = absurd h
+
+pub plain_then : (s now : Document) (id : List ℕ) → IsMovedFrom s now id → has_formulas now ≡ false → has_formulas s ≡ false
+plain_then s now id m h = has_same id s now (moved_alike s now id m) ∙ h
+
+-- what holds of a document and what is kept beside it
+pub gone_back_over : NotedLaw → (s now d : Document) (taken : List HeldValue) (aside : LaidAside) (stale : List CellId) (kept : Option (List KeptTable)) (old new : Beside) → LeadsFromRows s now taken aside stale → d ≡ s → IsWhole s
+    → IsCurrent s kept → IsNoted old new stale → KnowsOthers now old → IsWhole d × IsCurrent d kept × KnowsOthers d new
+gone_back_over law s now d taken aside stale kept old new led is whole current noted others =
+    subst (λ d. IsWhole d × IsCurrent d kept × KnowsOthers d new) (sym is) (whole, current, law now s stale old new led.reads noted others)

@@ -1,7 +1,6 @@
 -- An update of a document of which values are kept.
 use Rattle.std.proofs.Common.{ℕ, true, false, cond, filter, ◌||◌, List, [], ◌∷◌, ◌≡◌, refl, sym, ap, ◌∙◌, subst, Option, unwrap_or}
 use Rattle.std.proofs.lemmas.Bool.{false≢true, true≢false}
-use Rattle.std.specs.List.{AllByRecursion}
 use Rattle.std.specs.Option.{is_some}
 use Rattle.cell_types.specs.declared.cell.CellId.{CellId}
 use Rattle.doc_model.specs.declared.action.DocAction.{DocAction}
@@ -13,8 +12,6 @@ use Rattle.doc_model.specs.DocumentLaws.{IsWhole}
 use Rattle.doc_model.specs.Valid.{valid}
 use Rattle.dep_graph.specs.declared.numbers.CellNumber.{CellNumber}
 use Rattle.dep_graph.specs.Graph.{Graph}
-use Rattle.dep_graph.specs.Records.{reads_under}
-use Rattle.dep_graph.specs.Sources.{sources}
 use Rattle.recalc.specs.declared.kept.KeptTable.{KeptTable}
 use Rattle.recalc.specs.Current.{IsCurrent, has_formula, has_formulas}
 use Rattle.recalc.specs.Evaluated.{filled, formula_at}
@@ -25,7 +22,6 @@ use Rattle.recalc.specs.Stack.{on}
 use Rattle.affected_cells.proofs.UpdateTouches.{after, same_columns, same_formula}
 use Rattle.affected_search.specs.Actions.{KeepsOthers}
 use Rattle.affected_search.specs.Narrow.{NarrowLaw, is_narrow}
-use Rattle.affected_search.specs.Noted.{IsHeldSource}
 use Rattle.affected_values.specs.declared.taking.HeldValue.{HeldValue}
 use Rattle.affected_values.specs.SamePlaces.{HasSamePlaces}
 use Rattle.affected_values.specs.Taken.{IsRightBut, LeadsBack, taken_of}
@@ -33,7 +29,7 @@ use Rattle.affected_values.specs.WaysBack.{LeadsOver, LeadsOverLaw, WayBackLaw}
 use Rattle.affected_values.proofs.SamePlaces.{left_right, same_places}
 use Rattle.known_reads.specs.Beside.{Beside, IsNoted, KnowsOthers, ReadsSameBut, StaleLaw}
 use Rattle.known_reads.specs.Recorded.{KnowsBut}
-use Rattle.known_reads.proofs.BesideLemmas.{reads_same}
+use Rattle.known_reads.proofs.BesideLemmas.{read_same, reads_same}
 use Rattle.evaluated_doc.specs.Update.{HasFound, LeadsFrom, is_update}
 
 update_parts : (a : DocAction) → is_update a ≡ true → (t : List ℕ) × (rows : List ℕ) × (ks : List CellColumn) × (a ≡ BulkUpdate t rows ks)
@@ -105,11 +101,9 @@ module _ (s next : Document) (a : DocAction) (ok : valid s a ≡ true) (update :
 
   -- the graph is right of each cell but the found ones after the update
   pub known_but : (known : Beside) (cells : List CellId) → HasFound s known.graph a cells → KnowsOthers s known → KnowsBut next known cells
-  known_but known cells found others c fresh other there =
+  known_but known cells found others c fresh other =
       let same = same_reads known.graph cells found in
-      let was : is_some (formula_at s c) ≡ true = same.there c ∙ there in
-      let h = others c fresh was in
-      (h.0, h.1, subst (λ ns. AllByRecursion (IsHeldSource known.graph.names (reads_under known.graph.reads h.0)) (sources ns)) (same.same c was other) h.2)
+      read_same s next known.graph c (same.there c) (λ there. same.same c (same.there c ∙ there) other) (others c fresh)
 
   there : (c : CellId) → is_some (formula_at s c) ≡ true → is_some (formula_at next c) ≡ true
   there c h = ap (λ d. is_some (formula_at d c)) next_so ∙ ap (λ b. is_some (formula_at (cond b (after t rows ks s) s) c)) valid_so ∙ ap is_some (same_formula t rows ks s c) ∙ h

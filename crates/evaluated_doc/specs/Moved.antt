@@ -6,19 +6,47 @@ use Rattle.doc_model.specs.Document.{Document}
 use Rattle.doc_model.specs.Rows.{IsAscending}
 use Rattle.doc_readers.specs.Parts.{grid_at}
 use Rattle.dep_graph.specs.Graph.{Graph}
+use Rattle.recalc.specs.declared.kept.KeptTable.{KeptTable}
+use Rattle.recalc.specs.Kept.{IsEvaluated}
 use Rattle.recalc.specs.Stack.{on}
 use Rattle.affected_search.specs.Actions.{KeepsOthers}
 use Rattle.affected_search.specs.Sheets.{is_found}
-use Rattle.affected_values.specs.Carried.{HasCellsOf}
+use Rattle.affected_values.specs.declared.relaying.LaidAside.{LaidAside}
+use Rattle.affected_values.specs.declared.taking.HeldValue.{HeldValue}
+use Rattle.affected_values.specs.Carried.{HasCellsWith, moved_rows}
+use Rattle.affected_values.specs.Relaid.{HasAside, IsMovedFrom}
+use Rattle.affected_values.specs.RowsOver.{LeadsOverRows}
+use Rattle.known_reads.specs.Beside.{Beside, KnowsOthers}
+use Rattle.known_reads.specs.Moved.{ReadsSameAfter}
 use Rattle.evaluated_doc.specs.declared.moving.Moved.{Moved}
 
 -- the found cells of a search, by which all others keep values and notes, also by name, and with
--- the formula cells of a table in these rows; and the rows that the table has, which ascend
+-- the cells of the formula columns of a table in these rows; and the rows that the table has, which
+-- ascend
 pub record IsMoved (graph : Graph) (a : DocAction) (s : Document) (t rows : List ℕ) (x : Moved) :
     Type 0 where
   pub keeps : KeepsOthers s graph a x.found
   pub noted : (c : CellId) → is_found graph x.found c ≡ true → on x.noted.items c ≡ true
   pub stale : (c : CellId) → is_found graph x.found c ≡ true → on x.stale.items c ≡ true
-  pub moved : HasCellsOf s t rows x.stale.items
+  pub moved : HasCellsWith (grid_at s t).columns t rows x.stale.items
   pub were : x.rows.items ≡ (grid_at s t).rows
   pub ascending : IsAscending x.rows.items
+
+-- these rows of this table came or went after the first document, of which these values are kept
+-- beside a graph, and of which this was found
+pub record IsMoving (s now : Document) (t rows : List ℕ) (kept : List KeptTable) (known : Beside)
+    (x : Moved) : Type 0 where
+  pub moved : IsMovedFrom s now t
+  pub these : moved_rows moved.action ≡ rows
+  pub found : IsMoved known.graph moved.action s t rows x
+  pub right : IsEvaluated s kept
+  pub others : KnowsOthers s known
+
+-- rows led from the first document to the second; what was taken and what was laid aside lead back
+-- over them, and each formula cell but these notes the same before
+pub record LeadsFromRows (s now : Document) (taken : List HeldValue) (aside : LaidAside)
+    (stale : List CellId) : Type 0 where
+  pub moved : IsMovedFrom s now aside.table
+  pub has_aside : HasAside s aside
+  pub leads : LeadsOverRows s now taken aside
+  pub reads : ReadsSameAfter now s stale

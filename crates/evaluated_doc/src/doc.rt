@@ -1,6 +1,6 @@
 //! A document with its formula cells evaluated.
 
-ghost use Rattle.std.specs.Prelude.{true, ◌≡◌, ◌<◌, ◌↔◌, ◌||◌, false, [], Err, List, None, Some, IfOk, OnOk, OnErr, MatchOption};
+ghost use Rattle.std.specs.Prelude.{true, ◌≡◌, ◌<◌, ◌↔◌, false, Err, List, None, Some, IfOk, OnOk, OnErr, MatchOption};
 ghost use Rattle.std.specs.Option.{option_copied, option_map};
 ghost use Rattle.cell_types.specs.declared.cell.CellId.{CellId};
 ghost use Rattle.doc_model.specs.Apply.{apply};
@@ -9,35 +9,28 @@ ghost use Rattle.doc_model.specs.DocumentLaws.{IsWhole};
 ghost use Rattle.doc_model.specs.Readers.{cell_at};
 ghost use Rattle.doc_model.specs.Valid.{valid};
 ghost use Rattle.formula_eval.specs.Asked.{told_of};
-ghost use Rattle.recalc.specs.Current.{IsCurrent, has_formulas};
+ghost use Rattle.recalc.specs.Current.{IsCurrent};
 ghost use Rattle.recalc.specs.Evaluated.{filled};
 ghost use Rattle.recalc.specs.Kept.{IsEvaluated};
 ghost use Rattle.recalc.specs.Lost.{lost};
 ghost use Rattle.recalc.specs.Seen.{value_told};
-ghost use Rattle.recalc.specs.Stack.{on};
 ghost use Rattle.affected_values.specs.Carried.{moved_rows, moved_table};
-ghost use Rattle.known_reads.specs.Beside.{is_stale};
 ghost use Rattle.evaluated_doc.specs.Update.{LeadsFrom, is_update};
 ghost use Rattle.evaluated_doc.specs.WayBack.{IsWayBack};
 ghost use Rattle.evaluated_doc.specs.declared.doc.ChangeFault.TheVariants.{Invalid};
 
 use crate::indexing::{give_up, take_indexes};
-use crate::moving::{few_moved, find_moved, follow_moved};
-use crate::trace::Trace;
-use crate::updating::{Affected, find_affected, is_narrow, is_of_schema};
+use crate::moving::{few_moved, find_moved, go_back_over, refresh_moved};
+use crate::trace::{Before, Trace};
+use crate::updating::{find_affected, is_narrow, is_of_schema};
 use affected_search::{narrow_cells, narrow_law};
-use affected_values::{
-    HeldValue, enter_indexes, leads_over_law, put_values_back, right_over_law, way_back_law,
-};
-use cell_types::{CellId, CellValue, Name};
+use affected_values::{HeldValue, enter_indexes, leads_over_law, put_values_back, way_back_law};
+use cell_types::{CellValue, Name};
 use doc_actions::is_valid;
 use doc_model::laws::kept_law;
 use doc_model::{ColDef, DocAction, DocReader, DocTables};
 use formula_eval::{Reading, Steps};
-use known_reads::{
-    KnownReads, ReadsFault, noted_law, reads_back_law, reads_over_law, refresh_recording,
-    refresh_rest, stale_law,
-};
+use known_reads::{KnownReads, ReadsFault, noted_law, refresh_recording, stale_law};
 use recalc::laws::{may_lose_law, stays_plain_law};
 use recalc::{
     ColumnIndex, KeptTable, brings_formula, cell_told, keep_lost, keep_values, keep_values_after,
@@ -117,15 +110,6 @@ impl<D: DocTables> Doc<D> {
         &self.tables
     }
 
-    /// Whether nothing is kept, since no column has a formula.
-    ///
-    /// Memory: none.
-    pub fn is_plain(&self) -> bool
-        ensures { result ≡ true → has_formulas (D.document self.now) ≡ false }
-    {
-        self.kept.is_none()
-    }
-
     // Does a valid action, and evaluates the whole document after it.
     fn put_whole(&mut self, alloc: Global, action: &DocAction) -> Result<Trace<D>, AllocError>
         requires { valid (D.document self.old) action.now ≡ true }
@@ -161,10 +145,7 @@ impl<D: DocTables> Doc<D> {
         Ok(Trace {
             cells,
             back,
-            kept,
-            taken: None,
-            stale: Vec::new(alloc),
-            are_all_stale: true,
+            before: Before::Whole(kept),
         })
     }
 
@@ -172,7 +153,7 @@ impl<D: DocTables> Doc<D> {
     fn is_narrow(&self, action: &DocAction) -> bool
         ensures { result ≡ true → is_update action.now ≡ true }
     {
-        self.kept.is_some() && !self.reads.is_wide() && is_narrow(action)
+        self.kept.is_some() && !self.reads.is_wide() && is_narrow(&self.tables, action)
     }
 
     // Does a valid update where values are kept, and evaluates what it affects, in a count of
@@ -202,20 +183,14 @@ impl<D: DocTables> Doc<D> {
         kept_law();
         narrow_law();
         leads_over_law();
-        stale_law();
         let Some(kept) = &self.kept else {
             return self.put_whole(alloc, action);
         };
         let mut indexes = take_indexes(alloc, &mut self.indexes);
         let reads = &mut self.reads;
-        let affected = match find_affected(
-            alloc,
-            &mut self.tables,
-            kept,
-            reads,
-            &mut indexes,
-            action,
-        ) {
+        let known = &mut indexes;
+        let found = find_affected(alloc, &mut self.tables, kept, reads, known, action);
+        let affected = match found {
             Ok(affected) => affected,
             Err(ReadsFault::TooMany) => return self.put_whole(alloc, action),
             Err(ReadsFault::NoMemory) => return Err(AllocError),
@@ -226,25 +201,13 @@ impl<D: DocTables> Doc<D> {
         let Some(kept) = &mut self.kept else {
             unreachable!();
         };
-        let Affected {
-            cells: named,
-            room,
-            stale,
-            ..
-        } = affected;
+        let (named, room, stale) = (affected.cells, affected.room, affected.stale);
+        let tables = &self.tables;
         let reads = &mut self.reads;
         let known = &mut indexes;
         let mut steps = Steps::<L>::new(blank);
-        let Ok(taken) = refresh_recording(
-            alloc,
-            &self.tables,
-            kept,
-            known,
-            reads,
-            named,
-            room,
-            &mut steps,
-        ) else {
+        let done = refresh_recording(alloc, tables, kept, known, reads, named, room, &mut steps);
+        let Ok(taken) = done else {
             self.tables.take_back(undo);
             return Err(AllocError);
         };
@@ -253,15 +216,12 @@ impl<D: DocTables> Doc<D> {
         Ok(Trace {
             cells,
             back: undo,
-            kept: None,
-            taken: Some(taken),
-            stale,
-            are_all_stale: false,
+            before: Before::Update { taken, stale },
         })
     }
 
-    // Does a valid action by which these rows of a table come or go where values are kept:
-    // evaluates what it affects, in a count of attempts of its own, and copies the other values.
+    // Does a valid action by which these rows of a table come or go where values are kept, and
+    // evaluates what it affects, in a count of attempts of its own.
     fn put_rows<L: Ledger>(
         &mut self,
         alloc: Global,
@@ -289,26 +249,15 @@ impl<D: DocTables> Doc<D> {
     {
         kept_law();
         narrow_law();
-        right_over_law();
-        reads_over_law();
-        reads_back_law();
         let Some(kept) = &self.kept else {
             return self.put_whole(alloc, action);
         };
         let mut indexes = take_indexes(alloc, &mut self.indexes);
+        let tables = &mut self.tables;
         let reads = &mut self.reads;
         let known = &mut indexes;
-        let found = find_moved(
-            alloc,
-            &mut self.tables,
-            kept,
-            reads,
-            known,
-            action,
-            table,
-            rows,
-        );
-        let mut moved = match found {
+        let found = find_moved(alloc, tables, kept, reads, known, action, table, rows);
+        let moved = match found {
             Ok(moved) => moved,
             Err(ReadsFault::TooMany) => return self.put_whole(alloc, action),
             Err(ReadsFault::NoMemory) => return Err(AllocError),
@@ -316,41 +265,26 @@ impl<D: DocTables> Doc<D> {
         let mut cells = narrow_cells(alloc, self, self.reads.graph(), &moved.found, action)?;
         let undo = self.tables.put(action)?;
         let mut indexes = enter_indexes(alloc, &self.tables, indexes, action);
-        let Some(kept) = &self.kept else {
+        let Some(kept) = &mut self.kept else {
             unreachable!();
         };
-        let graph = self.reads.graph();
-        let Ok(carried) = follow_moved(alloc, &self.tables, kept, graph, &mut moved, table, rows)
-        else {
-            self.tables.take_back(undo);
-            return Err(AllocError);
-        };
-        let mut fresh = carried;
+        let tables = &self.tables;
         let reads = &mut self.reads;
         let known = &mut indexes;
         let mut steps = Steps::<L>::new(blank);
-        let Ok(()) = refresh_rest(
-            alloc,
-            &self.tables,
-            &mut fresh,
-            known,
-            reads,
-            moved.noted,
-            &mut steps,
-        ) else {
+        let done = refresh_moved(
+            alloc, tables, kept, known, reads, moved, table, rows, &mut steps,
+        );
+        let Ok(before) = done else {
             self.tables.take_back(undo);
             return Err(AllocError);
         };
         self.indexes = indexes;
-        let before = mem::replace(&mut self.kept, Some(fresh));
         keep_lost(self, action, &mut cells);
         Ok(Trace {
             cells,
             back: undo,
-            kept: before,
-            taken: None,
-            stale: moved.stale,
-            are_all_stale: false,
+            before,
         })
     }
 
@@ -362,11 +296,12 @@ impl<D: DocTables> Doc<D> {
     /// schema action. Where a column has a formula or is given one, as to start. An update of few
     /// rows takes that of what it affects and writes, what the graph of reads takes of that and of
     /// stale cells, and an index of each data column by which these look rows up, where it has
-    /// none. So do few rows that come or go, with a copy of the values. Any other change gives the
-    /// indexes up.
+    /// none. So do few rows that come or go, with a place for each formula cell of their table. Any
+    /// other change gives the indexes up.
     /// Cost: where no column has a formula, a record action looks at its own table and rows alone;
     /// an update of few rows looks at each column, and at the rows that it affects and writes,
-    /// unless formulas read more than is recorded.
+    /// unless formulas read more than is recorded; so do few rows that come or go, which look also
+    /// at each row of their table.
     pub fn put(&mut self, alloc: Global, action: &DocAction) -> Result<Trace<D>, AllocError>
         requires { valid (D.document self.old) action.now ≡ true }
         ensures ok { OnOk result
@@ -383,7 +318,7 @@ impl<D: DocTables> Doc<D> {
         if self.is_narrow(action) {
             return self.put_update::<Brand>(alloc, action, Blank::new(1));
         }
-        if let Some((table, rows)) = few_moved(action) {
+        if let Some((table, rows)) = few_moved(&self.tables, action) {
             if self.kept.is_some() && !self.reads.is_wide() {
                 return self.put_rows::<Brand>(alloc, action, table, rows, Blank::new(1));
             }
@@ -443,40 +378,34 @@ impl<D: DocTables> Doc<D> {
         let Trace {
             cells,
             back: undo,
-            kept,
-            taken,
-            stale,
-            are_all_stale,
+            before,
         } = trace;
         drop(cells);
-        self.tables.take_back(undo);
         give_up(&mut self.indexes);
-        match taken {
-            Some(taken) => {
+        match before {
+            Before::Whole(kept) => {
+                self.tables.take_back(undo);
+                self.kept = kept;
+                self.reads.note_all();
+                // The change may have been of the schema.
+                self.reads.try_again();
+            }
+            Before::Update { taken, stale } => {
+                self.tables.take_back(undo);
                 put_back(&self.tables, &mut self.kept, taken);
                 self.reads.note_cells(stale);
             }
-            None => {
-                self.kept = kept;
-                note_back(&mut self.reads, are_all_stale, stale);
+            Before::Rows {
+                taken,
+                aside,
+                stale,
+            } => {
+                go_back_over(&self.tables, &mut self.kept, taken, aside);
+                self.tables.take_back(undo);
+                let reads = &mut self.reads;
+                reads.note_cells(stale);
             }
         }
-    }
-}
-
-// Notes these cells as stale, or all.
-fn note_back(reads: &mut KnownReads, are_all: bool, cells: Vec<CellId>)
-    ensures graph { reads.new.graph ≡ reads.old.graph }
-    ensures stale { (c : CellId) → (is_stale reads.old c || on cells.items c) ≡ true
-        → is_stale reads.new c ≡ true }
-    ensures all { are_all ≡ true → reads.new.are_all_stale ≡ true }
-{
-    if are_all {
-        reads.note_all();
-        // The change may have been of the schema.
-        reads.try_again();
-    } else {
-        reads.note_cells(cells);
     }
 }
 

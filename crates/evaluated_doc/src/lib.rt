@@ -14,12 +14,13 @@
 //! of reads says that it affects, and records what these cells read by the same attempts; it looks
 //! at them and at what it writes for what it lost. Before, it records what stale cells read: after
 //! such a change the circular ones, after any other change or a way back more, or all. Few rows
-//! that come or go do the same and copy every other value: of lookups both affect those by values
-//! that the rows have before or after, and those by formula columns. The indexes of the data
-//! columns by which these cells look rows up are made once, and each such change keeps them up by
-//! its rows. Where that is too much to be recorded, and for any other change, the whole document is
-//! evaluated, and the indexes are given up; so they are by a way back. Where no column has a
-//! formula nothing is kept, and a record action looks at what it writes or removes.
+//! that come or go do the same, and move the values of their table beside its rows: of lookups both
+//! affect those by values that the rows have before or after, and those by formula columns. The
+//! indexes of the data columns by which these cells look rows up are made once, and each such
+//! change keeps them up by its rows. Where that is too much to be recorded, and for any other
+//! change, the whole document is evaluated, and the indexes are given up; so they are by a way
+//! back. Where no column has a formula nothing is kept, and a record action looks at what it writes
+//! or removes.
 //! Read first: doc.rt, then specs/WayBack.antt, specs/Update.antt and specs/Moved.antt, then
 //! updating.rt and moving.rt.
 #![tactic(auto)]

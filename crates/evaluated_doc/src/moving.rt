@@ -1,32 +1,42 @@
 //! What rows that come or go affect.
 
-ghost use Rattle.std.specs.Prelude.{◌≡◌, true, Some, IfOk, IfSome, OnOk};
+ghost use Rattle.std.specs.Prelude.{◌≡◌, true, List, Some, IfOk, IfSome, OnErr, OnOk};
+ghost use Rattle.std.specs.Option.{option_map};
 ghost use Rattle.cell_types.specs.declared.cell.CellId.{CellId};
+ghost use Rattle.doc_model.specs.Document.{Document};
 ghost use Rattle.doc_model.specs.DocumentLaws.{IsWhole};
-ghost use Rattle.doc_model.specs.Rows.{IsAscending};
 ghost use Rattle.doc_model.specs.Valid.{valid};
+ghost use Rattle.doc_readers.specs.Parts.{grid_at};
+ghost use Rattle.recalc.specs.Current.{IsCurrent};
 ghost use Rattle.recalc.specs.Evaluated.{sheet_of};
 ghost use Rattle.recalc.specs.Indexes.{AreIndexes};
-ghost use Rattle.recalc.specs.Kept.{IsEvaluated, IsSettled};
+ghost use Rattle.recalc.specs.Kept.{IsEvaluated};
 ghost use Rattle.recalc.specs.Stack.{on};
 ghost use Rattle.affected_search.specs.Sheets.{is_found};
-ghost use Rattle.affected_values.specs.Carried.{AreRightStill, HasCellsOf, moved_rows, moved_table};
+ghost use Rattle.affected_values.specs.Carried.{HasCellsWith, moved_rows, moved_table};
 ghost use Rattle.affected_values.specs.Indexing.{AreLeft};
 ghost use Rattle.known_reads.specs.Beside.{KnowsOthers};
-ghost use Rattle.evaluated_doc.specs.Moved.{IsMoved};
+ghost use Rattle.evaluated_doc.specs.Moved.{IsMoved, IsMoving, LeadsFromRows};
+ghost use Rattle.evaluated_doc.specs.WayBack.{HasBefore};
 
 use crate::finding::found_by_records;
 use crate::indexing::leave;
-use crate::updating::NARROW_ROWS;
+use crate::trace::Before;
+use crate::updating::are_few;
 use affected_search::AffectedCells;
-use affected_values::{carry_values, named_cells, push_row_cells};
+use affected_values::{
+    HeldValue, LaidAside, lay_anew, lay_back, leads_over_rows_law, named_cells, push_row_cells,
+    put_values_back, right_laid_law, rows_back_law, rows_left_law,
+};
 use cell_types::{CellId, Name};
 use dep_graph::DepGraph;
 use doc_model::{DocAction, DocTables};
 use doc_readers::rows_in;
-use known_reads::{KnownReads, ReadsFault};
+use formula_eval::Steps;
+use known_reads::{KnownReads, ReadsFault, reads_back_law, reads_over_law, refresh_recording};
 use recalc::{ColumnIndex, KeptTable};
 use std::alloc::{AllocError, Global};
+use std::sync::ledger::Ledger;
 
 /// What is found before rows of a table come or go: the cells that this affects, also by name, to
 /// be evaluated anew by the change and, with those of the rows, to be noted as stale by its way
@@ -39,10 +49,14 @@ pub(crate) struct Moved {
     pub(crate) rows: Vec<u32>,
 }
 
-fn if_few<'a>(table: &'a Name, rows: &'a [u32]) -> Option<(&'a Name, &'a [u32])>
+fn if_few<'a, D: DocTables>(
+    tables: &D,
+    table: &'a Name,
+    rows: &'a [u32],
+) -> Option<(&'a Name, &'a [u32])>
     ensures { IfSome result (λ m. (m.0.now ≡ table.now) × (m.1.now ≡ rows.now)) }
 {
-    if rows.len() <= NARROW_ROWS {
+    if are_few(tables, table, rows) {
         Some((table, rows))
     } else {
         None
@@ -52,13 +66,16 @@ fn if_few<'a>(table: &'a Name, rows: &'a [u32]) -> Option<(&'a Name, &'a [u32])>
 /// The table of which few rows come or go by an action, and these rows.
 ///
 /// Memory: none.
-pub(crate) fn few_moved(action: &DocAction) -> Option<(&Name, &[u32])>
+pub(crate) fn few_moved<'a, D: DocTables>(
+    tables: &D,
+    action: &'a DocAction,
+) -> Option<(&'a Name, &'a [u32])>
     ensures { IfSome result
         (λ m. (moved_table action.now ≡ Some m.0.now) × (moved_rows action.now ≡ m.1.now)) }
 {
     match action {
         DocAction::BulkAdd { table, rows, .. } | DocAction::BulkRemove { table, rows } => {
-            if_few(table, rows.as_slice())
+            if_few(tables, table, rows.as_slice())
         }
         _ => None,
     }
@@ -76,7 +93,8 @@ fn named_with<D: DocTables>(
     ensures named { IfOk result (λ v. (c : CellId) → is_found graph.now found.now c ≡ true
         → on v.items c ≡ true) }
     ensures rows { IfOk result
-        (λ v. HasCellsOf (D.document tables.now) table.now rows.now v.items) }
+        (λ v. HasCellsWith (grid_at (D.document tables.now) table.now).columns table.now rows.now
+        v.items) }
 {
     let mut cells = named_cells(alloc, graph, found)?;
     push_row_cells(tables, table, rows, &mut cells)?;
@@ -142,38 +160,88 @@ pub(crate) fn find_moved<D: DocTables>(
     })
 }
 
-/// Carries what was kept of cells that are not found over rows of a table that came or went, where
-/// it is right still, and puts the formula cells of the rows to those that are named.
+/// Lays the values of a table anew after rows of it came or went, and evaluates the found cells and
+/// the formula cells of these rows.
 ///
-/// Errors: out of memory. Memory and cost: as to copy these values.
-pub(crate) fn follow_moved<D: DocTables>(
+/// Errors: out of memory; the values are then those before, all cells may be stale, and the indexes
+/// are to be given up.
+/// Memory and cost: a place for each formula cell of the table and a walk over its rows, and those
+/// of the cells that are evaluated.
+pub(crate) fn refresh_moved<D: DocTables, L: Ledger>(
     alloc: Global,
     tables: &D,
-    kept: &[KeptTable],
-    graph: &DepGraph,
-    moved: &mut Moved,
+    kept: &mut Vec<KeptTable>,
+    indexes: &mut Vec<ColumnIndex>,
+    reads: &mut KnownReads,
+    moved: Moved,
     table: &Name,
     rows: &[u32],
-) -> Result<Vec<KeptTable>, AllocError>
+    steps: &mut Steps<L>,
+) -> Result<Before, AllocError>
     requires whole { IsWhole (D.document tables.now) }
-    requires ascending { IsAscending moved.old.rows.items }
-    requires right { AreRightStill (D.document tables.now) table.now moved.old.rows.items kept.now
-        graph.now moved.old.found }
-    ensures settled { IfOk result (λ v. IsSettled (D.document tables.now) v.items) }
-    ensures stays { OnOk result
-        ((c : CellId) → on moved.old.noted.items c ≡ true → on moved.new.noted.items c ≡ true) }
-    ensures noted { OnOk result
-        (HasCellsOf (D.document tables.now) table.now rows.now moved.new.noted.items) }
-    ensures left { moved.new.stale.items ≡ moved.old.stale.items }
+    requires indexed { AreIndexes (sheet_of (D.document tables.now)) indexes.old.items }
+    requires moving { (s : Document) × IsMoving s (D.document tables.now) table.now rows.now
+        kept.old.items reads.old moved }
+    ensures ok { OnOk result (IsEvaluated (D.document tables.now) kept.new.items) }
+    ensures reads { OnOk result (KnowsOthers (D.document tables.now) reads.new) }
+    ensures indexed { OnOk result
+        (AreIndexes (sheet_of (D.document tables.now)) indexes.new.items) }
+    ensures way { IfOk result (λ before. (s : Document)
+        → IsMoving s (D.document tables.now) table.now rows.now kept.old.items reads.old moved
+        → HasBefore s (D.document tables.now) before) }
+    ensures err { OnErr result ((s : Document)
+        → IsMoving s (D.document tables.now) table.now rows.now kept.old.items reads.old moved
+        → IsEvaluated s kept.new.items × KnowsOthers s reads.new) }
 {
-    push_row_cells(tables, table, rows, &mut moved.noted)?;
-    carry_values(
-        alloc,
-        tables,
-        kept,
-        table,
-        moved.rows.as_slice(),
-        graph,
-        &moved.found,
-    )
+    right_laid_law();
+    leads_over_rows_law();
+    rows_left_law();
+    reads_over_law();
+    reads_back_law();
+    let Moved {
+        noted,
+        stale,
+        rows: were,
+        ..
+    } = moved;
+    let mut cells = noted;
+    push_row_cells(tables, table, rows, &mut cells)?;
+    let room = Vec::with_capacity(alloc, cells.len())?;
+    let aside = lay_anew(alloc, tables, kept, table, were)?;
+    match refresh_recording(alloc, tables, kept, indexes, reads, cells, room, steps) {
+        Ok(taken) => Ok(Before::Rows {
+            taken,
+            aside,
+            stale,
+        }),
+        Err(_) => {
+            lay_back(tables, kept, aside);
+            Err(AllocError)
+        }
+    }
+}
+
+/// Puts back the values of a table of which rows came or went, and of the cells that this evaluated
+/// anew, before the store is taken back.
+///
+/// Memory: none.
+pub(crate) fn go_back_over<D: DocTables>(
+    tables: &D,
+    kept: &mut Option<Vec<KeptTable>>,
+    taken: Vec<HeldValue>,
+    aside: LaidAside,
+)
+    requires whole { IsWhole (D.document tables.now) }
+    requires before { (s : Document) × (stale : List CellId)
+        × IsCurrent (D.document tables.now) (option_map (λ v. v.items) kept.old)
+        × LeadsFromRows s (D.document tables.now) taken.items aside stale }
+    ensures { (s : Document) (stale : List CellId)
+        → LeadsFromRows s (D.document tables.now) taken.items aside stale
+        → IsCurrent s (option_map (λ v. v.items) kept.new) }
+{
+    rows_back_law();
+    if let Some(kept) = kept {
+        put_values_back(tables, kept, taken);
+        lay_back(tables, kept, aside);
+    }
 }

@@ -2,44 +2,49 @@
 
 ghost use Rattle.std.specs.Prelude.{◌≡◌};
 
-use affected_values::HeldValue;
+use affected_values::{HeldValue, LaidAside};
 use cell_types::{CellId, CellOld};
 use doc_model::DocTables;
 use recalc::KeptTable;
 use std::marker::Model;
+
+/// What leads back to the values before a change.
+#[derive(Drop)]
+pub enum Before {
+    /// All values before a change after which all cells were evaluated, and noted as stale.
+    Whole(Option<Vec<KeptTable>>),
+    /// The values before an update of those cells that it evaluated anew, and the cells that may
+    /// read something else before it.
+    Update {
+        taken: Vec<HeldValue>,
+        stale: Vec<CellId>,
+    },
+    /// The same of rows that came or went, and the values that were laid aside.
+    Rows {
+        taken: Vec<HeldValue>,
+        aside: LaidAside,
+        stale: Vec<CellId>,
+    },
+}
 
 /// The cells that a change lost, and the way back.
 #[derive(Drop)]
 pub struct Trace<D: DocTables> {
     pub(crate) cells: Vec<CellOld>,
     pub(crate) back: D::Back,
-    // All values before the change; none where some were taken.
-    pub(crate) kept: Option<Vec<KeptTable>>,
-    // The values before the change of those cells that it evaluated anew, where these are all.
-    pub(crate) taken: Option<Vec<HeldValue>>,
-    // The cells that may read something else before the change, where not all may.
-    pub(crate) stale: Vec<CellId>,
-    pub(crate) are_all_stale: bool,
+    pub(crate) before: Before,
 }
 
 impl<D: DocTables> Model for Trace<D> {
     ghost use Rattle.formula_parse.specs.contracts.tree.Formula as formula;
     ghost use Rattle.evaluated_doc.specs.WayBack.{Changed};
     ghost use Rattle.std.specs.Coded.{codes};
-    ghost use Rattle.std.specs.Option.{option_map};
 
     ghost Value = { Changed D.Back };
 
     ghost coded = { Prim.hlevel (codes, formula.the_row.coded) };
 
-    ghost view = { λ t. record {
-      cells = t.cells.items;
-      back = t.back;
-      kept = option_map (λ v. v.items) t.kept;
-      taken = option_map (λ v. v.items) t.taken;
-      stale = t.stale.items;
-      are_all_stale = t.are_all_stale;
-    } };
+    ghost view = { λ t. record { cells = t.cells.items; back = t.back; before = t.before } };
 }
 
 impl<D: DocTables> Trace<D> {

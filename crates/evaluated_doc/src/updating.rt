@@ -15,16 +15,28 @@ use crate::finding::found_by_records;
 use crate::indexing::leave;
 use affected_search::AffectedCells;
 use affected_values::{HeldValue, named_cells};
-use cell_types::CellId;
+use cell_types::{CellId, Name};
 use dep_graph::DepGraph;
 use doc_model::{DocAction, DocTables};
+use doc_readers::rows_in;
 use known_reads::{KnownReads, ReadsFault};
 use recalc::{ColumnIndex, KeptTable};
 use std::alloc::{AllocError, Global};
 
-/// How many rows an action writes, adds or removes at most for that which it affects to be found:
-/// one of many rows affects most of its table.
-pub(crate) const NARROW_ROWS: usize = 64;
+/// How many rows an action writes, adds or removes at most for that which it affects to be found,
+/// where its table is small: one of many rows affects most of it.
+const NARROW_ROWS: usize = 64;
+
+/// Of a large table it is one row of so many.
+const NARROW_SHARE: usize = 8;
+
+/// Whether so few rows of a table are written, or come or go, that it pays to find what this
+/// affects.
+///
+/// Memory: none.
+pub(crate) fn are_few<D: DocTables>(tables: &D, table: &Name, rows: &[u32]) -> bool {
+    rows.len() <= NARROW_ROWS || rows.len() <= rows_in(tables, table).len() / NARROW_SHARE
+}
 
 /// Affected cells: as they were found; to be evaluated anew, with room for what is known of them;
 /// and to be noted as stale by the way back.
@@ -39,11 +51,11 @@ pub(crate) struct Affected {
 /// Whether it pays to find what an action affects: it is an update of few rows.
 ///
 /// Memory: none.
-pub(crate) fn is_narrow(action: &DocAction) -> bool
+pub(crate) fn is_narrow<D: DocTables>(tables: &D, action: &DocAction) -> bool
     ensures { result ≡ true → is_update action.now ≡ true }
 {
     match action {
-        DocAction::BulkUpdate { rows, .. } => rows.as_slice().len() <= NARROW_ROWS,
+        DocAction::BulkUpdate { table, rows, .. } => are_few(tables, table, rows.as_slice()),
         _ => false,
     }
 }

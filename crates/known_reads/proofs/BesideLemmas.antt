@@ -1,5 +1,5 @@
 -- A graph beside the values of a document.
-use Rattle.std.proofs.Common.{ℕ, ◌+◌, Bool, true, false, cond, not, ◌||◌, List, [], ◌∷◌, ◌++◌, length, length-append, ◌≡◌, refl, sym, ap, ◌∙◌, Option, Some, None}
+use Rattle.std.proofs.Common.{ℕ, ◌+◌, Bool, true, false, cond, not, ◌||◌, List, [], ◌∷◌, ◌++◌, length, length-append, ◌≡◌, refl, sym, ap, ◌∙◌, subst, Option, Some, None}
 use Rattle.std.proofs.lemmas.Bool.{true≢false, false≢true}
 use Rattle.std.specs.Option.{is_some}
 use Rattle.cell_types.specs.declared.cell.CellId.{CellId}
@@ -10,12 +10,14 @@ use Rattle.dep_graph.specs.Graph.{Graph}
 use Rattle.recalc.specs.Evaluated.{formula_at, sheet_of}
 use Rattle.recalc.specs.Stack.{on}
 use Rattle.recalc.proofs.Moves.{on_append}
-use Rattle.affected_cells.specs.Noted.{notes}
+use Rattle.affected_cells.specs.Noted.{notes, notes_by}
+use Rattle.affected_cells.proofs.Unaffected.{all_values}
 use Rattle.affected_cells.proofs.UpdateTouches.{after, same_formula}
-use Rattle.affected_search.specs.Noted.{HoldsNotes, HoldsNotesOf}
+use Rattle.affected_search.specs.ExactNotes.{HasNotes, HasNotesOf}
+use Rattle.affected_search.proofs.ExactNotes.{same_exact}
 use Rattle.affected_search.specs.Sheets.{is_found}
-use Rattle.known_reads.specs.Beside.{ReadsSameLaw}
-use Rattle.known_reads.specs.Known.{AreReadWhere, IsReadWhere}
+use Rattle.known_reads.specs.Beside.{Beside, IsNoted, KnowsOthers, ReadsSameLaw, StaleLaw, is_stale}
+use Rattle.known_reads.specs.Known.{AreRead, IsRead}
 
 -- ---- stale cells
 
@@ -44,12 +46,42 @@ room_left cells left cell is = ap length is ∙ length-append left (cell ∷ [])
 -- ---- all notes
 
 -- what holds of each cell that is stale, and of each other one, holds of all
-pub all_known : (s : Document) (graph : Graph) (stale : List CellId) → AreReadWhere s graph stale → ((c : CellId) → on stale c ≡ false → IsReadWhere s graph c) → HoldsNotes graph (sheet_of s)
-all_known s graph stale read others c f e = by (on stale c) refl
+pub all_known : (s : Document) (graph : Graph) (stale : List CellId) → AreRead s graph stale → ((c : CellId) → on stale c ≡ false → IsRead s graph c) → HasNotes graph (sheet_of s)
+all_known s graph stale read others c = by (on stale c) refl
   where
-    by : (b : Bool) → on stale c ≡ b → HoldsNotesOf graph (sheet_of s) c
-    by true here = read c here (ap is_some e)
-    by false here = others c here (ap is_some e)
+    by : (b : Bool) → on stale c ≡ b → HasNotesOf graph (sheet_of s) c
+    by true here = read c here
+    by false here = others c here
+
+-- ---- over a change
+
+-- notes that are the same where there is a formula, in both or in neither
+pub read_same : (s t : Document) (graph : Graph) (c : CellId) → is_some (formula_at s c) ≡ is_some (formula_at t c) → (is_some (formula_at t c) ≡ true → notes (sheet_of s) c ≡ notes (sheet_of t) c) → IsRead s graph c → IsRead t graph c
+read_same s t graph c there same read = same_exact graph (sheet_of s) (sheet_of t) c there (by (formula_at s c) (formula_at t c) refl refl) read
+  where
+    by : (o p : Option (List ℕ)) → formula_at s c ≡ o → formula_at t c ≡ p → notes (sheet_of s) c ≡ notes (sheet_of t) c
+    by o (Some f) e g = same (ap is_some g)
+    by None None e g = ap (notes_by (sheet_of s) (all_values (sheet_of s)) c) e ∙ sym (ap (notes_by (sheet_of t) (all_values (sheet_of t)) c) g)
+    by (Some f) None e g = absurd (true≢false (sym (ap is_some e) ∙ there ∙ ap is_some g))
+
+fresh_parts : (a b n : Bool) → ((a || b) ≡ true → n ≡ true) → n ≡ false → (a ≡ false) × (b ≡ false)
+fresh_parts true b n more h = absurd (true≢false (sym (more refl) ∙ h))
+fresh_parts false true n more h = absurd (true≢false (sym (more refl) ∙ h))
+fresh_parts false false n more h = (refl, refl)
+
+-- what is known of the one document is known of the other, but of cells that are noted
+pub known_same : (s t : Document) (cells : List CellId) (old new : Beside) → IsNoted old new cells
+    → ((c : CellId) → on cells c ≡ false → is_some (formula_at s c) ≡ is_some (formula_at t c)) → ((c : CellId) → is_some (formula_at t c) ≡ true → on cells c ≡ false → notes (sheet_of s) c ≡ notes (sheet_of t) c)
+    → KnowsOthers s old → KnowsOthers t new
+known_same s t cells old new is there same known c fresh =
+    let parts = fresh_parts (is_stale old c) (on cells c) (is_stale new c) (is.stale c) fresh in
+    subst (λ (g : Graph). IsRead t g c) (sym is.graph) (read_same s t old.graph c (there c parts.1) (λ h. same c h parts.1) (known c parts.0))
+
+pub stale : StaleLaw
+stale s t cells old new same is = (
+  known_same s t cells old new is (λ c other. same.there c) (λ c there other. same.same c (same.there c ∙ there) other),
+  known_same t s cells old new is (λ c other. sym (same.there c)) (λ c there other. sym (same.same c there other)),
+)
 
 -- ---- over an update
 

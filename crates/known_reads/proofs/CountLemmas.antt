@@ -1,5 +1,5 @@
 -- How many attempts the cells take.
-use Rattle.std.proofs.Common.{◌+◌, ◌≤◌, ◌<◌, Bool, true, false, cond, not, ◌&&◌, ◌||◌, List, [], ◌∷◌, ◌++◌, length, length-append, ◌≡◌, refl, sym, ap, ◌∙◌, subst, Option, Some, None, arith}
+use Rattle.std.proofs.Common.{◌+◌, ◌≤◌, ◌<◌, Bool, true, false, cond, not, ◌&&◌, ◌||◌, List, [], ◌∷◌, length, ◌≡◌, refl, sym, ap, ◌∙◌, subst, Option, Some, None, arith}
 use Rattle.std.proofs.lemmas.Bool.{false≢true, true≢false}
 use Rattle.std.specs.Option.{is_some}
 use Rattle.cell_types.specs.declared.cell.CellId.{CellId}
@@ -17,6 +17,7 @@ use Rattle.recalc.proofs.Turn.{same_itself, same_true}
 use Rattle.affected_values.specs.declared.taking.HeldValue.{HeldValue}
 use Rattle.affected_values.specs.Taken.{IsRightBut, IsTaken}
 use Rattle.affected_values.proofs.RefreshedLemmas.{held_left}
+use Rattle.known_reads.specs.Attempts.{HasFormulas}
 use Rattle.known_reads.specs.Recorded.{HasOpen, open_count}
 
 -- ---- open cells
@@ -50,13 +51,22 @@ open_less s k j cell v puts opened cells has =
     by d false e h = sym e ∙ h
 
 -- what was taken out is all that is open
+taken_on : (s : Document) (old now : List KeptTable) (cells : List CellId) (taken : List HeldValue) → IsTaken cells taken (held_at s old) (held_at s now) → IsRightBut s old cells
+    → (c : CellId) → IsOpen (sheet_of s) (held_at s now) c → on cells c ≡ true
+taken_on s old now cells taken out right c opened = by (on cells c) refl
+  where
+    by : (b : Bool) → on cells c ≡ b → on cells c ≡ true
+    by true e = e
+    by false e = absurd (true≢false (sym (held_left s old now cells taken out right c (out.each c ∙ e) (ap is_some opened.0.1)) ∙ ap is_some opened.1))
+
 pub open_taken : (s : Document) (old now : List KeptTable) (cells : List CellId) (taken : List HeldValue) → IsTaken cells taken (held_at s old) (held_at s now) → IsRightBut s old cells
     → HasOpen (sheet_of s) (held_at s now) cells
-open_taken s old now cells taken out right c opened = by (on cells c) refl
-  where
-    by : (b : Bool) → on cells c ≡ b → IsIn c cells
-    by true e = on_in (sheet_of s) cells c e
-    by false e = absurd (true≢false (sym (held_left s old now cells taken out right c (out.each c ∙ e) (ap is_some opened.0.1)) ∙ ap is_some opened.1))
+open_taken s old now cells taken out right c opened = on_in (sheet_of s) cells c (taken_on s old now cells taken out right c opened)
+
+-- so what is open is in each list that has the formula cells that were taken out
+pub open_named : (s : Document) (old now : List KeptTable) (cells : List CellId) (taken : List HeldValue) → IsTaken cells taken (held_at s old) (held_at s now) → IsRightBut s old cells
+    → (all : List CellId) → HasFormulas s cells all → HasOpen (sheet_of s) (held_at s now) all
+open_named s old now cells taken out right all has c opened = has c (taken_on s old now cells taken out right c opened) (ap is_some opened.0.1)
 
 -- ---- the stack
 
@@ -111,6 +121,3 @@ no_more k (c ∷ cells) = elim (is_open k c) as (λ b. cond b 1 0 + count (is_op
   | true ↦ omega (arith, no_more k cells)
   | false ↦ omega (arith, no_more k cells)
 ]
-
-pub length_snoc : (stack front : List CellId) (top : CellId) → stack ≡ front ++ top ∷ [] → length stack ≡ length front + 1
-length_snoc stack front top is = ap length is ∙ length-append front (top ∷ [])

@@ -1,18 +1,13 @@
 -- What a graph has of the notes of an evaluated document.
 use mathlib.Core.Path.{fun_ext}
 use Rattle.std.proofs.Common.{ℕ, ◌≤◌, Bool, true, false, ◌||◌, List, [], ◌∷◌, length, ◌≡◌, refl, sym, ap, ◌∙◌, subst, Option, Some, None, Result, Ok, Err, OnErr, OnOk}
-use Rattle.std.proofs.lemmas.Bool.{false≢true}
+use Rattle.std.proofs.lemmas.Bool.{false≢true, true≢false}
 use Rattle.std.specs.List.{AllByRecursion}
+use Rattle.std.specs.Option.{is_some}
 use Rattle.cell_types.specs.declared.cell.CellId.{CellId}
 use Rattle.doc_model.specs.Document.{Document}
 use Rattle.formula_eval.specs.Reader.{known as told_value, needed}
-use Rattle.affected_cells.specs.Noted.{notes}
-use Rattle.affected_cells.proofs.Tests.{all_weaker}
-use Rattle.dep_graph.specs.declared.numbers.ReadNumber.{ReadNumber}
-use Rattle.dep_graph.specs.Graph.{Graph, IsKept}
-use Rattle.dep_graph.specs.Records.{reads_under}
-use Rattle.dep_graph.specs.Sources.{Source, sources}
-use Rattle.dep_graph.proofs.NameLaws.{cell_stays, numbers_stay}
+use Rattle.dep_graph.specs.Graph.{Graph, IsDropped, IsKept}
 use Rattle.cell_types.specs.declared.value.CellValue.{CellValue}
 use Rattle.recalc.specs.declared.kept.KeptTable.{KeptTable}
 use Rattle.recalc.specs.Cells.{same_cell}
@@ -24,9 +19,9 @@ use Rattle.recalc.proofs.Progress.{EachOf, each_all}
 use Rattle.recalc.proofs.SheetLemmas.{is_sheet}
 use Rattle.recalc.proofs.Turn.{same_true}
 use Rattle.affected_search.specs.Recording.{NeedsNone}
-use Rattle.affected_search.specs.Noted.{IsHeldSource}
+use Rattle.affected_search.proofs.ExactNotes.{dropped_exact, kept_exact}
 use Rattle.affected_search.specs.NotedUpkeep.{NotesRecordedOf}
-use Rattle.known_reads.specs.Known.{AreReadWhere, IsReadWhere, KeepsReads}
+use Rattle.known_reads.specs.Known.{IsRead, KeepsReads}
 
 module _ (s : Document) (ks : List KeptTable) (known : IsEvaluated s ks) where
   value_known : (c : CellId) (f : List ℕ) → formula_at s c ≡ Some f → held_at s ks c ≡ Some (evaluated (sheet_of s) c)
@@ -54,17 +49,8 @@ module _ (s : Document) (ks : List KeptTable) (known : IsEvaluated s ks) where
       by None e = (is_sheet s).told c e
       by (Some f) e = never e
 
-module _ (s : Sheet) (old new : Graph) (kept : IsKept old new) where
-  stays : (numbers : List ReadNumber) (x : Source) → IsHeldSource old.names numbers x → IsHeldSource new.names numbers x
-  stays numbers x h = (h.0, (numbers_stay old.names new.names kept.grown (x ∷ []) (h.0 ∷ []) (h.1, tt)).0, h.2)
-
-  pub reads_kept : KeepsReads s old new
-  reads_kept c h = (
-    h.0,
-    cell_stays old.names new.names kept.grown c h.0 h.1,
-    subst (λ ns. AllByRecursion (IsHeldSource new.names ns) (sources (notes s c))) (sym (kept.reads h.0))
-        (all_weaker (IsHeldSource old.names (reads_under old.reads h.0)) (IsHeldSource new.names (reads_under old.reads h.0)) (stays (reads_under old.reads h.0)) (sources (notes s c)) h.2),
-  )
+pub reads_kept : (s : Sheet) (old new : Graph) → IsKept old new → KeepsReads s old new
+reads_kept s old new kept = kept_exact s old new kept
 
 -- what holds in any case
 pub at_err : {A E P : Type 0} (r : Result A E) → P → OnErr r P
@@ -72,21 +58,41 @@ at_err (Ok x) p = tt
 at_err (Err e) p = p
 
 pub kept_either : {A E : Type 0} (s : Sheet) (old new : Graph) (c : CellId) (r : Result A E) → OnOk r (NotesRecordedOf new old s c) → OnErr r (KeepsReads s old new) → KeepsReads s old new
-kept_either s old new c (Ok x) ok err = ok.others
+kept_either s old new c (Ok x) ok err = ok.keeps
 kept_either s old new c (Err e) ok err = err
 
 -- ---- cells recorded one after the other
 
-pub read_stays : (s : Document) (old new : Graph) → KeepsReads (sheet_of s) old new → (c : CellId) → IsReadWhere s old c → IsReadWhere s new c
-read_stays s old new keeps c read there = keeps c (read there)
+pub read_stays : (s : Document) (old new : Graph) → KeepsReads (sheet_of s) old new → (c : CellId) → IsRead s old c → IsRead s new c
+read_stays s old new keeps c read = keeps c read
 
-among_read : (s : Document) (graph : Graph) (cells : List CellId) → AllByRecursion (IsReadWhere s graph) cells → AreReadWhere s graph cells
-among_read s graph [] all c h = absurd (false≢true h)
-among_read s graph (d ∷ cells) all c h = by (among_read s graph cells all.1 c) (same_cell d c) refl h
+-- what holds of each cell of a list holds of those on it
+among_each : (P : CellId → Type 0) (cells : List CellId) → AllByRecursion P cells → (c : CellId) → on cells c ≡ true → P c
+among_each P [] all c h = absurd (false≢true h)
+among_each P (d ∷ cells) all c h = by (among_each P cells all.1 c) (same_cell d c) refl h
   where
-    by : (on cells c ≡ true → IsReadWhere s graph c) → (b : Bool) → same_cell d c ≡ b → (b || on cells c) ≡ true → IsReadWhere s graph c
-    by later true same h = subst (IsReadWhere s graph) (same_true d c same) all.0
+    by : (on cells c ≡ true → P c) → (b : Bool) → same_cell d c ≡ b → (b || on cells c) ≡ true → P c
+    by later true same h = subst P (same_true d c same) all.0
     by later false same h = later h
 
-pub all_read : (s : Document) (graph : Graph) (cells : List CellId) (n : ℕ) → length cells ≤ n → EachOf (IsReadWhere s graph) cells n → AreReadWhere s graph cells
-all_read s graph cells n le all = among_read s graph cells (each_all (IsReadWhere s graph) cells n le all)
+pub all_read : (P : CellId → Type 0) (cells : List CellId) (n : ℕ) → length cells ≤ n → EachOf P cells n → (c : CellId) → on cells c ≡ true → P c
+all_read P cells n le all = among_each P cells (each_all P cells n le all)
+
+-- ---- cells without formulas
+
+no_formula : (o : Option (List ℕ)) → is_some o ≡ false → o ≡ None
+no_formula None h = refl
+no_formula (Some f) h = absurd (true≢false h)
+
+-- the graph has just what the cell notes, where it is no formula cell
+abbrev pub IsReadPlain : Document → Graph → CellId → Type 0
+IsReadPlain s graph c = formula_at s c ≡ None → IsRead s graph c
+
+pub forgotten : (s : Document) (old new : Graph) (c : CellId) → IsDropped old new c → is_some (formula_at s c) ≡ false → IsRead s new c × KeepsReads (sheet_of s) old new
+forgotten s old new c dropped plain = let d = dropped_exact (sheet_of s) old new c dropped (no_formula (formula_at s c) plain) in (d.here, d.others)
+
+pub plain_stays : (s : Document) (old new : Graph) → KeepsReads (sheet_of s) old new → (c : CellId) → IsReadPlain s old c → IsReadPlain s new c
+plain_stays s old new keeps c read plain = keeps c (read plain)
+
+pub not_plain : (s : Document) (graph : Graph) (c : CellId) → is_some (formula_at s c) ≡ true → IsReadPlain s graph c
+not_plain s graph c there plain = absurd (true≢false (sym there ∙ ap is_some plain))

@@ -4,3 +4,4 @@ pub mod WalkedLemmas
 pub mod MovedLemmas
 pub mod RecordedLemmas
 pub mod CountLemmas
+pub mod BoundLemmas

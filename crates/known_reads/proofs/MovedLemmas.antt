@@ -1,7 +1,6 @@
 -- A graph beside the values, over rows of one table that come or go.
 use Rattle.std.proofs.Common.{ℕ, Bool, true, false, not, ◌&&◌, ◌||◌, List, ◌≡◌, refl, sym, ap, ◌∙◌, subst, inl, inr, Option, Some, None}
 use Rattle.std.proofs.lemmas.Bool.{true≢false, false≢true}
-use Rattle.std.specs.List.{AllByRecursion}
 use Rattle.std.specs.Option.{is_some}
 use Rattle.std.specs.Str.{bytes_eq}
 use Rattle.cell_types.specs.declared.cell.CellId.{CellId}
@@ -13,8 +12,6 @@ use Rattle.doc_model.specs.Rows.{has}
 use Rattle.doc_model.specs.Valid.{valid}
 use Rattle.dep_graph.specs.declared.numbers.CellNumber.{CellNumber}
 use Rattle.dep_graph.specs.Graph.{Graph}
-use Rattle.dep_graph.specs.Records.{reads_under}
-use Rattle.dep_graph.specs.Sources.{sources}
 use Rattle.recalc.specs.Evaluated.{formula_at, sheet_of}
 use Rattle.recalc.specs.Stack.{on}
 use Rattle.affected_cells.specs.Affected.{is_fresh_cell, is_modified}
@@ -23,26 +20,15 @@ use Rattle.affected_cells.specs.Touched.{is_touched}
 use Rattle.affected_cells.specs.TouchedRight.{IsSameCell}
 use Rattle.affected_cells.proofs.RowsLaw.{rows_law}
 use Rattle.affected_search.specs.Actions.{KeepsOthers}
-use Rattle.affected_search.specs.Noted.{HoldsNotesOf, IsHeldSource}
 use Rattle.affected_search.specs.Sheets.{is_found}
 use Rattle.affected_values.specs.Carried.{HasCellsOf, moved_rows, moved_table}
-use Rattle.known_reads.specs.Beside.{is_stale}
 use Rattle.known_reads.specs.Moved.{NotedLaw, ReadsBackLaw, ReadsOverLaw}
+use Rattle.known_reads.proofs.BesideLemmas.{known_same}
 
 -- ---- stale cells
 
 pub noted : NotedLaw
-noted s t cells old new after is known c fresh there = by (is_stale old c) (on cells c) refl refl
-  where
-    from : is_stale old c ≡ false → on cells c ≡ false → HoldsNotesOf new.graph (sheet_of t) c
-    from right other =
-        let held = known c right (after.there c there other) in
-        subst (λ g. HoldsNotesOf g (sheet_of t) c) (sym is.graph) (held.0, held.1, subst (λ ns. AllByRecursion (IsHeldSource old.graph.names (reads_under old.graph.reads held.0)) (sources ns)) (after.same c there other) held.2)
-
-    by : (a b : Bool) → is_stale old c ≡ a → on cells c ≡ b → HoldsNotesOf new.graph (sheet_of t) c
-    by true b e f = absurd (true≢false (sym (is.stale c (ap (λ x. x || on cells c) e)) ∙ fresh))
-    by false true e f = absurd (true≢false (sym (is.stale c (ap (λ x. x || on cells c) e ∙ f)) ∙ fresh))
-    by false false e f = from e f
+noted s t cells old new after is known = known_same s t cells old new is after.there after.same known
 
 -- ---- rows that come or go
 
@@ -89,7 +75,7 @@ not_modified (ModifyColumn u k i) t h c = absurd (none_some t h)
 
 module _ (s : Document) (a : DocAction) (t : List ℕ) (graph : Graph) (found : List CellNumber) (cells : List CellId)
     (moved : moved_table a ≡ Some t) (ok : valid s a ≡ true) (keeps : KeepsOthers s graph a found)
-    (named : (c : CellId) → is_found graph found c ≡ true → on cells c ≡ true) (has_cells : HasCellsOf (apply s a) t (moved_rows a) cells) where
+    (named : (c : CellId) → is_found graph found c ≡ true → on cells c ≡ true) (before : HasCellsOf s t (moved_rows a) cells) (after : HasCellsOf (apply s a) t (moved_rows a) cells) where
   not_found : (c : CellId) → on cells c ≡ false → is_found graph found c ≡ false
   not_found c other = by (is_found graph found c) refl
     where
@@ -97,54 +83,37 @@ module _ (s : Document) (a : DocAction) (t : List ℕ) (graph : Graph) (found : 
       by true e = absurd (true≢false (sym (named c e) ∙ other))
       by false e = refl
 
-  formula_same : (c : CellId) → is_some (formula_at (apply s a) c) ≡ true → on cells c ≡ false → formula_at (apply s a) c ≡ formula_at s c
-  formula_same c there other = by (bytes_eq c.table t && has (moved_rows a) c.row) refl
+  -- a cell of the rows that is not among them has no formula
+  none_there : (x : Document) → HasCellsOf x t (moved_rows a) cells → (c : CellId) → (bytes_eq c.table t && has (moved_rows a) c.row) ≡ true → on cells c ≡ false → formula_at x c ≡ None
+  none_there x has_cells c e other = by (formula_at x c) refl
+    where
+      by : (o : Option (List ℕ)) → formula_at x c ≡ o → o ≡ None
+      by None g = refl
+      by (Some f) g = absurd (true≢false (sym (has_cells c e (ap is_some g)) ∙ other))
+
+  pub formula_same : (c : CellId) → on cells c ≡ false → formula_at (apply s a) c ≡ formula_at s c
+  formula_same c other = by (bytes_eq c.table t && has (moved_rows a) c.row) refl
     where
       by : (b : Bool) → (bytes_eq c.table t && has (moved_rows a) c.row) ≡ b → formula_at (apply s a) c ≡ formula_at s c
-      by true e = absurd (true≢false (sym (has_cells c e there) ∙ other))
+      by true e = none_there (apply s a) after c e other ∙ sym (none_there s before c e other)
       by false e = formula_apart s a t moved ok c e
 
-  same_notes : (c : CellId) → is_some (formula_at (apply s a) c) ≡ true → on cells c ≡ false → notes (sheet_of s) c ≡ notes (sheet_of (apply s a)) c
+  pub same_notes : (c : CellId) → is_some (formula_at (apply s a) c) ≡ true → on cells c ≡ false → notes (sheet_of s) c ≡ notes (sheet_of (apply s a)) c
   same_notes c there other = by (formula_at (apply s a) c) refl there
     where
       by : (o : Option (List ℕ)) → formula_at (apply s a) c ≡ o → is_some o ≡ true → notes (sheet_of s) c ≡ notes (sheet_of (apply s a)) c
       by None e h = absurd (false≢true h)
-      by (Some f) e h = sym (keeps ok c f e (ap (λ o. not (is_some o) || is_modified a c) (sym (formula_same c there other) ∙ e) ∙ not_modified a t moved c) (not_found c other)).1
+      by (Some f) e h = sym (keeps ok c f e (ap (λ o. not (is_some o) || is_modified a c) (sym (formula_same c other) ∙ e) ∙ not_modified a t moved c) (not_found c other)).1
 
 pub reads_over : ReadsOverLaw
-reads_over s a t graph found cells moved ok keeps named has_cells = record {
-  there = λ c there other. ap is_some (sym (formula_same s a t graph found cells moved ok keeps named has_cells c there other)) ∙ there;
-  same = λ c there other. same_notes s a t graph found cells moved ok keeps named has_cells c there other;
+reads_over s a t graph found cells moved ok keeps named before after = record {
+  there = λ c other. ap is_some (sym (formula_same s a t graph found cells moved ok keeps named before after c other));
+  same = λ c there other. same_notes s a t graph found cells moved ok keeps named before after c there other;
 }
 
--- ---- and back
-
-module _ (s : Document) (a : DocAction) (t : List ℕ) (graph : Graph) (found : List CellNumber) (cells : List CellId)
-    (moved : moved_table a ≡ Some t) (ok : valid s a ≡ true) (keeps : KeepsOthers s graph a found)
-    (named : (c : CellId) → is_found graph found c ≡ true → on cells c ≡ true) (has_cells : HasCellsOf s t (moved_rows a) cells) where
-  not_found_back : (c : CellId) → on cells c ≡ false → is_found graph found c ≡ false
-  not_found_back c other = by (is_found graph found c) refl
-    where
-      by : (b : Bool) → is_found graph found c ≡ b → b ≡ false
-      by true e = absurd (true≢false (sym (named c e) ∙ other))
-      by false e = refl
-
-  formula_back : (c : CellId) → is_some (formula_at s c) ≡ true → on cells c ≡ false → formula_at (apply s a) c ≡ formula_at s c
-  formula_back c there other = by (bytes_eq c.table t && has (moved_rows a) c.row) refl
-    where
-      by : (b : Bool) → (bytes_eq c.table t && has (moved_rows a) c.row) ≡ b → formula_at (apply s a) c ≡ formula_at s c
-      by true e = absurd (true≢false (sym (has_cells c e there) ∙ other))
-      by false e = formula_apart s a t moved ok c e
-
-  notes_before : (c : CellId) → is_some (formula_at s c) ≡ true → on cells c ≡ false → notes (sheet_of (apply s a)) c ≡ notes (sheet_of s) c
-  notes_before c there other = by (formula_at s c) refl there
-    where
-      by : (o : Option (List ℕ)) → formula_at s c ≡ o → is_some o ≡ true → notes (sheet_of (apply s a)) c ≡ notes (sheet_of s) c
-      by None e h = absurd (false≢true h)
-      by (Some f) e h = (keeps ok c f (formula_back c there other ∙ e) (ap (λ o. not (is_some o) || is_modified a c) e ∙ not_modified a t moved c) (not_found_back c other)).1
-
 pub reads_back : ReadsBackLaw
-reads_back s a t graph found cells moved ok keeps named has_cells = record {
-  there = λ c there other. ap is_some (formula_back s a t graph found cells moved ok keeps named has_cells c there other) ∙ there;
-  same = λ c there other. notes_before s a t graph found cells moved ok keeps named has_cells c there other;
+reads_back s a t graph found cells moved ok keeps named before after = record {
+  there = λ c other. ap is_some (formula_same s a t graph found cells moved ok keeps named before after c other);
+  same = λ c there other.
+      sym (same_notes s a t graph found cells moved ok keeps named before after c (ap is_some (formula_same s a t graph found cells moved ok keeps named before after c other) ∙ there) other);
 }

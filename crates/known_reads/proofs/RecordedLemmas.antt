@@ -1,5 +1,5 @@
 -- Cells whose notes are recorded as their values are found.
-use Rattle.std.proofs.Common.{ℕ, Bool, true, false, cond, ◌||◌, List, [], ◌∷◌, length, ◌≡◌, inl, inr, refl, sym, ap, ◌∙◌, subst, Option, Some, None, Result, Ok, Err, IfOk}
+use Rattle.std.proofs.Common.{ℕ, Bool, true, false, cond, ◌&&◌, ◌||◌, List, [], ◌∷◌, length, ◌≡◌, inl, inr, refl, sym, ap, ◌∙◌, subst, Option, Some, None, Result, Ok, Err, IfOk}
 use Rattle.std.proofs.lemmas.Bool.{false≢true, true≢false}
 use Rattle.std.specs.Option.{is_some}
 use Rattle.cell_types.specs.declared.cell.CellId.{CellId}
@@ -11,24 +11,25 @@ use Rattle.formula_eval.specs.Attempted.{HasNoted, IsTried, value_of}
 use Rattle.formula_eval.specs.declared.note.Note.{Note}
 use Rattle.formula_eval.specs.declared.outcome.Tried.{Tried}
 use Rattle.formula_eval.specs.declared.outcome.Tried.TheVariants.{Value as Given, Need as Lacks}
-use Rattle.formula_eval.specs.Likeness.{IsAlikeOut, IsJoined, StopsBy}
+use Rattle.formula_eval.specs.Likeness.{StopsBy}
 use Rattle.formula_eval.specs.OfText.{evaluated_some, evaluated_text}
 use Rattle.formula_eval.specs.Reader.{known, needed}
-use Rattle.formula_eval.specs.Reading.{told_out}
-use Rattle.formula_eval.specs.Run.{Out, Stop, circular, gives, need, raises, stops}
+use Rattle.formula_eval.specs.Run.{Out, circular, gives, need, raises, stops}
 use Rattle.formula_parse.specs.FormulaOf.{formula_of}
 use Rattle.formula_parse.specs.Tree.{Tree}
 use Rattle.dep_graph.specs.Graph.{Graph, IsKept, IsSet}
 use Rattle.recalc.specs.declared.kept.KeptTable.{KeptTable}
 use Rattle.recalc.specs.Cells.{same_cell}
-use Rattle.recalc.specs.Evaluated.{sheet_of}
+use Rattle.recalc.specs.Evaluated.{formula_at, sheet_of}
 use Rattle.recalc.specs.Kept.{IsKeptOf, IsSettled, held_at}
 use Rattle.recalc.specs.Sheet.{Sheet, Values, evaluated, fit_in, over, row_of, run_of, told_by}
 use Rattle.recalc.specs.Stack.{IsOpen, IsSheet, IsSound, Waits, on}
-use Rattle.recalc.proofs.Over.{IsAlikeCell, over_alike, same_out}
+use Rattle.recalc.proofs.Over.{over_alike}
 use Rattle.recalc.proofs.Turn.{attempt_open, attempt_value, attempt_waits, same_itself, same_true}
+use Rattle.affected_cells.specs.Bound.{names}
 use Rattle.affected_cells.specs.Noted.{notes, notes_by}
-use Rattle.affected_search.specs.Noted.{HoldsNotesOf}
+use Rattle.affected_cells.proofs.Needed.{needed_law, needs, needs_joined, never_right, told_cell}
+use Rattle.affected_search.specs.ExactNotes.{HasNotesOf}
 use Rattle.affected_search.proofs.NotedLaws.{set_notes_law}
 use Rattle.affected_values.specs.declared.taking.HeldValue.{HeldValue}
 use Rattle.affected_values.specs.Taken.{IsHeldWhere, IsTaken, taken_of}
@@ -36,22 +37,10 @@ use Rattle.known_reads.specs.declared.attempting.Found.{Found}
 use Rattle.known_reads.specs.declared.attempting.Found.TheVariants.{Value, Need}
 use Rattle.known_reads.specs.Beside.{Beside, KnowsOthers, is_stale}
 use Rattle.known_reads.specs.Known.{KeepsReads}
-use Rattle.known_reads.specs.Recorded.{IsFitted, IsNotedOf, IsRecording, IsTold, KnowsBut}
+use Rattle.known_reads.specs.Recorded.{IsFitted, IsNotedOf, IsRecording, IsTold, KnowsBut, KnowsButFormulas}
 use Rattle.known_reads.proofs.KnownLemmas.{reads_kept}
 
 -- ---- what an attempt tells
-
-abbrev needs : Stop → Type 0
-needs circular = ⊥
-needs (need cs) = Unit {0}
-
-needs_joined : IsJoined needs
-needs_joined cs ds h g = tt
-
-never_right : {A : Type 0} (o : Out A) → StopsBy (λ _. ⊥) o → ⊥
-never_right (gives v) h = h
-never_right (raises v) h = h
-never_right (stops v) h = h
 
 none_some : (v : CellValue) → None ≡ Some v → ⊥
 none_some v e = cc
@@ -64,18 +53,11 @@ value_needs v (stops circular) e h = h
 value_needs v (stops (need cs)) e h = none_some v e
 
 module _ (s : Sheet) (sheet : IsSheet s) (k : Values) (sound : IsSound s k) where
-  told_cell : (d : CellId) → IsAlikeCell needs ⊥ s k (λ b. Some (evaluated s b)) d
-  told_cell d f =
-      elim (k d) as (λ o. k d ≡ o → IsAlikeOut needs ⊥ (told_out d (told_by (Some f) (s.base d) o)) (told_out d (known (evaluated s d)))) [
-        | None ↦ λ e. inr (inl tt)
-        | Some v ↦ λ e. same_out needs ⊥ (told_out d (known v)) (told_out d (known (evaluated s d))) (ap (λ x. told_out d (known x)) (sym (sound d v e)))
-      ] refl
-
   -- an attempt that answers a value notes what the run over all values notes
   notes_told : (c : CellId) (f : List ℕ) (v : CellValue) → s.formula c ≡ Some f → value_of (run_of (over s k) c f).out ≡ Some v → notes s c ≡ (run_of (over s k) c f).notes
   notes_told c f v e h =
       ap (notes_by s (λ b. Some (evaluated s b)) c) e
-      ∙ (elim (over_alike needs ⊥ s k (λ b. Some (evaluated s b)) needs_joined told_cell c f) [
+      ∙ (elim (over_alike needs ⊥ s k (λ b. Some (evaluated s b)) needs_joined (told_cell s k sound) c f) [
         | inl g ↦ sym g.1
         | inr g ↦ elim g [ inl w ↦ absurd (value_needs v (run_of (over s k) c f).out h w.0) | inr w ↦ absurd (never_right (run_of (over s (λ b. Some (evaluated s b))) c f).out w.0) ]
       ])
@@ -85,7 +67,7 @@ module _ (s : Sheet) (sheet : IsSheet s) (k : Values) (sound : IsSound s k) wher
   fitted c f ty e kind (Given v) h l n (Value w m) g = (attempt_value s sheet k sound c f v e h ∙ ap (λ o. fit_in o v) kind ∙ sym g.0, notes_told c f v e h ∙ n ∙ sym g.1)
   fitted c f ty e kind (Given v) h l n (Need d) g = absurd g
   fitted c f ty e kind (Lacks d) h l n (Value w m) g = absurd g
-  fitted c f ty e kind (Lacks d) h l n (Need b) g = subst (λ x. Waits s c x × IsOpen s k x) (sym g) (attempt_waits s sheet k sound c f d e h, attempt_open s sheet k sound c f d h)
+  fitted c f ty e kind (Lacks d) h l n (Need b) g = subst (λ x. Waits s c x × IsOpen s k x × (names s c x ≡ true)) (sym g) (attempt_waits s sheet k sound c f d e h, attempt_open s sheet k sound c f d h, needed_law s k sound c d f e h)
 
   -- an attempt at the formula that is kept of the cell's column
   pub told : (c : CellId) (f : List ℕ) (ty : ColType) → s.formula c ≡ Some f → s.kind c.table c.column ≡ Some ty → (at : RowRef) → at ≡ row_of c → (o : Option Tree) → o ≡ formula_of f
@@ -131,7 +113,7 @@ pub noted_set : (old new : Beside) (was : Graph) → was ≡ old.graph → (cell
     → (s : Sheet) → notes s cell ≡ given → IsNotedOf old new s cell
 noted_set old new was is cell given set stale s same =
     let recorded = set_notes_law was new.graph s cell given set same in
-    record { here = λ h. recorded.here; others = subst (λ (g : Graph). KeepsReads s g new.graph) is recorded.others; stale = λ d h. stale d ∙ h }
+    record { here = λ h. recorded.exact; others = subst (λ (g : Graph). KeepsReads s g new.graph) is recorded.keeps; stale = λ d h. stale d ∙ h }
 
 -- a cell of which the graph is stale, and has what it had
 pub noted_stale : (old new : Beside) (was mid : Graph) → was ≡ old.graph → new.graph ≡ mid → (cell : CellId) → IsKept was mid → ((c : CellId) → (is_stale old c || on (cell ∷ []) c) ≡ true → is_stale new c ≡ true)
@@ -177,7 +159,7 @@ recording_next s k j i old mid new a b = record {
   stale = λ c h. b.stale c (a.stale c h);
 }
   where
-    by : (c : CellId) (p : Bool) → is_some (j c) ≡ p → is_some (k c) ≡ false → is_some (i c) ≡ true → is_stale new c ≡ false → HoldsNotesOf new.graph (sheet_of s) c
+    by : (c : CellId) (p : Bool) → is_some (j c) ≡ p → is_some (k c) ≡ false → is_some (i c) ≡ true → is_stale new c ≡ false → HasNotesOf new.graph (sheet_of s) c
     by c true e none some fresh = b.others c (a.read c none e (fresh_before mid new b.stale c fresh))
     by c false e none some fresh = b.read c e some fresh
 
@@ -189,8 +171,8 @@ recording_put s k j old new cell v puts noted = record {
   stale = noted.stale;
 }
   where
-    by : (c : CellId) (p : Bool) → same_cell cell c ≡ p → is_some (k c) ≡ false → is_some (j c) ≡ true → is_stale new c ≡ false → HoldsNotesOf new.graph (sheet_of s) c
-    by c true e none some fresh = subst (HoldsNotesOf new.graph (sheet_of s)) (same_true cell c e) (noted.here (ap (is_stale new) (same_true cell c e) ∙ fresh))
+    by : (c : CellId) (p : Bool) → same_cell cell c ≡ p → is_some (k c) ≡ false → is_some (j c) ≡ true → is_stale new c ≡ false → HasNotesOf new.graph (sheet_of s) c
+    by c true e none some fresh = subst (HasNotesOf new.graph (sheet_of s)) (same_true cell c e) (noted.here (ap (is_stale new) (same_true cell c e) ∙ fresh))
     by c false e none some fresh = absurd (true≢false (sym some ∙ ap is_some (puts c ∙ ap (λ b. cond b (Some v) (k c)) e) ∙ none))
 
 -- ---- cells that are evaluated anew
@@ -210,9 +192,28 @@ module _ (s : Document) (first out : List KeptTable) (cells : List CellId) (take
 
   module _ (last : List KeptTable) (old new : Beside) (recording : IsRecording s (held_at s out) old (held_at s last) new)
       (known : (c : CellId) → is_some (taken_of taken c) ≡ true → IsHeldWhere s last c) where
-    pub known_anew : KnowsBut s old cells → KnowsOthers s new
-    known_anew but c fresh there = by (on cells c) refl
+    pub known_anew : KnowsButFormulas s old cells → KnowsOthers s new
+    known_anew but c fresh = by (on cells c) (is_some (formula_at s c)) refl refl
       where
-        by : (b : Bool) → on cells c ≡ b → HoldsNotesOf new.graph (sheet_of s) c
-        by true e = recording.read c (ap is_some (gone.out c ∙ ap (λ b. cond b None (held_at s first c)) e)) (known c (gone.each c ∙ e) there) fresh
-        by false e = recording.others c (but c (fresh_before old new recording.stale c fresh) e there)
+        before : is_stale old c ≡ false
+        before = fresh_before old new recording.stale c fresh
+
+        by : (b p : Bool) → on cells c ≡ b → is_some (formula_at s c) ≡ p → HasNotesOf new.graph (sheet_of s) c
+        by true true e there = recording.read c (ap is_some (gone.out c ∙ ap (λ b. cond b None (held_at s first c)) e)) (known c (gone.each c ∙ e) there) fresh
+        by true false e there = recording.others c (but c before (ap (λ b. b && is_some (formula_at s c)) e ∙ there))
+        by false p e there = recording.others c (but c before (ap (λ b. b && is_some (formula_at s c)) e))
+
+-- ---- cells that are no formula cells
+
+no_formula : (o : Option (List ℕ)) → is_some o ≡ false → o ≡ None
+no_formula None h = refl
+no_formula (Some f) h = absurd (true≢false h)
+
+-- what is forgotten is known
+pub forgot_plain : (s : Document) (old new : Beside) (cells : List CellId) → ((c : CellId) → on cells c ≡ true → formula_at s c ≡ None → HasNotesOf new.graph (sheet_of s) c) → KeepsReads (sheet_of s) old.graph new.graph
+    → ((c : CellId) → is_stale new c ≡ is_stale old c) → KnowsBut s old cells → KnowsButFormulas s new cells
+forgot_plain s old new cells plain keeps stale but c fresh other = by (on cells c) refl
+  where
+    by : (b : Bool) → on cells c ≡ b → HasNotesOf new.graph (sheet_of s) c
+    by true e = plain c e (no_formula (formula_at s c) (ap (λ b. b && is_some (formula_at s c)) (sym e) ∙ other))
+    by false e = keeps c (but c (sym (stale c) ∙ fresh) e)

@@ -14,7 +14,7 @@ use Rattle.recalc.specs.Stack.{on}
 use Rattle.affected_cells.specs.Noted.{notes}
 use Rattle.affected_search.specs.Actions.{KeepsOthers}
 use Rattle.affected_search.specs.Sheets.{is_found}
-use Rattle.known_reads.specs.Known.{IsReadWhere}
+use Rattle.known_reads.specs.Known.{IsRead}
 
 -- a graph, the cells of which it may not be right, whether these are all, and for how many more
 -- there is room
@@ -28,9 +28,9 @@ pub record Beside : Type 0 where
 abbrev pub is_stale : Beside → CellId → Bool
 is_stale known c = known.are_all_stale || on known.stale c
 
--- the graph has what each formula cell that is not stale notes
+-- the graph has just what each cell that is not stale notes
 abbrev pub KnowsOthers : Document → Beside → Type 0
-KnowsOthers s known = (c : CellId) → is_stale known c ≡ false → IsReadWhere s known.graph c
+KnowsOthers s known = (c : CellId) → is_stale known c ≡ false → IsRead s known.graph c
 
 -- the documents have the same formula cells, and each but these notes the same in both
 pub record ReadsSameBut (s t : Document) (cells : List CellId) : Type 0 where

@@ -1,3 +1,4 @@
+pub mod Attempts
 pub mod Beside
 pub mod Known
 pub mod Moved

@@ -16,10 +16,10 @@ use Rattle.affected_search.specs.Sheets.{is_found}
 use Rattle.affected_values.specs.Carried.{HasCellsOf, moved_rows, moved_table}
 use Rattle.known_reads.specs.Beside.{Beside, IsNoted, KnowsOthers}
 
--- each formula cell of the second document but these is one of the first, and notes the same there
+-- but for these cells the documents have the same formula cells, which note the same in both
 pub record ReadsSameAfter (s t : Document) (cells : List CellId) : Type 0 where
-  pub there : (c : CellId) → is_some (formula_at t c) ≡ true → on cells c ≡ false
-      → is_some (formula_at s c) ≡ true
+  pub there : (c : CellId) → on cells c ≡ false
+      → is_some (formula_at s c) ≡ is_some (formula_at t c)
   pub same : (c : CellId) → is_some (formula_at t c) ≡ true → on cells c ≡ false
       → notes (sheet_of s) c ≡ notes (sheet_of t) c
 
@@ -28,24 +28,23 @@ abbrev pub NotedLaw : Type 0
 NotedLaw = (s t : Document) (cells : List CellId) (old new : Beside) → ReadsSameAfter s t cells
     → IsNoted old new cells → KnowsOthers s old → KnowsOthers t new
 
--- before rows that come or go each formula cell but the found ones and those of the rows notes what
--- it notes after them
+-- before rows that come or go each cell but the found ones and those of the rows notes what it
+-- notes after them
 abbrev pub ReadsBackLaw : Type 0
 ReadsBackLaw =
     (s : Document) (a : DocAction) (t : List ℕ) (graph : Graph) (found : List CellNumber)
     (cells : List CellId)
     → moved_table a ≡ Some t → valid s a ≡ true → KeepsOthers s graph a found
     → ((c : CellId) → is_found graph found c ≡ true → on cells c ≡ true)
-    → HasCellsOf s t (moved_rows a) cells
+    → HasCellsOf s t (moved_rows a) cells → HasCellsOf (apply s a) t (moved_rows a) cells
     → ReadsSameAfter (apply s a) s cells
 
--- over rows that come or go each formula cell but the found ones and those of the rows notes the
--- same
+-- over rows that come or go each cell but the found ones and those of the rows notes the same
 abbrev pub ReadsOverLaw : Type 0
 ReadsOverLaw =
     (s : Document) (a : DocAction) (t : List ℕ) (graph : Graph) (found : List CellNumber)
     (cells : List CellId)
     → moved_table a ≡ Some t → valid s a ≡ true → KeepsOthers s graph a found
     → ((c : CellId) → is_found graph found c ≡ true → on cells c ≡ true)
-    → HasCellsOf (apply s a) t (moved_rows a) cells
+    → HasCellsOf s t (moved_rows a) cells → HasCellsOf (apply s a) t (moved_rows a) cells
     → ReadsSameAfter s (apply s a) cells

@@ -9,12 +9,13 @@ ghost use Rattle.recalc.specs.Kept.{IsEvaluated};
 ghost use Rattle.recalc.specs.Sheet.{Sheet};
 ghost use Rattle.recalc.specs.Stack.{on};
 ghost use Rattle.affected_cells.specs.Noted.{notes};
+ghost use Rattle.affected_search.specs.ExactNotes.{HasNotes};
 ghost use Rattle.affected_search.specs.Noted.{HoldsNotes};
 ghost use Rattle.known_reads.specs.Beside.{KnowsOthers, is_stale};
-ghost use Rattle.known_reads.specs.Recorded.{IsNotedOf};
+ghost use Rattle.known_reads.specs.Recorded.{IsNotedOf, KnowsBut, KnowsButFormulas};
 
 use crate::bounded::{BoundedGraph, ReadsFault};
-use crate::recording::record_cells;
+use crate::recording::{forget_plain, record_cells};
 use crate::walking::record_all;
 use cell_types::CellId;
 use dep_graph::DepGraph;
@@ -25,9 +26,9 @@ use std::alloc::{AllocError, Global};
 use std::marker::Model;
 
 /// How many reads are recorded before the graph is given up. A read takes some 30 bytes there,
-/// where many cells of a column read the same, to 300, where one cell does: so all take 30 to 300
-/// megabytes.
-const MAX_READS: usize = 1_000_000;
+/// where many cells of a column read the same, to 130, where one cell does: so all take 0.3 to 1.3
+/// gigabytes.
+const MAX_READS: usize = 10_000_000;
 
 /// What formula cells read, and the cells of which that may not be right any more: the stale ones.
 ///
@@ -72,8 +73,8 @@ impl KnownReads {
         }
     }
 
-    /// What is recorded: of each formula cell that is not stale what it reads, and the values by
-    /// which it looks rows up.
+    /// What is recorded: of each cell that is not stale what it reads, and the values by which it
+    /// looks rows up, and nothing else.
     ///
     /// Memory: none.
     pub fn graph(&self) -> &DepGraph
@@ -98,7 +99,8 @@ impl KnownReads {
         self.is_wide = false;
     }
 
-    // Records what the stale cells read.
+    // Records what the stale cells read; of all cells anew, so that nothing is left of cells that
+    // are no more.
     fn record_stale<D: DocTables>(
         &mut self,
         alloc: Global,
@@ -110,13 +112,14 @@ impl KnownReads {
         requires indexed { AreIndexes (sheet_of (D.document tables.now)) indexes.old.items }
         requires evaluated { IsEvaluated (D.document tables.now) kept.now }
         requires others { KnowsOthers (D.document tables.now) self.old }
-        ensures ok { OnOk result (HoldsNotes self.new.graph (sheet_of (D.document tables.now))) }
+        ensures ok { OnOk result (HasNotes self.new.graph (sheet_of (D.document tables.now))) }
         ensures others { KnowsOthers (D.document tables.now) self.new }
         ensures room { self.new.room ≡ self.old.room }
         ensures indexed { OnOk result
             (AreIndexes (sheet_of (D.document tables.now)) indexes.new.items) }
     {
         if self.are_all_stale {
+            self.graph = BoundedGraph::new(alloc, MAX_READS);
             record_all(alloc, tables, kept, indexes, &mut self.graph)
         } else {
             record_cells(
@@ -141,13 +144,14 @@ impl KnownReads {
     }
 
     /// Records what the stale cells read, of an evaluated document: then none is stale, and the
-    /// graph has the reads of each formula cell. Makes the indexes of the data columns by which
-    /// these look rows up, where they have none.
+    /// graph has the reads of each formula cell, and no others. Where all cells are stale it is
+    /// made anew. Makes the indexes of the data columns by which these look rows up, where they
+    /// have none.
     ///
     /// Errors: too many reads, or out of memory. Of each cell that is not stale it is right still,
     /// and the indexes are then to be given up. Where reads are too many the graph is given up and
     /// all cells are stale: of a graph that was recorded in before, this says nothing of the next
-    /// attempt; of an empty one, that the reads are too many until formulas change.
+    /// attempt; of one that was made anew, that the reads are too many until formulas change.
     /// Memory: notes, what the graph takes of them, and the indexes.
     /// Cost: one attempt a stale cell, and the making of the indexes.
     pub fn make_right<D: DocTables>(
@@ -162,13 +166,14 @@ impl KnownReads {
         requires evaluated { IsEvaluated (D.document tables.now) kept.now }
         requires others { KnowsOthers (D.document tables.now) self.old }
         ensures ok { OnOk result (HoldsNotes self.new.graph (sheet_of (D.document tables.now))) }
+        ensures exact { OnOk result (HasNotes self.new.graph (sheet_of (D.document tables.now))) }
         ensures none { OnOk result ((c : CellId) → is_stale self.new c ≡ false) }
         ensures others { KnowsOthers (D.document tables.now) self.new }
         ensures room { self.old.room ≤ self.new.room }
         ensures indexed { OnOk result
             (AreIndexes (sheet_of (D.document tables.now)) indexes.new.items) }
     {
-        let is_new = self.graph.is_new();
+        let is_new = self.are_all_stale || self.graph.is_new();
         match self.record_stale(alloc, tables, kept, indexes) {
             Ok(()) => {
                 self.stale.clear();
@@ -226,6 +231,18 @@ impl KnownReads {
             Ok(()) => drop(cell),
             Err(_) => self.note_cell(cell),
         }
+    }
+
+    /// Forgets what is recorded of those of these cells that are no formula cells.
+    ///
+    /// Memory: none. Cost: each of the cells is looked up.
+    pub fn forget_plain<D: DocTables>(&mut self, tables: &D, cells: &[CellId])
+        ensures knows { KnowsBut (D.document tables.now) self.old cells.now
+            → KnowsButFormulas (D.document tables.now) self.new cells.now }
+        ensures stale { (c : CellId) → is_stale self.new c ≡ is_stale self.old c }
+        ensures room { self.new.room ≡ self.old.room }
+    {
+        forget_plain(tables, &mut self.graph, cells);
     }
 
     /// Notes these cells as stale; all cells, where there is no room for them.

@@ -2,8 +2,9 @@
 
 ghost use Rattle.std.specs.Prelude.{◌≡◌, ◌<◌, true, false, OnErr, OnOk};
 ghost use Rattle.std.specs.Option.{option_copied};
-ghost use Rattle.dep_graph.specs.Graph.{IsKept, IsSet};
+ghost use Rattle.dep_graph.specs.Graph.{IsDropped, IsKept, IsSet};
 ghost use Rattle.recalc.specs.Sheet.{row_of};
+ghost use Rattle.affected_search.specs.ExactNotes.{HasNoReads};
 ghost use Rattle.affected_search.specs.NotedUpkeep.{RecordsNotes};
 ghost use Rattle.affected_search.specs.Recording.{NeedsNone};
 
@@ -63,7 +64,9 @@ impl BoundedGraph {
     /// may pass them.
     ///
     /// Memory: none.
-    pub fn new(alloc: Global, most: usize) -> Self {
+    pub fn new(alloc: Global, most: usize) -> Self
+        ensures { HasNoReads result }
+    {
         BoundedGraph {
             graph: DepGraph::new(alloc),
             reads: 0,
@@ -121,6 +124,15 @@ impl BoundedGraph {
     {
         let now = self.graph.reads_count(cell);
         self.reads = self.reads.saturating_sub(before).saturating_add(now);
+    }
+
+    // Forgets what a cell reads.
+    pub(crate) fn forget(&mut self, cell: &CellId)
+        ensures { IsDropped self.old self.new cell.now }
+    {
+        let before = self.graph.reads_count(cell);
+        self.graph.drop_reader(cell);
+        self.count_again(cell, before);
     }
 
     // Records what a run of a cell noted.

@@ -6,26 +6,28 @@
 //! `formula_eval`, `formula_parse`, `doc_readers`, `doc_model` and `cell_types`. Used by
 //! `evaluated_doc`.
 //!
-//! Promises: `record_cells` records what each of some cells notes, where they are formula cells:
-//! its reads, and the values by which it looks rows up; what the graph had of other formula cells
-//! it has still, where memory runs out too.
+//! Promises: `record_cells` records just what each of some cells notes: of a formula cell its
+//! reads, and the values by which it looks rows up, and nothing of another cell; what the graph
+//! had of other cells it has still, where memory runs out too.
 //! The caller's indexes of data columns stay right, and those by which these cells look rows up are
 //! added.
 //! `KnownReads` is a graph with the cells of which it may not be right, the stale ones:
-//! `make_right` records these, and then the graph has what each formula cell notes; where these
-//! are too many it gives the graph up, and all cells are stale. A change and its way back note
-//! stale cells without memory.
+//! `make_right` records these, and then the graph has just what each cell notes, so that a search
+//! over it finds affected cells alone; where reads are too many it gives the graph up, and all
+//! cells are stale. A change and its way back note stale cells without memory, and forget what was
+//! recorded of cells that are no formula cells any more.
 //! `refresh_recording` evaluates some cells anew where the values of all others are known, and the
 //! attempt that finds a value records what the cell reads: so only circular cells, and those for
-//! which there is no room, are stale then. It makes two attempts a cell at most. Where memory runs
-//! out each value is as it was. `refresh_rest` does so of some cells where others may be unknown.
+//! which there is no room, are stale then. It makes two attempts a cell at most, and no more than
+//! one for each cell and one for each of them that its reads name (`attempt_bound`). Where memory
+//! runs out each value is as it was.
 //! Over an update, in both directions, the graph is right of all others but the found ones
 //! (`reads_same_law`, `stale_law`); over rows that come or go, and back, also but the cells of the
 //! rows (`reads_over_law`, `reads_back_law`, `noted_law`).
-//! Not promised: how many attempts `make_right` makes; which indexes are made; that nothing is
-//! recorded of cells without formulas; how many reads are too many.
+//! Not promised: how many attempts `make_right` makes; which indexes are made; how many reads are
+//! too many.
 //! Read first: specs/Known.antt and specs/Beside.antt, then beside.rt, recording.rt and bounded.rt;
-//! specs/Recorded.antt, then refreshing.rt and settling.rt.
+//! specs/Recorded.antt and specs/Attempts.antt, then refreshing.rt and settling.rt.
 #![tactic(auto)]
 
 mod attempting;
@@ -41,4 +43,4 @@ pub use beside::KnownReads;
 pub use bounded::{BoundedGraph, ReadsFault};
 pub use laws::{noted_law, reads_back_law, reads_over_law, reads_same_law, stale_law};
 pub use recording::record_cells;
-pub use refreshing::{refresh_recording, refresh_rest};
+pub use refreshing::refresh_recording;

@@ -1,13 +1,15 @@
-//! The reads of cells recorded anew.
+//! The reads of cells recorded anew, or forgotten.
 
-ghost use Rattle.std.specs.Prelude.{◌≡◌, true, OnErr, OnOk};
+ghost use Rattle.std.specs.Prelude.{◌≡◌, true, None, OnErr, OnOk};
+ghost use Rattle.cell_types.specs.declared.cell.CellId.{CellId};
 ghost use Rattle.std.specs.Option.{is_some};
 ghost use Rattle.doc_model.specs.DocumentLaws.{IsWhole};
 ghost use Rattle.recalc.specs.Evaluated.{formula_at, sheet_of};
 ghost use Rattle.recalc.specs.Indexes.{AreIndexes};
 ghost use Rattle.recalc.specs.Kept.{IsEvaluated};
+ghost use Rattle.recalc.specs.Stack.{on};
 ghost use Rattle.affected_search.specs.NotedUpkeep.{NotesRecordedOf};
-ghost use Rattle.known_reads.specs.Known.{AreReadWhere, IsReadWhere, KeepsReads};
+ghost use Rattle.known_reads.specs.Known.{AreRead, IsRead, KeepsReads};
 
 use crate::bounded::{BoundedGraph, ReadsFault};
 use affected_values::is_formula_cell;
@@ -60,7 +62,7 @@ fn record_formula<D: DocTables>(
     Ok(())
 }
 
-// Records what a cell reads, where it is a formula cell.
+// Records what a cell reads: nothing where it is no formula cell.
 pub(crate) fn record_where<D: DocTables>(
     alloc: Global,
     tables: &D,
@@ -72,20 +74,21 @@ pub(crate) fn record_where<D: DocTables>(
     requires whole { IsWhole (D.document tables.now) }
     requires indexed { AreIndexes (sheet_of (D.document tables.now)) indexes.old.items }
     requires evaluated { IsEvaluated (D.document tables.now) kept.now }
-    ensures ok { OnOk result (IsReadWhere (D.document tables.now) graph.new cell.now) }
+    ensures ok { OnOk result (IsRead (D.document tables.now) graph.new cell.now) }
     ensures keeps { KeepsReads (sheet_of (D.document tables.now)) graph.old graph.new }
     ensures indexed { OnOk result
         (AreIndexes (sheet_of (D.document tables.now)) indexes.new.items) }
 {
     if !is_formula_cell(tables, cell) {
+        graph.forget(cell);
         return Ok(());
     }
     record_formula(alloc, tables, kept, indexes, graph, cell)
 }
 
-/// Records what these cells read, of an evaluated document, where they are formula cells. What the
-/// graph had of the reads of other formula cells it has still. Makes the indexes of the data
-/// columns by which they look rows up, where they have none.
+/// Records what these cells read, of an evaluated document: nothing of those that are no formula
+/// cells. What the graph had of the reads of other cells it has still. Makes the indexes of the
+/// data columns by which they look rows up, where they have none.
 ///
 /// Errors: the graph has no room for more reads, or out of memory; what it had of reads that are
 /// made it has still, and the indexes are then to be given up.
@@ -102,7 +105,7 @@ pub fn record_cells<D: DocTables>(
     requires whole { IsWhole (D.document tables.now) }
     requires indexed { AreIndexes (sheet_of (D.document tables.now)) indexes.old.items }
     requires evaluated { IsEvaluated (D.document tables.now) kept.now }
-    ensures ok { OnOk result (AreReadWhere (D.document tables.now) graph.new cells.now) }
+    ensures ok { OnOk result (AreRead (D.document tables.now) graph.new cells.now) }
     ensures keeps { KeepsReads (sheet_of (D.document tables.now)) graph.old graph.new }
     ensures indexed { OnOk result
         (AreIndexes (sheet_of (D.document tables.now)) indexes.new.items) }
@@ -111,4 +114,28 @@ pub fn record_cells<D: DocTables>(
         record_where(alloc, tables, kept, indexes, graph, cell)?;
     }
     Ok(())
+}
+
+// Forgets what a cell reads, where it is no formula cell.
+fn forget_where<D: DocTables>(tables: &D, graph: &mut BoundedGraph, cell: &CellId)
+    ensures plain { formula_at (D.document tables.now) cell.now ≡ None
+        → IsRead (D.document tables.now) graph.new cell.now }
+    ensures keeps { KeepsReads (sheet_of (D.document tables.now)) graph.old graph.new }
+{
+    if !is_formula_cell(tables, cell) {
+        graph.forget(cell);
+    }
+}
+
+/// Forgets what those of these cells read that are no formula cells.
+///
+/// Memory: none.
+pub(crate) fn forget_plain<D: DocTables>(tables: &D, graph: &mut BoundedGraph, cells: &[CellId])
+    ensures plain { (c : CellId) → on cells.now c ≡ true
+        → formula_at (D.document tables.now) c ≡ None → IsRead (D.document tables.now) graph.new c }
+    ensures keeps { KeepsReads (sheet_of (D.document tables.now)) graph.old graph.new }
+{
+    for cell in cells {
+        forget_where(tables, graph, cell);
+    }
 }

@@ -7,9 +7,11 @@ ghost use Rattle.doc_model.specs.DocumentLaws.{IsWhole};
 ghost use Rattle.recalc.specs.Evaluated.{sheet_of};
 ghost use Rattle.recalc.specs.Indexes.{AreIndexes};
 ghost use Rattle.recalc.specs.Kept.{IsEvaluated, IsFurther, IsKeptOf, IsSettled, held_at};
+ghost use Rattle.affected_cells.specs.Bound.{attempt_bound};
 ghost use Rattle.affected_values.specs.Taken.{IsHeldWhere, IsRightBut, LeadsBack, taken_of};
+ghost use Rattle.known_reads.specs.Attempts.{HasFormulas, IsWithin};
 ghost use Rattle.known_reads.specs.Beside.{KnowsOthers};
-ghost use Rattle.known_reads.specs.Recorded.{HasOpen, IsRecording, KnowsBut, open_count};
+ghost use Rattle.known_reads.specs.Recorded.{IsRecording, KnowsBut};
 
 use crate::beside::KnownReads;
 use crate::settling::settle_cell;
@@ -17,7 +19,7 @@ use affected_values::{HeldValue, put_values_back, take_values};
 use cell_types::CellId;
 use doc_model::DocTables;
 use formula_eval::Steps;
-use recalc::{ColumnIndex, KeptTable, evaluate_rest};
+use recalc::{ColumnIndex, KeptTable};
 use std::alloc::{AllocError, Global};
 use std::sync::ledger::Ledger;
 
@@ -40,9 +42,8 @@ fn settle_taken<D: DocTables, L: Ledger>(
     ensures recording { IsRecording (D.document tables.now)
         (held_at (D.document tables.now) kept.old.items) reads.old
         (held_at (D.document tables.now) kept.new.items) reads.new }
-    ensures attempts { (cells : List CellId) → HasOpen (sheet_of (D.document tables.now))
-        (held_at (D.document tables.now) kept.old.items) cells → steps.new
-        ≤ steps.old + 2 * open_count (held_at (D.document tables.now) kept.old.items) cells }
+    ensures attempts { IsWithin (sheet_of (D.document tables.now))
+        (held_at (D.document tables.now) kept.old.items) steps.old steps.new }
     ensures indexed { OnOk result
         (AreIndexes (sheet_of (D.document tables.now)) indexes.new.items) }
 {
@@ -92,74 +93,17 @@ pub fn refresh_recording<D: DocTables, L: Ledger>(
         (AreIndexes (sheet_of (D.document tables.now)) indexes.new.items) }
     // Two attempts a cell at most, whatever comes of them.
     ensures attempts { steps.new ≤ steps.old + 2 * length cells.items }
+    // One for each cell, and one for each of them that it names.
+    ensures named { (all : List CellId) → HasFormulas (D.document tables.now) cells.items all
+        → steps.new ≤ steps.old + attempt_bound (sheet_of (D.document tables.now)) all }
 {
+    reads.forget_plain(tables, cells.as_slice());
     let mut taken = room;
     take_values(tables, kept, cells, &mut taken);
     match settle_taken(alloc, tables, kept, indexes, reads, &taken, steps) {
         Ok(()) => Ok(taken),
         Err(_) => {
             put_values_back(tables, kept, taken);
-            reads.note_all();
-            Err(AllocError)
-        }
-    }
-}
-
-// Evaluates the formula cells whose values are not known, these cells first.
-fn settle_rest<D: DocTables, L: Ledger>(
-    alloc: Global,
-    tables: &D,
-    kept: &mut Vec<KeptTable>,
-    indexes: &mut Vec<ColumnIndex>,
-    reads: &mut KnownReads,
-    cells: Vec<CellId>,
-    steps: &mut Steps<L>,
-) -> Result<(), AllocError>
-    requires whole { IsWhole (D.document tables.now) }
-    requires settled { IsSettled (D.document tables.now) kept.old.items }
-    requires indexed { AreIndexes (sheet_of (D.document tables.now)) indexes.old.items }
-    requires reads { KnowsBut (D.document tables.now) reads.old cells.items }
-    ensures ok { OnOk result (IsEvaluated (D.document tables.now) kept.new.items) }
-    ensures reads { OnOk result (KnowsOthers (D.document tables.now) reads.new) }
-    ensures indexed { OnOk result
-        (AreIndexes (sheet_of (D.document tables.now)) indexes.new.items) }
-{
-    let mut taken = Vec::with_capacity(alloc, cells.len())?;
-    take_values(tables, kept, cells, &mut taken);
-    settle_taken(alloc, tables, kept, indexes, reads, &taken, steps)?;
-    evaluate_rest(alloc, tables, kept, indexes)
-}
-
-/// Evaluates the formula cells whose values are not known, where those that are known are right,
-/// and these cells anew, of which it records what they read by the same attempts. A cell is noted
-/// as stale as by `refresh_recording`.
-///
-/// Errors: out of memory; the values and the indexes are then to be given up, and all cells are
-/// stale.
-/// Memory and cost: as to `refresh_recording`, with room for what is known of these cells; and to
-/// ask of each formula cell whether its value is known.
-pub fn refresh_rest<D: DocTables, L: Ledger>(
-    alloc: Global,
-    tables: &D,
-    kept: &mut Vec<KeptTable>,
-    indexes: &mut Vec<ColumnIndex>,
-    reads: &mut KnownReads,
-    cells: Vec<CellId>,
-    steps: &mut Steps<L>,
-) -> Result<(), AllocError>
-    requires whole { IsWhole (D.document tables.now) }
-    requires settled { IsSettled (D.document tables.now) kept.old.items }
-    requires indexed { AreIndexes (sheet_of (D.document tables.now)) indexes.old.items }
-    requires reads { KnowsBut (D.document tables.now) reads.old cells.items }
-    ensures ok { OnOk result (IsEvaluated (D.document tables.now) kept.new.items) }
-    ensures reads { OnOk result (KnowsOthers (D.document tables.now) reads.new) }
-    ensures indexed { OnOk result
-        (AreIndexes (sheet_of (D.document tables.now)) indexes.new.items) }
-    ensures stale { OnErr result (reads.new.are_all_stale ≡ true) }
-{
-    match settle_rest(alloc, tables, kept, indexes, reads, cells, steps) {
-        Ok(()) => Ok(()),
-        Err(_) => {
             reads.note_all();
             Err(AllocError)
         }

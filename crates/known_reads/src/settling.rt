@@ -1,6 +1,6 @@
 //! Cells evaluated with a stack in memory, each recorded by the attempt that finds its value.
 
-ghost use Rattle.std.specs.Prelude.{◌≡◌, ◌+◌, ◌*◌, ◌<◌, ◌≤◌, ◌++◌, ◌∷◌, List, [], length, cond, true, false, Some, OnErr, OnOk, vec_len};
+ghost use Rattle.std.specs.Prelude.{◌≡◌, ◌+◌, ◌<◌, ◌≤◌, ◌++◌, ◌∷◌, [], cond, true, false, Some, OnErr, OnOk, vec_len};
 ghost use Rattle.std.specs.Option.{is_some};
 ghost use Rattle.cell_types.specs.declared.cell.CellId.{CellId};
 ghost use Rattle.doc_model.specs.DocumentLaws.{IsWhole};
@@ -11,7 +11,8 @@ ghost use Rattle.recalc.specs.Kept.{IsFurther, IsKeptOf, IsSettled, held_at};
 ghost use Rattle.recalc.specs.Stack.{IsOpen, IsWorking, on};
 ghost use Rattle.recalc.specs.Turn.{IsTurn, StaysKnown};
 ghost use Rattle.affected_values.specs.Taken.{IsHeldWhere};
-ghost use Rattle.known_reads.specs.Recorded.{HasOpen, IsRecording, open_count};
+ghost use Rattle.known_reads.specs.Attempts.{IsNaming, IsSpent, IsWithin};
+ghost use Rattle.known_reads.specs.Recorded.{IsRecording};
 
 use crate::attempting::{Found, try_cell};
 use crate::beside::KnownReads;
@@ -88,6 +89,7 @@ fn turn<D: DocTables, L: Ledger>(
     requires of_document { IsKeptOf (D.document tables.now) kept.old.items }
     requires working { IsWorking (sheet_of (D.document tables.now))
         (held_at (D.document tables.now) kept.old.items) stack.old.items }
+    requires naming { IsNaming (sheet_of (D.document tables.now)) stack.old.items }
     requires some { 0 < vec_len stack.old }
     ensures of_document { OnOk result (IsKeptOf (D.document tables.now) kept.new.items) }
     ensures indexed { OnOk result
@@ -101,15 +103,11 @@ fn turn<D: DocTables, L: Ledger>(
     ensures recording { IsRecording (D.document tables.now)
         (held_at (D.document tables.now) kept.old.items) reads.old
         (held_at (D.document tables.now) kept.new.items) reads.new }
+    ensures naming { OnOk result (IsNaming (sheet_of (D.document tables.now)) stack.new.items) }
     ensures steps { steps.new ≤ steps.old + 1 }
-    // Each attempt gives a cell its value, or puts one on the stack.
-    ensures attempts { OnOk result ((cells : List CellId)
-        → HasOpen (sheet_of (D.document tables.now))
-        (held_at (D.document tables.now) kept.old.items) cells
-        → steps.new + 2 * open_count (held_at (D.document tables.now) kept.new.items) cells
-        + length stack.old.items
-        ≤ steps.old + 2 * open_count (held_at (D.document tables.now) kept.old.items) cells
-        + length stack.new.items) }
+    ensures attempts { OnOk result (IsSpent (sheet_of (D.document tables.now))
+        (held_at (D.document tables.now) kept.old.items) stack.old.items steps.old
+        (held_at (D.document tables.now) kept.new.items) stack.new.items steps.new) }
 {
     let Some(top) = stack.pop() else {
         unreachable!();
@@ -158,14 +156,11 @@ pub(crate) fn settle_cell<D: DocTables, L: Ledger>(
     ensures recording { IsRecording (D.document tables.now)
         (held_at (D.document tables.now) kept.old.items) reads.old
         (held_at (D.document tables.now) kept.new.items) reads.new }
-    ensures attempts { OnOk result ((cells : List CellId)
-        → HasOpen (sheet_of (D.document tables.now))
-        (held_at (D.document tables.now) kept.old.items) cells
-        → steps.new + 2 * open_count (held_at (D.document tables.now) kept.new.items) cells
-        ≤ steps.old + 2 * open_count (held_at (D.document tables.now) kept.old.items) cells) }
-    ensures most { (cells : List CellId) → HasOpen (sheet_of (D.document tables.now))
-        (held_at (D.document tables.now) kept.old.items) cells → steps.new
-        ≤ steps.old + 2 * open_count (held_at (D.document tables.now) kept.old.items) cells }
+    ensures attempts { OnOk result (IsSpent (sheet_of (D.document tables.now))
+        (held_at (D.document tables.now) kept.old.items) [] steps.old
+        (held_at (D.document tables.now) kept.new.items) [] steps.new) }
+    ensures most { IsWithin (sheet_of (D.document tables.now))
+        (held_at (D.document tables.now) kept.old.items) steps.old steps.new }
 {
     if !is_open(tables, kept, cell) {
         return Ok(());

@@ -6,7 +6,7 @@ ghost use Rattle.doc_readers.specs.Parts.{grid_at};
 ghost use Rattle.recalc.specs.Evaluated.{cells_of_column, cells_of_columns, sheet_of};
 ghost use Rattle.recalc.specs.Indexes.{AreIndexes};
 ghost use Rattle.recalc.specs.Kept.{IsEvaluated};
-ghost use Rattle.affected_search.specs.Noted.{HoldsNotes};
+ghost use Rattle.affected_search.specs.ExactNotes.{HasNoReads, HasNotes};
 ghost use Rattle.known_reads.specs.Known.{EachIsRead, KeepsReads};
 
 use crate::bounded::{BoundedGraph, ReadsFault};
@@ -75,8 +75,8 @@ fn record_table<D: DocTables>(
     Ok(())
 }
 
-/// Records what each formula cell of an evaluated document reads, and makes the indexes of the data
-/// columns by which they look rows up.
+/// Records what each formula cell of an evaluated document reads, in a graph that has no reads, and
+/// makes the indexes of the data columns by which they look rows up.
 ///
 /// Errors: the graph has no room for more reads, or out of memory; what it had of reads that are
 /// made it has still.
@@ -92,7 +92,8 @@ pub(crate) fn record_all<D: DocTables>(
     requires whole { IsWhole (D.document tables.now) }
     requires indexed { AreIndexes (sheet_of (D.document tables.now)) indexes.old.items }
     requires evaluated { IsEvaluated (D.document tables.now) kept.now }
-    ensures ok { OnOk result (HoldsNotes graph.new (sheet_of (D.document tables.now))) }
+    requires none { HasNoReads graph.old }
+    ensures ok { OnOk result (HasNotes graph.new (sheet_of (D.document tables.now))) }
     ensures keeps { KeepsReads (sheet_of (D.document tables.now)) graph.old graph.new }
     ensures indexed { OnOk result
         (AreIndexes (sheet_of (D.document tables.now)) indexes.new.items) }

@@ -1,4 +1,5 @@
-use Rattle.std.proofs.Common.{refl}
+use Rattle.std.proofs.Common.{refl, subst, sym}
+use Rattle.std.specs.List.{AllByRecursion}
 use Rattle.doc_readers.specs.Parts.{grid_at}
 use Rattle.doc_readers.proofs.ColumnLemmas.{column_past, column_read}
 use Rattle.recalc.proofs.Progress.{each_all, each_next}
@@ -26,3 +27,13 @@ returns-clause-pushed g c =
     cells_there s t c.args.rows.now cells
     (each_all (HasCellsOfColumn t c.args.rows.now cells) (grid_at s t).columns c.loop-column.index
     (nothing_there (grid_at s t).columns c.loop-column.index (column_past s t c.loop-column.index c.in_default.ensures.told)) c.loop-column.invariant.each)
+
+pub returns-clause-alike : goal.returns-clause-alike
+returns-clause-alike g c =
+    let s = g.D.DocReader.document c.args.tables.now in
+    let t = c.args.table.now in
+    let cells = c.loop-column.cells.items in
+    λ x same. cells_there x t c.args.rows.now cells
+    (subst (AllByRecursion (HasCellsOfColumn t c.args.rows.now cells)) (sym same)
+    (each_all (HasCellsOfColumn t c.args.rows.now cells) (grid_at s t).columns c.loop-column.index
+    (nothing_there (grid_at s t).columns c.loop-column.index (column_past s t c.loop-column.index c.in_default.ensures.told)) c.loop-column.invariant.each))

@@ -7,8 +7,7 @@ use Rattle.recalc.specs.Stack.{on}
 use Rattle.affected_search.specs.Actions.{KeepsOthers}
 use Rattle.affected_search.specs.Noted.{HoldsNotes}
 use Rattle.affected_search.specs.Sheets.{is_found}
-use Rattle.affected_values.specs.Carried.{HasCellsOf}
-use Rattle.evaluated_doc.proofs.MovedLemmas.{moved_records}
+use Rattle.affected_values.specs.Carried.{HasCellsWith}
 use Rattle.evaluated_doc.proofs.moving.find_moved.Goals as goal
 
 pub returns-clause-found : goal.returns-clause-found
@@ -24,9 +23,9 @@ returns-clause-found g c =
     let keeps : KeepsOthers s graph a found = subst (λ gr. KeepsOthers s gr a found) c.graph.ensures (c.in_ok-found.ensures.others held) in
     record {
       keeps = subst (λ gr. KeepsOthers s gr a found) (sym c.reserve.ensures.graph) keeps;
-      noted = subst (λ gr. (d : CellId) → is_found gr found d ≡ true → on c.in_ok-noted.noted.items d ≡ true) (c.graph-2.ensures ∙ sym c.reserve.ensures.graph) c.in_ok-noted.ensures;
+      noted = subst (λ gr. (d : CellId) → is_found gr found d ≡ true → on c.in_ok-noted.noted.items d ≡ true) (c.graph-2.ensures ∙ sym c.reserve.ensures.graph) c.in_ok-noted.ensures.found;
       stale = subst (λ gr. (d : CellId) → is_found gr found d ≡ true → on c.in_ok-stale.stale.items d ≡ true) (c.graph-3.ensures ∙ sym c.reserve.ensures.graph) c.in_ok-stale.ensures.named;
-      moved = subst (λ d. HasCellsOf d t rows c.in_ok-stale.stale.items) same c.in_ok-stale.ensures.rows;
+      moved = subst (λ d. HasCellsWith (grid_at d t).columns t rows c.in_ok-stale.stale.items) same c.in_ok-stale.ensures.rows;
       were = c.in_ok-rows.ensures.items ∙ c.rows_in.ensures.value ∙ ap (λ d. (grid_at d t).rows) same;
       ascending = subst IsAscending (sym c.in_ok-rows.ensures.items) c.rows_in.ensures.ascending;
     }

@@ -7,8 +7,8 @@ returns g c =
     let fits : c.len.result ≤ vec_capacity c.in_ok-room.room = c.in_ok-room.ensures.capacity in
     record {
       found = c.requires;
-      cells = record { found = c.args.found; keeps = c.requires; named = c.in_ok-cells.ensures };
-      stale = record { found = c.args.found; keeps = c.requires; named = c.in_ok-stale.ensures };
+      cells = record { found = c.args.found; keeps = c.requires; named = c.in_ok-cells.ensures.found };
+      stale = record { found = c.args.found; keeps = c.requires; named = c.in_ok-stale.ensures.found };
       empty = c.in_ok-room.ensures.items;
       room = omega (arith, counts, fits);
     }

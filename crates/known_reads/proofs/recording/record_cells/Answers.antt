@@ -1,6 +1,6 @@
 use Rattle.std.proofs.Common.{◌≤◌, length, refl, subst, arith}
 use Rattle.recalc.proofs.Progress.{each_more}
-use Rattle.known_reads.specs.Known.{IsReadWhere}
+use Rattle.known_reads.specs.Known.{IsRead}
 use Rattle.known_reads.proofs.KnownLemmas.{all_read, read_stays}
 use Rattle.known_reads.proofs.recording.record_cells.Goals as goal
 
@@ -13,12 +13,12 @@ loop-cell-preserved g c =
     record {
       indexed = c.in_ok-record_where.ensures.indexed;
       keeps = λ d h. c.record_where.ensures.keeps d (c.loop-cell.invariant.keeps d h);
-      read = each_more (IsReadWhere s c.loop-cell.graph) (IsReadWhere s c.record_where.new.graph) c.args.cells.now c.loop-cell.cell-index _ c.cell-item.result
+      read = each_more (IsRead s c.loop-cell.graph) (IsRead s c.record_where.new.graph) c.args.cells.now c.loop-cell.cell-index _ c.cell-item.result
           (read_stays s c.loop-cell.graph c.record_where.new.graph c.record_where.ensures.keeps) refl
-          (subst (IsReadWhere s c.record_where.new.graph) c.cell-item.is c.in_ok-record_where.ensures.ok) c.loop-cell.invariant.read;
+          (subst (IsRead s c.record_where.new.graph) c.cell-item.is c.in_ok-record_where.ensures.ok) c.loop-cell.invariant.read;
     }
 
 pub returns-clause-ok : goal.returns-clause-ok
 returns-clause-ok g c =
     let all : length c.args.cells.now ≤ c.loop-cell.cell-index = omega arith in
-    all_read (g.D.DocReader.document c.args.tables.now) c.loop-cell.graph c.args.cells.now c.loop-cell.cell-index all c.loop-cell.invariant.read
+    all_read (IsRead (g.D.DocReader.document c.args.tables.now) c.loop-cell.graph) c.args.cells.now c.loop-cell.cell-index all c.loop-cell.invariant.read

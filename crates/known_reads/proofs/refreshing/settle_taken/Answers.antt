@@ -1,9 +1,9 @@
-use Rattle.std.proofs.Common.{◌≤◌, length, refl, subst, arith}
+use Rattle.std.proofs.Common.{◌≤◌, [], length, refl, subst, arith}
 use Rattle.recalc.specs.Evaluated.{sheet_of}
 use Rattle.recalc.specs.Kept.{held_at}
 use Rattle.recalc.proofs.Progress.{each_more, further_next}
 use Rattle.affected_values.proofs.RefreshedLemmas.{IsHeldOf, held_stays, taken_known}
-use Rattle.known_reads.proofs.CountLemmas.{open_before}
+use Rattle.known_reads.proofs.BoundLemmas.{spent_next, spent_within, within_next}
 use Rattle.known_reads.proofs.RecordedLemmas.{recording_next}
 use Rattle.known_reads.proofs.refreshing.settle_taken.Goals as goal
 
@@ -25,9 +25,8 @@ loop-held-preserved g c =
       indexed = c.in_ok-settle_cell.ensures.indexed;
       recording = recording_next s (held_at s c.args.kept.now.items) (held_at s c.loop-held.kept.items) (held_at s c.settle_cell.new.kept.items) c.args.reads.now c.loop-held.reads c.settle_cell.new.reads
           c.loop-held.invariant.recording c.settle_cell.ensures.recording;
-      attempts = λ cells has. let more = c.loop-held.invariant.attempts cells has in
-          let spent = c.in_ok-settle_cell.ensures.attempts cells (open_before (sheet_of s) (held_at s c.args.kept.now.items) (held_at s c.loop-held.kept.items) c.loop-held.invariant.further.stays cells has) in
-          omega (arith, more, spent);
+      attempts = spent_next (sheet_of s) (held_at s c.args.kept.now.items) (held_at s c.loop-held.kept.items) (held_at s c.settle_cell.new.kept.items) [] [] [] c.args.steps.now c.loop-held.steps c.settle_cell.new.steps
+          c.loop-held.invariant.further.stays c.loop-held.invariant.attempts c.in_ok-settle_cell.ensures.attempts;
     }
 
 pub returns-clause-known : goal.returns-clause-known
@@ -38,11 +37,10 @@ returns-clause-known g c =
 pub returns-in_err-settle_cell-clause-attempts : goal.returns-in_err-settle_cell-clause-attempts
 returns-in_err-settle_cell-clause-attempts g c =
     let s = g.D.DocReader.document c.args.tables.now in
-    λ cells has. let more = c.loop-held.invariant.attempts cells has in
-    let spent = c.settle_cell.ensures.most cells (open_before (sheet_of s) (held_at s c.args.kept.now.items) (held_at s c.loop-held.kept.items) c.loop-held.invariant.further.stays cells has) in
-    omega (arith, more, spent)
+    within_next (sheet_of s) (held_at s c.args.kept.now.items) (held_at s c.loop-held.kept.items) c.args.steps.now c.loop-held.steps c.settle_cell.new.steps
+    c.loop-held.invariant.further.stays c.loop-held.invariant.attempts c.settle_cell.ensures.most
 
 pub returns-clause-attempts : goal.returns-clause-attempts
 returns-clause-attempts g c =
-    λ cells has. let more = c.loop-held.invariant.attempts cells has in
-    omega (arith, more)
+    let s = g.D.DocReader.document c.args.tables.now in
+    spent_within (sheet_of s) (held_at s c.args.kept.now.items) (held_at s c.loop-held.kept.items) [] c.args.steps.now c.loop-held.steps refl c.loop-held.invariant.attempts

@@ -1,11 +1,13 @@
-use Rattle.std.proofs.Common.{◌≡◌, length, rules, subst, sym, arith}
+use Rattle.std.proofs.Common.{◌<◌, vec_len, ◌≡◌, [], length, rules, subst, sym, ap, arith}
 use Rattle.std.specs.Global.{Global}
 use Rattle.std.specs.Prelude.{Vec}
 use Rattle.recalc.specs.declared.kept.KeptTable.{KeptTable}
 use Rattle.recalc.specs.Evaluated.{sheet_of}
 use Rattle.recalc.specs.Kept.{IsFurther, held_at}
 use Rattle.recalc.proofs.Turns.{settling_done, settling_turn}
-use Rattle.known_reads.proofs.CountLemmas.{open_before, stack_few}
+use Rattle.known_reads.specs.Attempts.{IsSpent, height}
+use Rattle.known_reads.proofs.BoundLemmas.{some_left, spent_err, spent_next, spent_within}
+use Rattle.known_reads.proofs.CountLemmas.{stack_few}
 use Rattle.known_reads.proofs.RecordedLemmas.{empty_list, recording_next}
 use Rattle.known_reads.proofs.settling.settle_cell.Goals as goal
 
@@ -20,9 +22,9 @@ settling-preserved g c =
       stays = λ d h. c.turn.ensures.stays d (c.settling.invariant.stays d h);
       recording = recording_next s (held_at s c.args.kept.now.items) (held_at s c.settling.kept.items) (held_at s c.turn.new.kept.items) c.args.reads.now c.settling.reads c.turn.new.reads
           c.settling.invariant.recording c.turn.ensures.recording;
-      attempts = λ cells has. let more = c.settling.invariant.attempts cells has in
-          let spent = c.in_ok-turn.ensures.attempts cells (open_before (sheet_of s) (held_at s c.args.kept.now.items) (held_at s c.settling.kept.items) c.settling.invariant.stays cells has) in
-          omega (arith, more, spent);
+      naming = c.in_ok-turn.ensures.naming;
+      attempts = spent_next (sheet_of s) (held_at s c.args.kept.now.items) (held_at s c.settling.kept.items) (held_at s c.turn.new.kept.items) [] c.settling.stack.items c.turn.new.stack.items c.args.steps.now c.settling.steps c.turn.new.steps
+          c.settling.invariant.stays c.settling.invariant.attempts c.in_ok-turn.ensures.attempts;
     }
 
 pub returns-in_err-turn-clause-further : goal.returns-in_err-turn-clause-further
@@ -48,20 +50,21 @@ returns-clause-known g c =
 pub returns-in_err-turn-clause-most : goal.returns-in_err-turn-clause-most
 returns-in_err-turn-clause-most g c =
     let s = g.D.DocReader.document c.args.tables.now in
-    λ cells has. let more = c.settling.invariant.attempts cells has in
-    let few = stack_few (sheet_of s) (held_at s c.settling.kept.items) cells (open_before (sheet_of s) (held_at s c.args.kept.now.items) (held_at s c.settling.kept.items) c.settling.invariant.stays cells has)
-    c.settling.stack.items c.settling.invariant.settling.working.each_open in
-    let step = c.turn.ensures.steps in
-    omega (arith, more, few, step)
+    let size : length c.settling.stack.items ≡ vec_len c.settling.stack = search rules in
+    let there : 0 < vec_len c.settling.stack = some_left (vec_len c.settling.stack) c.is_empty.result c.is_empty.ensures c.settling-test.true in
+    let some : 0 < length c.settling.stack.items = omega (arith, size, there) in
+    spent_err (sheet_of s) (held_at s c.args.kept.now.items) (held_at s c.settling.kept.items) c.settling.stack.items c.args.steps.now c.settling.steps c.turn.new.steps c.settling.invariant.stays some
+    (λ cells has. stack_few (sheet_of s) (held_at s c.settling.kept.items) cells has c.settling.stack.items c.settling.invariant.settling.working.each_open)
+    c.settling.invariant.attempts c.turn.ensures.steps
 
 pub returns-clause-attempts : goal.returns-clause-attempts
 returns-clause-attempts g c =
+    let s = g.D.DocReader.document c.args.tables.now in
     let none : length c.settling.stack.items ≡ 0 = search rules in
-    λ cells has. let more = c.settling.invariant.attempts cells has in
-    omega (arith, more, none)
+    subst (λ l. IsSpent (sheet_of s) (held_at s c.args.kept.now.items) [] c.args.steps.now (held_at s c.settling.kept.items) l c.settling.steps) (empty_list c.settling.stack.items none) c.settling.invariant.attempts
 
 pub returns-clause-most : goal.returns-clause-most
 returns-clause-most g c =
+    let s = g.D.DocReader.document c.args.tables.now in
     let none : length c.settling.stack.items ≡ 0 = search rules in
-    λ cells has. let more = c.settling.invariant.attempts cells has in
-    omega (arith, more, none)
+    spent_within (sheet_of s) (held_at s c.args.kept.now.items) (held_at s c.settling.kept.items) c.settling.stack.items c.args.steps.now c.settling.steps (ap height (empty_list c.settling.stack.items none)) c.settling.invariant.attempts

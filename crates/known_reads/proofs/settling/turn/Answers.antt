@@ -1,4 +1,4 @@
-use Rattle.std.proofs.Common.{sym, ◌∙◌, subst, arith}
+use Rattle.std.proofs.Common.{[], ◌∷◌, ◌++◌, sym, ap, ◌∙◌, subst}
 use Rattle.cell_types.specs.declared.value.CellValue.TheVariants.{Err}
 use Rattle.cell_types.specs.declared.value.ErrKind.TheVariants.{Circular}
 use Rattle.recalc.specs.Evaluated.{sheet_of}
@@ -6,8 +6,10 @@ use Rattle.recalc.specs.Kept.{held_at}
 use Rattle.recalc.specs.Stack.{IsOpen}
 use Rattle.recalc.proofs.Turns.{put_stays, turn_open, turn_value, turn_circular, turn_push}
 use Rattle.recalc.proofs.SheetLemmas.{is_sheet}
+use Rattle.known_reads.specs.Attempts.{IsNaming}
 use Rattle.known_reads.specs.Recorded.{IsTold}
-use Rattle.known_reads.proofs.CountLemmas.{length_snoc, open_less}
+use Rattle.known_reads.proofs.BoundLemmas.{naming_front, naming_push, push_spent, put_spent}
+use Rattle.known_reads.proofs.CountLemmas.{open_less}
 use Rattle.known_reads.proofs.RecordedLemmas.{noted_same, recording_put}
 use Rattle.known_reads.proofs.settling.turn.Goals as goal
 
@@ -73,28 +75,43 @@ returns-in-Value-clause-recording g c =
     recording_put s (held_at s c.args.kept.now.items) (held_at s c.put_value.new.kept.items) c.args.reads.now c.keep_notes.new.self c.in-Some.top c.in-Value.value c.put_value.ensures.put
     (c.keep_notes.ensures (sheet_of s) (rw c.in-Value.is at told).1)
 
+pub returns-in-Value-clause-naming : goal.returns-in-Value-clause-naming
+returns-in-Value-clause-naming g c =
+    let s = g.D.DocReader.document c.args.tables.now in
+    naming_front (sheet_of s) c.pop.new.self.items c.in-Some.top (subst (IsNaming (sheet_of s)) c.in-Some.ensures.items c.requires.naming)
+
+pub returns-then-is_on-clause-naming : goal.returns-then-is_on-clause-naming
+returns-then-is_on-clause-naming g c =
+    let s = g.D.DocReader.document c.args.tables.now in
+    naming_front (sheet_of s) c.pop.new.self.items c.in-Some.top (subst (IsNaming (sheet_of s)) c.in-Some.ensures.items c.requires.naming)
+
+pub returns-in_ok-push-in-Need-2-clause-naming : goal.returns-in_ok-push-in-Need-2-clause-naming
+returns-in_ok-push-in-Need-2-clause-naming g c =
+    let s = g.D.DocReader.document c.args.tables.now in
+    let told = subst (λ l. IsTold (sheet_of s) (held_at s l) c.in-Some.top c.in_ok-value.field-0) c.deref.ensures.value c.in_ok-value.ensures.told in
+    subst (IsNaming (sheet_of s)) (sym (c.in_ok-push-in-Need-2.ensures.items ∙ ap (λ l. l ++ c.in-Need.cell ∷ []) c.in_ok-push-in-Need.ensures.items))
+    (naming_push (sheet_of s) c.pop.new.self.items c.in-Some.top c.in-Need.cell (subst (IsNaming (sheet_of s)) c.in-Some.ensures.items c.requires.naming) (rw c.in-Need.is at told).2)
+
 pub returns-in-Value-clause-attempts : goal.returns-in-Value-clause-attempts
 returns-in-Value-clause-attempts g c =
     let s = g.D.DocReader.document c.args.tables.now in
-    λ cells has. let less = open_less (sheet_of s) (held_at s c.args.kept.now.items) (held_at s c.put_value.new.kept.items) c.in-Some.top c.in-Value.value c.put_value.ensures.put
-    (turn_open (sheet_of s) (is_sheet s) (held_at s c.args.kept.now.items) c.args.stack.now.items c.pop.new.self.items c.in-Some.top c.in-Some.ensures.items c.requires.working) cells has in
-    let one = length_snoc c.args.stack.now.items c.pop.new.self.items c.in-Some.top c.in-Some.ensures.items in
-    let step = c.try_cell.ensures.steps in
-    omega (arith, less, one, step)
+    let k = held_at s c.args.kept.now.items in
+    let j = held_at s c.put_value.new.kept.items in
+    let opened = turn_open (sheet_of s) (is_sheet s) k c.args.stack.now.items c.pop.new.self.items c.in-Some.top c.in-Some.ensures.items c.requires.working in
+    put_spent (sheet_of s) k j c.in-Some.top c.in-Value.value c.put_value.ensures.put opened (open_less (sheet_of s) k j c.in-Some.top c.in-Value.value c.put_value.ensures.put opened)
+    c.pop.new.self.items c.args.stack.now.items c.in-Some.ensures.items c.requires.working.each_open c.requires.naming c.args.steps.now c.try_cell.new.steps c.try_cell.ensures.steps
 
 pub returns-then-is_on-clause-attempts : goal.returns-then-is_on-clause-attempts
 returns-then-is_on-clause-attempts g c =
     let s = g.D.DocReader.document c.args.tables.now in
-    λ cells has. let less = open_less (sheet_of s) (held_at s c.args.kept.now.items) (held_at s c.put_value-then-is_on.new.kept.items) c.in-Some.top (Err Circular) c.put_value-then-is_on.ensures.put
-    (turn_open (sheet_of s) (is_sheet s) (held_at s c.args.kept.now.items) c.args.stack.now.items c.pop.new.self.items c.in-Some.top c.in-Some.ensures.items c.requires.working) cells has in
-    let one = length_snoc c.args.stack.now.items c.pop.new.self.items c.in-Some.top c.in-Some.ensures.items in
-    let step = c.try_cell.ensures.steps in
-    omega (arith, less, one, step)
+    let k = held_at s c.args.kept.now.items in
+    let j = held_at s c.put_value-then-is_on.new.kept.items in
+    let opened = turn_open (sheet_of s) (is_sheet s) k c.args.stack.now.items c.pop.new.self.items c.in-Some.top c.in-Some.ensures.items c.requires.working in
+    put_spent (sheet_of s) k j c.in-Some.top (Err Circular) c.put_value-then-is_on.ensures.put opened (open_less (sheet_of s) k j c.in-Some.top (Err Circular) c.put_value-then-is_on.ensures.put opened)
+    c.pop.new.self.items c.args.stack.now.items c.in-Some.ensures.items c.requires.working.each_open c.requires.naming c.args.steps.now c.try_cell.new.steps c.try_cell.ensures.steps
 
 pub returns-in_ok-push-in-Need-2-clause-attempts : goal.returns-in_ok-push-in-Need-2-clause-attempts
 returns-in_ok-push-in-Need-2-clause-attempts g c =
-    λ cells has. let one = length_snoc c.args.stack.now.items c.pop.new.self.items c.in-Some.top c.in-Some.ensures.items in
-    let two = length_snoc c.push.new.self.items c.pop.new.self.items c.in-Some.top c.in_ok-push-in-Need.ensures.items in
-    let three = length_snoc c.push-in-Need.new.self.items c.push.new.self.items c.in-Need.cell c.in_ok-push-in-Need-2.ensures.items in
-    let step = c.try_cell.ensures.steps in
-    omega (arith, one, two, three, step)
+    let s = g.D.DocReader.document c.args.tables.now in
+    push_spent (sheet_of s) (held_at s c.args.kept.now.items) c.pop.new.self.items c.args.stack.now.items c.push.new.self.items c.push-in-Need.new.self.items c.in-Some.top c.in-Need.cell
+    c.in-Some.ensures.items c.in_ok-push-in-Need.ensures.items c.in_ok-push-in-Need-2.ensures.items c.args.steps.now c.try_cell.new.steps c.try_cell.ensures.steps

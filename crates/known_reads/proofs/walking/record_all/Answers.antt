@@ -1,7 +1,9 @@
 use Rattle.std.proofs.Common.{◌<◌, refl, length, arith}
 use Rattle.std.proofs.lemmas.Option.{slice_get_within}
+use Rattle.recalc.specs.Evaluated.{sheet_of}
 use Rattle.recalc.proofs.Progress.{cells_of_table, each_next}
 use Rattle.recalc.proofs.WalkLemmas.{table_past, table_read}
+use Rattle.affected_search.proofs.ExactNotes.{none_exact}
 use Rattle.known_reads.specs.Known.{EachIsRead}
 use Rattle.known_reads.proofs.WalkedLemmas.{all_hold, each_stays, nothing_there, read_table}
 use Rattle.known_reads.proofs.walking.record_all.Goals as goal
@@ -33,3 +35,4 @@ pub returns-clause-ok : goal.returns-clause-ok
 returns-clause-ok g c =
     let s = g.D.DocReader.document c.args.tables.now in
     all_hold s c.loop-table.graph c.loop-table.index (nothing_there s c.loop-table.index (table_past s c.loop-table.index c.in_default.ensures.told)) c.loop-table.invariant.read
+    (λ d plain. c.loop-table.invariant.keeps d (none_exact (sheet_of s) c.args.graph.now c.requires.none d plain))

@@ -1,4 +1,4 @@
-use Rattle.std.proofs.Common.{◌≡◌, true, false, filter, sym, ap, ◌∙◌, subst, Option, Vec}
+use Rattle.std.proofs.Common.{◌≡◌, true, filter, sym, ap, ◌∙◌, subst, Vec}
 use Rattle.std.specs.Global.{Global}
 use Rattle.std.specs.Option.{option_map}
 use Rattle.doc_model.specs.Apply.{apply}
@@ -11,26 +11,12 @@ use Rattle.recalc.specs.Indexes.{AreIndexes}
 use Rattle.recalc.specs.Kept.{IsEvaluated}
 use Rattle.recalc.specs.Lost.{all_cells, is_lost, lost}
 use Rattle.affected_search.specs.Narrow.{is_narrow}
-use Rattle.affected_values.specs.Carried.{AreRightStill, HasCellsOf}
 use Rattle.known_reads.specs.Beside.{KnowsOthers}
-use Rattle.known_reads.specs.Moved.{ReadsSameAfter}
-use Rattle.evaluated_doc.proofs.MovedLemmas.{known_but, moved_records, reads_before, right}
-use Rattle.evaluated_doc.proofs.UpdateLemmas.{lost_narrow, none_known}
+use Rattle.evaluated_doc.specs.Moved.{IsMoving}
+use Rattle.evaluated_doc.specs.WayBack.{HasBefore}
+use Rattle.evaluated_doc.proofs.MovedLemmas.{moved_records}
+use Rattle.evaluated_doc.proofs.UpdateLemmas.{lost_narrow}
 use Rattle.evaluated_doc.proofs.doc.Doc.put_rows.Goals as goal
-
-pub follow_moved-requires-clause-right : goal.follow_moved-requires-clause-right
-follow_moved-requires-clause-right g c =
-    let s = g.D.DocReader.document c.self.inside.tables in
-    let next = g.D.DocReader.document c.put.new.self in
-    let a = c.args.action.now in
-    let t = c.args.table.now in
-    let x = c.in-Ok.moved in
-    let ok : valid s a ≡ true = subst (λ d. valid (g.D.DocReader.document d) a ≡ true) (sym c.self.view_is) c.requires.valid in
-    let before : IsEvaluated s c.in-Some-kept.kept.items = rw c.in-Some-kept.is at c.self.invariant.1 in
-    subst (λ gr. AreRightStill next t x.rows.items c.deref-2.result.now gr x.found) (sym c.graph-graph.ensures)
-    (subst (λ ks. AreRightStill next t x.rows.items ks c.find_moved-found.new.reads.graph x.found) (sym c.deref-2.ensures.value)
-    (right s next a t c.args.rows.now x ok c.requires.table (c.in_ok-undo.ensures.done ∙ ap (λ d. apply d c.args.action.now) c.find_moved-found.ensures.same) c.right_over_law.ensures c.find_moved-found.new.reads.graph c.in-Some-kept.kept.items
-    c.in-Ok.ensures.found before))
 
 pub enter_indexes-indexes-requires : goal.enter_indexes-indexes-requires
 enter_indexes-indexes-requires g c = record {
@@ -46,28 +32,6 @@ find_moved-found-requires-clause-valid g c = subst (λ d. valid (g.D.DocReader.d
 pub find_moved-found-requires-clause-indexed : goal.find_moved-found-requires-clause-indexed
 find_moved-found-requires-clause-indexed g c = c.take_indexes-indexes.ensures.taken (sheet_of (g.D.DocReader.document c.self.inside.tables)) c.self.invariant.3
 
-pub refresh_rest-requires-clause-reads : goal.refresh_rest-requires-clause-reads
-refresh_rest-requires-clause-reads g c =
-    let s = g.D.DocReader.document c.self.inside.tables in
-    let next = g.D.DocReader.document c.put.new.self in
-    let a = c.args.action.now in
-    let t = c.args.table.now in
-    let ok : valid s a ≡ true = subst (λ d. valid (g.D.DocReader.document d) a ≡ true) (sym c.self.view_is) c.requires.valid in
-    let cells = c.follow_moved.new.moved.noted.items in
-    known_but s next a t c.args.rows.now c.in-Ok.moved ok c.requires.table (c.in_ok-undo.ensures.done ∙ ap (λ d. apply d c.args.action.now) c.find_moved-found.ensures.same) c.reads_over_law.ensures c.find_moved-found.new.reads cells
-    c.in-Ok.ensures.found c.in-Ok-follow_moved.ensures.stays (subst (λ rs. HasCellsOf next t rs cells) (sym c.requires.rows) c.in-Ok-follow_moved.ensures.noted) c.find_moved-found.ensures.others
-
-pub invariant_of-self-in_default-refresh_rest : goal.invariant_of-self-in_default-refresh_rest
-invariant_of-self-in_default-refresh_rest g c =
-    let s = g.D.DocReader.document c.self.inside.tables in
-    let reads = c.refresh_rest.new.reads in
-    subst (λ d. IsWhole d × IsCurrent d (option_map (λ (v : Vec KeptTable Global). v.items) c.self.inside.kept) × KnowsOthers d reads × AreIndexes (sheet_of d) c.take_indexes-indexes.new.indexes.items) (sym (c.take_back-in_default-refresh_rest.ensures ∙ c.in_ok-undo.ensures.back ∙ c.find_moved-found.ensures.same)) (
-      c.self.invariant.0,
-      c.self.invariant.1,
-      none_known s reads c.in_default-refresh_rest.ensures.stale,
-      c.take_indexes-indexes.ensures.left (sheet_of s),
-    )
-
 pub returns-clause-cells : goal.returns-clause-cells
 returns-clause-cells g c =
     let s = g.D.DocReader.document c.self.inside.tables in
@@ -80,23 +44,6 @@ returns-clause-cells g c =
     (c.keep_lost.ensures ∙ ap (filter (is_lost (filled next) a)) (c.in_ok-cells.ensures ∙ ap (λ gr. filter (is_narrow gr x.found (filled (g.D.DocReader.document c.find_moved-found.new.tables)) a) (all_cells (filled (g.D.DocReader.document c.find_moved-found.new.tables)))) c.graph.ensures
     ∙ ap (λ d. filter (is_narrow graph x.found (filled d) a) (all_cells (filled d))) c.find_moved-found.ensures.same)
     ∙ lost_narrow c.narrow_law.ensures s next a ok (moved_records a c.args.table.now c.requires.table) (c.in_ok-undo.ensures.done ∙ ap (λ d. apply d c.args.action.now) c.find_moved-found.ensures.same) graph x.found c.self.invariant.0 c.in-Ok.ensures.found.keeps)
-
-pub returns-clause-way : goal.returns-clause-way
-returns-clause-way g c =
-    let s = g.D.DocReader.document c.self.inside.tables in
-    let next = g.D.DocReader.document c.put.new.self in
-    let a = c.args.action.now in
-    let t = c.args.table.now in
-    let x = c.in-Ok.moved in
-    let ok : valid s a ≡ true = subst (λ d. valid (g.D.DocReader.document d) a ≡ true) (sym c.self.view_is) c.requires.valid in
-    record {
-      fit = c.in_ok-undo.ensures.fit;
-      whole = subst IsWhole (sym (c.in_ok-undo.ensures.back ∙ c.find_moved-found.ensures.same)) c.self.invariant.0;
-      before = subst (λ d. IsCurrent d (option_map (λ (v : Vec KeptTable Global). v.items) c.replace-before.result) × (false ≡ false → ReadsSameAfter next d c.follow_moved.new.moved.stale.items)) (sym (c.in_ok-undo.ensures.back ∙ c.find_moved-found.ensures.same)) (
-        subst (λ (o : Option (Vec KeptTable Global)). IsCurrent s (option_map (λ (v : Vec KeptTable Global). v.items) o)) (sym c.replace-before.ensures.value) c.self.invariant.1,
-        λ _. subst (ReadsSameAfter next s) (sym c.follow_moved.ensures.left) (reads_before s next a t c.args.rows.now x ok c.requires.table (c.in_ok-undo.ensures.done ∙ ap (λ d. apply d c.args.action.now) c.find_moved-found.ensures.same) c.reads_back_law.ensures c.find_moved-found.new.reads.graph c.requires.rows c.in-Ok.ensures.found),
-      );
-    }
 
 pub invariant_of-self : goal.invariant_of-self
 invariant_of-self g c =
@@ -123,10 +70,41 @@ invariant_of-self-in_err-undo g c =
     subst (λ d. IsWhole d × IsCurrent d (option_map (λ (v : Vec KeptTable Global). v.items) c.self.inside.kept) × KnowsOthers d c.find_moved-found.new.reads × AreIndexes (sheet_of d) c.take_indexes-indexes.new.indexes.items) (sym (c.in_err-undo.ensures.err ∙ c.find_moved-found.ensures.same))
     (c.self.invariant.0, c.self.invariant.1, c.find_moved-found.ensures.others, c.take_indexes-indexes.ensures.left (sheet_of (g.D.DocReader.document c.self.inside.tables)))
 
-pub invariant_of-self-in_default-follow_moved : goal.invariant_of-self-in_default-follow_moved
-invariant_of-self-in_default-follow_moved g c =
-    subst (λ d. IsWhole d × IsCurrent d (option_map (λ (v : Vec KeptTable Global). v.items) c.self.inside.kept) × KnowsOthers d c.find_moved-found.new.reads × AreIndexes (sheet_of d) c.take_indexes-indexes.new.indexes.items) (sym (c.take_back.ensures ∙ c.in_ok-undo.ensures.back ∙ c.find_moved-found.ensures.same))
-    (c.self.invariant.0, c.self.invariant.1, c.find_moved-found.ensures.others, c.take_indexes-indexes.ensures.left (sheet_of (g.D.DocReader.document c.self.inside.tables)))
+pub refresh_moved-done-requires-clause-moving : goal.refresh_moved-done-requires-clause-moving
+refresh_moved-done-requires-clause-moving g c =
+    let s = g.D.DocReader.document c.self.inside.tables in
+    let next = g.D.DocReader.document c.put.new.self in
+    let a = c.args.action.now in
+    let ok : valid s a ≡ true = subst (λ d. valid (g.D.DocReader.document d) a ≡ true) (sym c.self.view_is) c.requires.valid in
+    let done : next ≡ apply s a = c.in_ok-undo.ensures.done ∙ ap (λ d. apply d a) c.find_moved-found.ensures.same in
+    let before : IsEvaluated s c.in-Some-kept.kept.items = rw c.in-Some-kept.is at c.self.invariant.1 in
+    let moving : IsMoving s next c.args.table.now c.args.rows.now c.in-Some-kept.kept.items c.find_moved-found.new.reads c.in-Ok.moved = record {
+      moved = record { whole = c.self.invariant.0; action = a; moved = c.requires.table; ok = ok; done = done };
+      these = c.requires.rows;
+      found = c.in-Ok.ensures.found;
+      right = before;
+      others = c.find_moved-found.ensures.others;
+    } in
+    (s, moving)
+
+pub invariant_of-self-in_default-done : goal.invariant_of-self-in_default-done
+invariant_of-self-in_default-done g c =
+    let s = g.D.DocReader.document c.self.inside.tables in
+    let next = g.D.DocReader.document c.put.new.self in
+    let a = c.args.action.now in
+    let ok : valid s a ≡ true = subst (λ d. valid (g.D.DocReader.document d) a ≡ true) (sym c.self.view_is) c.requires.valid in
+    let done : next ≡ apply s a = c.in_ok-undo.ensures.done ∙ ap (λ d. apply d a) c.find_moved-found.ensures.same in
+    let before : IsEvaluated s c.in-Some-kept.kept.items = rw c.in-Some-kept.is at c.self.invariant.1 in
+    let moving : IsMoving s next c.args.table.now c.args.rows.now c.in-Some-kept.kept.items c.find_moved-found.new.reads c.in-Ok.moved = record {
+      moved = record { whole = c.self.invariant.0; action = a; moved = c.requires.table; ok = ok; done = done };
+      these = c.requires.rows;
+      found = c.in-Ok.ensures.found;
+      right = before;
+      others = c.find_moved-found.ensures.others;
+    } in
+    let left = c.in_default-done.ensures.err s moving in
+    subst (λ d. IsWhole d × IsEvaluated d c.refresh_moved-done.new.kept.items × KnowsOthers d c.refresh_moved-done.new.reads × AreIndexes (sheet_of d) c.take_indexes-indexes.new.indexes.items) (sym (c.take_back.ensures ∙ c.in_ok-undo.ensures.back ∙ c.find_moved-found.ensures.same))
+    (c.self.invariant.0, left.0, left.1, c.take_indexes-indexes.ensures.left (sheet_of s))
 
 pub invariant_of-self-3 : goal.invariant_of-self-3
 invariant_of-self-3 g c =
@@ -135,7 +113,28 @@ invariant_of-self-3 g c =
     let a = c.args.action.now in
     let ok : valid s a ≡ true = subst (λ d. valid (g.D.DocReader.document d) a ≡ true) (sym c.self.view_is) c.requires.valid in (
       subst IsWhole (sym (c.in_ok-undo.ensures.done ∙ ap (λ d. apply d c.args.action.now) c.find_moved-found.ensures.same)) (c.kept_law.ensures s a c.self.invariant.0 ok),
-      subst (λ (o : Option (Vec KeptTable Global)). IsCurrent next (option_map (λ (v : Vec KeptTable Global). v.items) o)) (sym c.replace-before.ensures.after) c.in-Ok-refresh_rest.ensures.ok,
-      c.in-Ok-refresh_rest.ensures.reads,
-      c.in-Ok-refresh_rest.ensures.indexed,
+      c.in-Ok-done.ensures.ok,
+      c.in-Ok-done.ensures.reads,
+      c.in-Ok-done.ensures.indexed,
     )
+
+pub returns-clause-way : goal.returns-clause-way
+returns-clause-way g c =
+    let s = g.D.DocReader.document c.self.inside.tables in
+    let next = g.D.DocReader.document c.put.new.self in
+    let a = c.args.action.now in
+    let ok : valid s a ≡ true = subst (λ d. valid (g.D.DocReader.document d) a ≡ true) (sym c.self.view_is) c.requires.valid in
+    let done : next ≡ apply s a = c.in_ok-undo.ensures.done ∙ ap (λ d. apply d a) c.find_moved-found.ensures.same in
+    let before : IsEvaluated s c.in-Some-kept.kept.items = rw c.in-Some-kept.is at c.self.invariant.1 in
+    let moving : IsMoving s next c.args.table.now c.args.rows.now c.in-Some-kept.kept.items c.find_moved-found.new.reads c.in-Ok.moved = record {
+      moved = record { whole = c.self.invariant.0; action = a; moved = c.requires.table; ok = ok; done = done };
+      these = c.requires.rows;
+      found = c.in-Ok.ensures.found;
+      right = before;
+      others = c.find_moved-found.ensures.others;
+    } in
+    record {
+      fit = c.in_ok-undo.ensures.fit;
+      whole = subst IsWhole (sym (c.in_ok-undo.ensures.back ∙ c.find_moved-found.ensures.same)) c.self.invariant.0;
+      before = subst (λ d. HasBefore d next c.in-Ok-done.before) (sym (c.in_ok-undo.ensures.back ∙ c.find_moved-found.ensures.same)) (c.in-Ok-done.ensures.way s moving);
+    }

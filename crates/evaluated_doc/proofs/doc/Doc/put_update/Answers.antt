@@ -16,59 +16,59 @@ use Rattle.evaluated_doc.specs.Update.{LeadsFrom}
 use Rattle.evaluated_doc.proofs.UpdateLemmas.{known_but, leads, none_known, lost_narrow, of_records, places, restored, right}
 use Rattle.evaluated_doc.proofs.doc.Doc.put_update.Goals as goal
 
-pub refresh_recording-requires-clause-of_document : goal.refresh_recording-requires-clause-of_document
-refresh_recording-requires-clause-of_document g c =
+pub refresh_recording-done-requires-clause-of_document : goal.refresh_recording-done-requires-clause-of_document
+refresh_recording-done-requires-clause-of_document g c =
     let s = g.D.DocReader.document c.self.inside.tables in
     let a = c.args.action.now in
     let ok : valid s a ≡ true = subst (λ d. valid (g.D.DocReader.document d) a ≡ true) (sym c.self.view_is) c.requires.valid in
     let before : IsEvaluated s c.in-Some-kept.kept.items = rw c.in-Some-kept.is at c.self.invariant.1 in
-    (places s (g.D.DocReader.document c.put.new.self) a ok c.requires.update (c.in_ok-undo.ensures.done ∙ ap (λ d. apply d c.args.action.now) c.find_affected.ensures.same) c.in-Some-kept.kept.items).of_document before.of_document
+    (places s (g.D.DocReader.document c.put.new.self) a ok c.requires.update (c.in_ok-undo.ensures.done ∙ ap (λ d. apply d c.args.action.now) c.find_affected-found.ensures.same) c.in-Some-kept.kept.items).of_document before.of_document
 
-pub refresh_recording-requires-clause-others : goal.refresh_recording-requires-clause-others
-refresh_recording-requires-clause-others g c =
+pub refresh_recording-done-requires-clause-others : goal.refresh_recording-done-requires-clause-others
+refresh_recording-done-requires-clause-others g c =
     let s = g.D.DocReader.document c.self.inside.tables in
     let a = c.args.action.now in
     let ok : valid s a ≡ true = subst (λ d. valid (g.D.DocReader.document d) a ≡ true) (sym c.self.view_is) c.requires.valid in
     let before : IsEvaluated s c.in-Some-kept.kept.items = rw c.in-Some-kept.is at c.self.invariant.1 in
-    right s (g.D.DocReader.document c.put.new.self) a ok c.requires.update (c.in_ok-undo.ensures.done ∙ ap (λ d. apply d c.args.action.now) c.find_affected.ensures.same) c.find_affected.new.reads.graph c.in-Ok.affected.cells.items c.in-Some-kept.kept.items
+    right s (g.D.DocReader.document c.put.new.self) a ok c.requires.update (c.in_ok-undo.ensures.done ∙ ap (λ d. apply d c.args.action.now) c.find_affected-found.ensures.same) c.find_affected-found.new.reads.graph c.in-Ok.affected.cells.items c.in-Some-kept.kept.items
     c.in-Ok.ensures.found.cells before
 
 pub enter_indexes-indexes-requires : goal.enter_indexes-indexes-requires
 enter_indexes-indexes-requires g c = record {
   before = g.D.DocReader.document c.self.inside.tables;
   ok = subst (λ d. valid (g.D.DocReader.document d) c.args.action.now ≡ true) (sym c.self.view_is) c.requires.valid;
-  done = (c.in_ok-undo.ensures.done ∙ ap (λ d. apply d c.args.action.now) c.find_affected.ensures.same);
+  done = (c.in_ok-undo.ensures.done ∙ ap (λ d. apply d c.args.action.now) c.find_affected-found.ensures.same);
   left = c.in-Ok.ensures.left;
 }
 
-pub find_affected-requires-clause-valid : goal.find_affected-requires-clause-valid
-find_affected-requires-clause-valid g c = subst (λ d. valid (g.D.DocReader.document d) c.args.action.now ≡ true) (sym c.self.view_is) c.requires.valid
+pub find_affected-found-requires-clause-valid : goal.find_affected-found-requires-clause-valid
+find_affected-found-requires-clause-valid g c = subst (λ d. valid (g.D.DocReader.document d) c.args.action.now ≡ true) (sym c.self.view_is) c.requires.valid
 
-pub find_affected-requires-clause-indexed : goal.find_affected-requires-clause-indexed
-find_affected-requires-clause-indexed g c = c.take_indexes-indexes.ensures.taken (sheet_of (g.D.DocReader.document c.self.inside.tables)) c.self.invariant.3
+pub find_affected-found-requires-clause-indexed : goal.find_affected-found-requires-clause-indexed
+find_affected-found-requires-clause-indexed g c = c.take_indexes-indexes.ensures.taken (sheet_of (g.D.DocReader.document c.self.inside.tables)) c.self.invariant.3
 
-pub invariant_of-self-in_default-refresh_recording : goal.invariant_of-self-in_default-refresh_recording
-invariant_of-self-in_default-refresh_recording g c =
+pub invariant_of-self-in_default-done : goal.invariant_of-self-in_default-done
+invariant_of-self-in_default-done g c =
     let s = g.D.DocReader.document c.self.inside.tables in
     let a = c.args.action.now in
     let ok : valid s a ≡ true = subst (λ d. valid (g.D.DocReader.document d) a ≡ true) (sym c.self.view_is) c.requires.valid in
     let before : IsEvaluated s c.in-Some-kept.kept.items = rw c.in-Some-kept.is at c.self.invariant.1 in
-    let new = c.refresh_recording.new.kept.items in
-    let reads = c.refresh_recording.new.reads in
-    subst (λ d. IsWhole d × IsEvaluated d new × KnowsOthers d reads × AreIndexes (sheet_of d) c.take_indexes-indexes.new.indexes.items) (sym (c.take_back.ensures ∙ c.in_ok-undo.ensures.back ∙ c.find_affected.ensures.same)) (
+    let new = c.refresh_recording-done.new.kept.items in
+    let reads = c.refresh_recording-done.new.reads in
+    subst (λ d. IsWhole d × IsEvaluated d new × KnowsOthers d reads × AreIndexes (sheet_of d) c.take_indexes-indexes.new.indexes.items) (sym (c.take_back.ensures ∙ c.in_ok-undo.ensures.back ∙ c.find_affected-found.ensures.same)) (
       c.self.invariant.0,
-      restored s (g.D.DocReader.document c.put.new.self) a ok c.requires.update (c.in_ok-undo.ensures.done ∙ ap (λ d. apply d c.args.action.now) c.find_affected.ensures.same) new c.in-Some-kept.kept.items before c.in_default-refresh_recording.ensures.of_document c.in_default-refresh_recording.ensures.err,
-      none_known s reads c.in_default-refresh_recording.ensures.stale,
+      restored s (g.D.DocReader.document c.put.new.self) a ok c.requires.update (c.in_ok-undo.ensures.done ∙ ap (λ d. apply d c.args.action.now) c.find_affected-found.ensures.same) new c.in-Some-kept.kept.items before c.in_default-done.ensures.of_document c.in_default-done.ensures.err,
+      none_known s reads c.in_default-done.ensures.stale,
       c.take_indexes-indexes.ensures.left (sheet_of s),
     )
 
-pub refresh_recording-requires-clause-reads : goal.refresh_recording-requires-clause-reads
-refresh_recording-requires-clause-reads g c =
+pub refresh_recording-done-requires-clause-reads : goal.refresh_recording-done-requires-clause-reads
+refresh_recording-done-requires-clause-reads g c =
     let s = g.D.DocReader.document c.self.inside.tables in
     let a = c.args.action.now in
     let ok : valid s a ≡ true = subst (λ d. valid (g.D.DocReader.document d) a ≡ true) (sym c.self.view_is) c.requires.valid in
-    known_but s (g.D.DocReader.document c.put.new.self) a ok c.requires.update (c.in_ok-undo.ensures.done ∙ ap (λ d. apply d c.args.action.now) c.find_affected.ensures.same) c.find_affected.new.reads c.in-Ok.affected.cells.items
-    c.in-Ok.ensures.found.cells c.find_affected.ensures.others
+    known_but s (g.D.DocReader.document c.put.new.self) a ok c.requires.update (c.in_ok-undo.ensures.done ∙ ap (λ d. apply d c.args.action.now) c.find_affected-found.ensures.same) c.find_affected-found.new.reads c.in-Ok.affected.cells.items
+    c.in-Ok.ensures.found.cells c.find_affected-found.ensures.others
 
 pub invariant_of-self-3 : goal.invariant_of-self-3
 invariant_of-self-3 g c =
@@ -76,10 +76,10 @@ invariant_of-self-3 g c =
     let next = g.D.DocReader.document c.put.new.self in
     let a = c.args.action.now in
     let ok : valid s a ≡ true = subst (λ d. valid (g.D.DocReader.document d) a ≡ true) (sym c.self.view_is) c.requires.valid in (
-      subst IsWhole (sym (c.in_ok-undo.ensures.done ∙ ap (λ d. apply d c.args.action.now) c.find_affected.ensures.same)) (c.kept_law.ensures s a c.self.invariant.0 ok),
-      c.in-Ok-refresh_recording.ensures.ok,
-      c.in-Ok-refresh_recording.ensures.reads,
-      c.in-Ok-refresh_recording.ensures.indexed,
+      subst IsWhole (sym (c.in_ok-undo.ensures.done ∙ ap (λ d. apply d c.args.action.now) c.find_affected-found.ensures.same)) (c.kept_law.ensures s a c.self.invariant.0 ok),
+      c.in-Ok-done.ensures.ok,
+      c.in-Ok-done.ensures.reads,
+      c.in-Ok-done.ensures.indexed,
     )
 
 pub returns-clause-cells : goal.returns-clause-cells
@@ -88,12 +88,12 @@ returns-clause-cells g c =
     let next = g.D.DocReader.document c.put.new.self in
     let a = c.args.action.now in
     let ok : valid s a ≡ true = subst (λ d. valid (g.D.DocReader.document d) a ≡ true) (sym c.self.view_is) c.requires.valid in
-    let graph = c.find_affected.new.reads.graph in
+    let graph = c.find_affected-found.new.reads.graph in
     let found = c.in-Ok.affected.found in
     subst (λ d. c.keep_lost.new.cells.items ≡ lost (g.D.DocReader.document d) next a) c.self.view_is
-    (c.keep_lost.ensures ∙ ap (filter (is_lost (filled next) a)) (c.in_ok-cells.ensures ∙ ap (λ gr. filter (is_narrow gr found (filled (g.D.DocReader.document c.find_affected.new.tables)) a) (all_cells (filled (g.D.DocReader.document c.find_affected.new.tables)))) c.graph.ensures
-    ∙ ap (λ d. filter (is_narrow graph found (filled d) a) (all_cells (filled d))) c.find_affected.ensures.same)
-    ∙ lost_narrow c.narrow_law.ensures s next a ok (of_records a c.requires.update) (c.in_ok-undo.ensures.done ∙ ap (λ d. apply d c.args.action.now) c.find_affected.ensures.same) graph found c.self.invariant.0 c.in-Ok.ensures.found.found)
+    (c.keep_lost.ensures ∙ ap (filter (is_lost (filled next) a)) (c.in_ok-cells.ensures ∙ ap (λ gr. filter (is_narrow gr found (filled (g.D.DocReader.document c.find_affected-found.new.tables)) a) (all_cells (filled (g.D.DocReader.document c.find_affected-found.new.tables)))) c.graph.ensures
+    ∙ ap (λ d. filter (is_narrow graph found (filled d) a) (all_cells (filled d))) c.find_affected-found.ensures.same)
+    ∙ lost_narrow c.narrow_law.ensures s next a ok (of_records a c.requires.update) (c.in_ok-undo.ensures.done ∙ ap (λ d. apply d c.args.action.now) c.find_affected-found.ensures.same) graph found c.self.invariant.0 c.in-Ok.ensures.found.found)
 
 pub returns-clause-way : goal.returns-clause-way
 returns-clause-way g c =
@@ -104,33 +104,33 @@ returns-clause-way g c =
     let before : IsEvaluated s c.in-Some-kept.kept.items = rw c.in-Some-kept.is at c.self.invariant.1 in
     record {
       fit = c.in_ok-undo.ensures.fit;
-      whole = subst IsWhole (sym (c.in_ok-undo.ensures.back ∙ c.find_affected.ensures.same)) c.self.invariant.0;
-      before = subst (λ d. LeadsFrom d next c.in-Ok-refresh_recording.taken.items c.in-Ok.affected.stale.items) (sym (c.in_ok-undo.ensures.back ∙ c.find_affected.ensures.same))
-          (leads s next a ok c.requires.update (c.in_ok-undo.ensures.done ∙ ap (λ d. apply d c.args.action.now) c.find_affected.ensures.same) c.leads_over_law.ensures c.find_affected.new.reads.graph c.in-Ok.affected.stale.items c.in-Ok-refresh_recording.taken.items c.refresh_recording.new.kept.items c.in-Some-kept.kept.items
-          c.in-Ok.ensures.found.stale before c.in-Ok-refresh_recording.ensures.ok c.in-Ok-refresh_recording.ensures.way);
+      whole = subst IsWhole (sym (c.in_ok-undo.ensures.back ∙ c.find_affected-found.ensures.same)) c.self.invariant.0;
+      before = subst (λ d. LeadsFrom d next c.in-Ok-done.taken.items c.in-Ok.affected.stale.items) (sym (c.in_ok-undo.ensures.back ∙ c.find_affected-found.ensures.same))
+          (leads s next a ok c.requires.update (c.in_ok-undo.ensures.done ∙ ap (λ d. apply d c.args.action.now) c.find_affected-found.ensures.same) c.leads_over_law.ensures c.find_affected-found.new.reads.graph c.in-Ok.affected.stale.items c.in-Ok-done.taken.items c.refresh_recording-done.new.kept.items c.in-Some-kept.kept.items
+          c.in-Ok.ensures.found.stale before c.in-Ok-done.ensures.ok c.in-Ok-done.ensures.way);
     }
 
 pub invariant_of-self : goal.invariant_of-self
 invariant_of-self g c =
-    subst (λ d. IsWhole d × IsCurrent d (option_map (λ (v : Vec KeptTable Global). v.items) c.self.inside.kept) × KnowsOthers d c.find_affected.new.reads × AreIndexes (sheet_of d) c.take_indexes-indexes.new.indexes.items) (sym c.find_affected.ensures.same)
-    (c.self.invariant.0, c.self.invariant.1, c.find_affected.ensures.others, c.take_indexes-indexes.ensures.left (sheet_of (g.D.DocReader.document c.self.inside.tables)))
+    subst (λ d. IsWhole d × IsCurrent d (option_map (λ (v : Vec KeptTable Global). v.items) c.self.inside.kept) × KnowsOthers d c.find_affected-found.new.reads × AreIndexes (sheet_of d) c.take_indexes-indexes.new.indexes.items) (sym c.find_affected-found.ensures.same)
+    (c.self.invariant.0, c.self.invariant.1, c.find_affected-found.ensures.others, c.take_indexes-indexes.ensures.left (sheet_of (g.D.DocReader.document c.self.inside.tables)))
 
 pub invariant_of-self-in-Err-NoMemory : goal.invariant_of-self-in-Err-NoMemory
 invariant_of-self-in-Err-NoMemory g c =
-    subst (λ d. IsWhole d × IsCurrent d (option_map (λ (v : Vec KeptTable Global). v.items) c.self.inside.kept) × KnowsOthers d c.find_affected.new.reads × AreIndexes (sheet_of d) c.take_indexes-indexes.new.indexes.items) (sym c.find_affected.ensures.same)
-    (c.self.invariant.0, c.self.invariant.1, c.find_affected.ensures.others, c.take_indexes-indexes.ensures.left (sheet_of (g.D.DocReader.document c.self.inside.tables)))
+    subst (λ d. IsWhole d × IsCurrent d (option_map (λ (v : Vec KeptTable Global). v.items) c.self.inside.kept) × KnowsOthers d c.find_affected-found.new.reads × AreIndexes (sheet_of d) c.take_indexes-indexes.new.indexes.items) (sym c.find_affected-found.ensures.same)
+    (c.self.invariant.0, c.self.invariant.1, c.find_affected-found.ensures.others, c.take_indexes-indexes.ensures.left (sheet_of (g.D.DocReader.document c.self.inside.tables)))
 
 pub invariant_of-self-2 : goal.invariant_of-self-2
 invariant_of-self-2 g c =
-    subst (λ d. IsWhole d × IsCurrent d (option_map (λ (v : Vec KeptTable Global). v.items) c.self.inside.kept) × KnowsOthers d c.find_affected.new.reads × AreIndexes (sheet_of d) c.take_indexes-indexes.new.indexes.items) (sym c.find_affected.ensures.same)
-    (c.self.invariant.0, c.self.invariant.1, c.find_affected.ensures.others, c.take_indexes-indexes.ensures.left (sheet_of (g.D.DocReader.document c.self.inside.tables)))
+    subst (λ d. IsWhole d × IsCurrent d (option_map (λ (v : Vec KeptTable Global). v.items) c.self.inside.kept) × KnowsOthers d c.find_affected-found.new.reads × AreIndexes (sheet_of d) c.take_indexes-indexes.new.indexes.items) (sym c.find_affected-found.ensures.same)
+    (c.self.invariant.0, c.self.invariant.1, c.find_affected-found.ensures.others, c.take_indexes-indexes.ensures.left (sheet_of (g.D.DocReader.document c.self.inside.tables)))
 
 pub invariant_of-self-in_err-cells : goal.invariant_of-self-in_err-cells
 invariant_of-self-in_err-cells g c =
-    subst (λ d. IsWhole d × IsCurrent d (option_map (λ (v : Vec KeptTable Global). v.items) c.self.inside.kept) × KnowsOthers d c.find_affected.new.reads × AreIndexes (sheet_of d) c.take_indexes-indexes.new.indexes.items) (sym c.find_affected.ensures.same)
-    (c.self.invariant.0, c.self.invariant.1, c.find_affected.ensures.others, c.take_indexes-indexes.ensures.left (sheet_of (g.D.DocReader.document c.self.inside.tables)))
+    subst (λ d. IsWhole d × IsCurrent d (option_map (λ (v : Vec KeptTable Global). v.items) c.self.inside.kept) × KnowsOthers d c.find_affected-found.new.reads × AreIndexes (sheet_of d) c.take_indexes-indexes.new.indexes.items) (sym c.find_affected-found.ensures.same)
+    (c.self.invariant.0, c.self.invariant.1, c.find_affected-found.ensures.others, c.take_indexes-indexes.ensures.left (sheet_of (g.D.DocReader.document c.self.inside.tables)))
 
 pub invariant_of-self-in_err-undo : goal.invariant_of-self-in_err-undo
 invariant_of-self-in_err-undo g c =
-    subst (λ d. IsWhole d × IsCurrent d (option_map (λ (v : Vec KeptTable Global). v.items) c.self.inside.kept) × KnowsOthers d c.find_affected.new.reads × AreIndexes (sheet_of d) c.take_indexes-indexes.new.indexes.items) (sym (c.in_err-undo.ensures.err ∙ c.find_affected.ensures.same))
-    (c.self.invariant.0, c.self.invariant.1, c.find_affected.ensures.others, c.take_indexes-indexes.ensures.left (sheet_of (g.D.DocReader.document c.self.inside.tables)))
+    subst (λ d. IsWhole d × IsCurrent d (option_map (λ (v : Vec KeptTable Global). v.items) c.self.inside.kept) × KnowsOthers d c.find_affected-found.new.reads × AreIndexes (sheet_of d) c.take_indexes-indexes.new.indexes.items) (sym (c.in_err-undo.ensures.err ∙ c.find_affected-found.ensures.same))
+    (c.self.invariant.0, c.self.invariant.1, c.find_affected-found.ensures.others, c.take_indexes-indexes.ensures.left (sheet_of (g.D.DocReader.document c.self.inside.tables)))

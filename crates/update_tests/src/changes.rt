@@ -30,7 +30,8 @@ static FORMULAS: [&str; 12] = [
 // The formula columns.
 static COLUMNS: [&str; 9] = ["F1", "F2", "F3", "F4", "F5", "F6", "F7", "F8", "F9"];
 
-fn name(alloc: Global, id: &str) -> Result<Name, AllocError> {
+/// A name.
+pub(crate) fn name(alloc: Global, id: &str) -> Result<Name, AllocError> {
     Name::try_new(CellText::copy_of(alloc, id)?).ok_or(AllocError)
 }
 
@@ -150,7 +151,8 @@ fn formula_info(alloc: Global, formula: &str) -> Result<ColInfo, AllocError> {
     })
 }
 
-fn modify(alloc: Global, column: &str, formula: &str) -> Result<DocAction, AllocError> {
+/// Gives a column a formula.
+pub(crate) fn modify(alloc: Global, column: &str, formula: &str) -> Result<DocAction, AllocError> {
     let info = formula_info(alloc, formula)?;
     let column = name(alloc, column)?;
     let table = name(alloc, TABLE)?;

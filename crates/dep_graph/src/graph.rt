@@ -140,6 +140,15 @@ impl DepGraph {
         self.readers.rows(read, column)
     }
 
+    /// The reads of a cell, in the order in which its run noted them.
+    ///
+    /// Memory: none.
+    pub fn reads_of(&self, cell: CellNumber) -> &[ReadNumber]
+        ensures { result.now ≡ reads_under self.now.reads cell }
+    {
+        recorded(&self.reads, cell)
+    }
+
     /// How many reads are recorded of a cell: none of one that has no number.
     ///
     /// Memory: none.

@@ -5,13 +5,13 @@
 //! what stands on that, for updates that evaluate only what they affect.
 //!
 //! Promises: after `DepGraph::set` a cell reads exactly what the notes of its run say, and each
-//! other cell what it read; on an error no cell reads anything else. `rows_of` tells exactly the
-//! cells of a column that read something, and `columns_of` each column that has such a cell. A
-//! lookup reads, beside its key columns, the value that it looks up in each of them, by bucket: so
-//! its readers are found by the values that were looked up. Without a key it reads all rows of its
-//! table, as what takes them all does. Names have numbers inside; a number is never given again,
-//! and its name is found by it (`number_law`), which has no other number. Asking and forgetting
-//! take no memory.
+//! other cell what it read; on an error no cell reads anything else. `reads_of` tells what a cell
+//! reads, `rows_of` exactly the cells of a column that read something, and `columns_of` each column
+//! that has such a cell. A lookup reads, beside its key columns, the value that it looks up in each
+//! of them, by bucket: so its readers are found by the values that were looked up. Without a key it
+//! reads all rows of its table, as what takes them all does. Names have numbers inside; a number is
+//! never given again, and its name is found by it (`number_law`), which has no other number. Asking
+//! and forgetting take no memory.
 //! Not promised: that a column told by `columns_of` still has such a cell; that few values share a
 //! bucket; anything of what a cell does that was not set.
 //! Read first: specs/Sources.antt and specs/Graph.antt, then graph.rt, records.rt and readers.rt.

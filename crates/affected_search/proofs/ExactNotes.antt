@@ -1,6 +1,6 @@
 -- A graph that has what cells note, and no more.
-use Rattle.std.proofs.Common.{ℕ, Bool, true, false, cond, ◌||◌, List, [], ◌∷◌, ◌++◌, map, ◌≡◌, inl, inr, refl, sym, ap, ◌∙◌, subst, Option, Some, None}
-use Rattle.std.proofs.lemmas.Bool.{false≢true, true≢false, or_cases, or_left, or_right}
+use Rattle.std.proofs.Common.{ℕ, Bool, true, false, cond, List, [], ◌∷◌, ◌++◌, map, ◌≡◌, inl, inr, refl, sym, ap, ◌∙◌, subst, Option, Some, None}
+use Rattle.std.proofs.lemmas.Bool.{false≢true, or_cases, or_left, or_right}
 use Rattle.std.specs.List.{AllByRecursion, list_any}
 use Rattle.std.specs.Option.{is_some, option_map}
 use Rattle.cell_types.specs.declared.cell.CellId.{CellId}
@@ -8,8 +8,6 @@ use Rattle.cell_types.specs.declared.cell.KeyItem.{KeyItem}
 use Rattle.cell_types.specs.declared.cell.Read.{Read}
 use Rattle.cell_types.specs.declared.cell.Read.TheVariants.{Cell, Key, Rows}
 use Rattle.formula_eval.specs.declared.note.Note.{Note}
-use Rattle.formula_eval.specs.declared.note.Note.TheVariants as note
-use Rattle.formula_eval.specs.Run.{reads_of}
 use Rattle.formula_eval.proofs.TextLaws.{text_notes}
 use Rattle.lookup_index.specs.Buckets.{bucket_of}
 use Rattle.recalc.specs.Sheet.{Sheet, over, reads, reads_by, row_of}
@@ -21,15 +19,15 @@ use Rattle.dep_graph.specs.declared.numbers.CellNumber.{CellNumber}
 use Rattle.dep_graph.specs.declared.numbers.ColumnNumber.{ColumnNumber}
 use Rattle.dep_graph.specs.declared.numbers.ReadNumber.{ReadNumber}
 use Rattle.dep_graph.specs.declared.numbers.ReadNumber.TheVariants as read
-use Rattle.dep_graph.specs.Graph.{Graph, IsDropped, IsKept, IsSet}
+use Rattle.dep_graph.specs.Graph.{Graph, IsDropped, IsSet}
 use Rattle.dep_graph.specs.Names.{IsGrown, number_in}
 use Rattle.dep_graph.specs.NumberLaws.{cell_itself, read_itself, same_cell, same_read}
 use Rattle.dep_graph.specs.Numbers.{is_cell, is_read}
 use Rattle.dep_graph.specs.Records.{holds, reads_under}
 use Rattle.dep_graph.specs.Sources.{AreNumbers, Source, all_source, cell_in, column_in, part_source, read_source, source_in, source_of_key, sources, sources_of, sources_of_keys, value_source}
-use Rattle.affected_search.specs.ExactNotes.{DroppedExactLaw, ExactLaw, HasNotes, HasNotesOf, IsDroppedOf, KeepsExact, KeptExactLaw, NoneExactLaw}
+use Rattle.affected_search.specs.ExactNotes.{DroppedExactLaw, ExactLaw, HasNotes, HasNotesOf, KeepsExact, KeptExactLaw, NoneExactLaw}
 use Rattle.affected_search.specs.Listed.{HoldsNoMore, read_beside}
-use Rattle.affected_search.specs.Noted.{HoldsNotes, HoldsNotesOf, IsHeldSource}
+use Rattle.affected_search.specs.Noted.{HoldsNotesOf}
 use Rattle.affected_search.specs.Sheets.{has_number}
 use Rattle.affected_search.proofs.NumbersHeld.{numbers_held}
 use Rattle.affected_search.proofs.CellNumbers.{mapped}

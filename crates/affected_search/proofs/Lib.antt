@@ -1,5 +1,7 @@
 pub mod ActionLaws
+pub mod ActionSearch
 pub mod ColumnLaws
+pub mod DescribedTables
 pub mod ExactNotes
 pub mod FoundLaws
 pub mod ListedTouched
@@ -16,5 +18,7 @@ pub mod RowValueLaws
 pub mod SearchLaws
 pub mod SheetLaws
 pub mod CellNumbers
+pub mod TouchTests
+pub mod TouchedWalk
 pub mod UpkeepLaws
 pub mod WithinLaws

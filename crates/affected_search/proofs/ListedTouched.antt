@@ -27,7 +27,7 @@ use Rattle.lookup_index.specs.Buckets.{bucket_of, part_buckets}
 use Rattle.recalc.specs.Evaluated.{sheet_of}
 use Rattle.recalc.specs.Indexes.{is_error}
 use Rattle.recalc.specs.MayLose.{is_record}
-use Rattle.recalc.specs.Sheet.{Sheet, Values, evaluated, reads, reads_by}
+use Rattle.recalc.specs.Sheet.{Sheet, evaluated, reads, reads_by}
 use Rattle.affected_cells.specs.Touched.{cells_written, is_touched, rows_come_or_go, touched_by}
 use Rattle.affected_cells.proofs.Tests.{all_weaker, found_once}
 use Rattle.dep_graph.proofs.NameLaws.{number_there}
@@ -93,7 +93,7 @@ module _ (names : List (List ℕ)) where
 
   module _ (touched : Read → Bool) where
     -- what has the number is touched
-    abbrev OnTouched : ReadNumber → Type 0
+    abbrev pub OnTouched : ReadNumber → Type 0
     OnTouched n = (q : Read) → has_number names n q ≡ true → touched q ≡ true
 
     on_cell : (d : CellNumber) → ((e : CellId) → cell_in names e ≡ Some d → touched (Cell e) ≡ true) → OnTouched (read.Cell d)
@@ -112,7 +112,7 @@ module _ (names : List (List ℕ)) where
     on_rows i h (Rows u) there = let w = numbered read.Rows (read.Rows i) (number_in names u) there in h u (w.1 ∙ ap (λ j. Some j) (eqb-true w.0 i w.2))
 
     -- so it is of what is read beside the number
-    abbrev IsBeside : ReadNumber → Type 0
+    abbrev pub IsBeside : ReadNumber → Type 0
     IsBeside n = OnTouched (read_beside n)
 
 -- ---- values of a column
@@ -252,14 +252,14 @@ module _ (graph : Graph) (s : Sheet) (exact : HoldsNoMore graph s) where
       by None h = absurd (false≢true h)
       by (Some f) h = refl
 
-  only_reads : HoldsOnlyReads graph s
+  pub only_reads : HoldsOnlyReads graph s
   only_reads = record {
     formula = λ c k n is h. has_formula (has_number graph.names (read_beside n)) c (exact c k n is h);
     cell = λ c k d is h. exact c k (read.Cell d) is h;
     key = λ c k j is h. exact c k (read.Key j) is h;
   }
 
-  only_touched : (touched : Read → Bool) (numbers : List ReadNumber) → AllByRecursion (IsBeside graph.names touched) numbers → ListsOnlyTouched graph s touched numbers
+  pub only_touched : (touched : Read → Bool) (numbers : List ReadNumber) → AllByRecursion (IsBeside graph.names touched) numbers → ListsOnlyTouched graph s touched numbers
   only_touched touched numbers all c k is h =
       let w = one_of (holds (reads_under graph.reads k)) numbers h in
       any_weaker (has_number graph.names (read_beside w.0)) touched (held_each (IsBeside graph.names touched) numbers all w.0 w.1) (reads s c) (exact c k w.0 is w.2)

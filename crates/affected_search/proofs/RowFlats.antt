@@ -2,7 +2,7 @@
 use Rattle.std.proofs.Common.{ℕ, zero, suc, ◌<◌, List, [], ◌∷◌, ◌++◌, drop, length, get_or, slice_get, ◌≡◌, refl, sym, ap, ◌∙◌, Some, None, arith}
 use Rattle.std.proofs.lemmas.List.{append_assoc, append-nil}
 
-drop_there : {X : Type 0} (xs : List X) (i : ℕ) (x : X) → slice_get xs i ≡ Some x → drop i xs ≡ x ∷ drop (suc i) xs
+pub drop_there : {X : Type 0} (xs : List X) (i : ℕ) (x : X) → slice_get xs i ≡ Some x → drop i xs ≡ x ∷ drop (suc i) xs
 drop_there [] i x h = absurd (cc)
 drop_there (y ∷ ys) zero x h = let same : y ≡ x = cc in ap (λ z. z ∷ ys) same
 drop_there (y ∷ ys) (suc i) x h = drop_there ys i x h
@@ -12,7 +12,7 @@ drop_got [] i x l h = absurd (omega arith)
 drop_got (y ∷ ys) zero x l h = ap (λ z. z ∷ ys) (sym h)
 drop_got (y ∷ ys) (suc i) x l h = drop_got ys i x (omega arith) h
 
-drop_past : {X : Type 0} (xs : List X) (i : ℕ) → slice_get xs i ≡ None → drop i xs ≡ []
+pub drop_past : {X : Type 0} (xs : List X) (i : ℕ) → slice_get xs i ≡ None → drop i xs ≡ []
 drop_past [] zero h = refl
 drop_past [] (suc i) h = refl
 drop_past (x ∷ xs) zero h = absurd (cc)

@@ -37,7 +37,7 @@ use Rattle.dep_graph.specs.Records.{holds, reads_under}
 use Rattle.dep_graph.specs.Sources.{AreNumbers, Source, all_source, cell_in, column_in, read_source, source_in, sources, sources_of_keys}
 use Rattle.affected_search.specs.Noted.{KeepsNotes}
 use Rattle.affected_search.specs.Reached.{is_among, reads_naming, reads_one, IsClosed}
-use Rattle.affected_search.specs.Sheets.{IsHeld, HoldsReads, ListsTouched, is_found, HeldLaw, FoundLaw}
+use Rattle.affected_search.specs.Sheets.{IsHeld, HoldsReads, is_found, HeldLaw, FoundLaw}
 
 -- ---- what a search over the graph tells of a sheet
 
@@ -64,30 +64,39 @@ module _ (graph : Graph) (numbers : List ReadNumber) (cells : List CellNumber) (
             apart d there (or_right (holds (reads_under graph.reads k) (read.Cell d)) (holds (reads_under graph.reads k) (read.Key j) || false)
             (or_left (holds (reads_under graph.reads k) (read.Key j)) false (subst (λ q. holds (reads_under graph.reads k) q ≡ true) (sym (found_once (read.Key j) n e)) h)))
 
-  module _ (s t : Sheet) (fresh : CellId → Bool) (touched : Read → Bool) (right : IsTouchedRight s t fresh touched) (held : HoldsReads graph s) (lists : ListsTouched graph touched numbers)
+  -- where the cell reads something touched, it reads one of the numbers
+  abbrev pub ListsReads : (Read → Bool) → CellNumber → Type 0
+  ListsReads touched k = (q : Read) (n : ReadNumber) → source_in graph.names (read_source q) ≡ Some n → touched q ≡ true
+      → holds (reads_under graph.reads k) n ≡ true → reads_one graph.reads numbers k ≡ true
+
+  -- so it is of each formula cell
+  abbrev pub ListsReadsOf : Sheet → (Read → Bool) → Type 0
+  ListsReadsOf s touched = (c : CellId) (f : List ℕ) (k : CellNumber) → s.formula c ≡ Some f → cell_in graph.names c ≡ Some k → ListsReads touched k
+
+  module _ (s t : Sheet) (fresh : CellId → Bool) (touched : Read → Bool) (right : IsTouchedRight s t fresh touched) (held : HoldsReads graph s) (lists : ListsReadsOf s touched)
       (fresh_cell : (d : CellId) (f : List ℕ) → s.formula d ≡ Some f → fresh d ≡ true → touched (Cell d) ≡ true)
       (fresh_key : (u c : List ℕ) (r : ℕ) (f : List ℕ) → s.formula (cell_of u c r) ≡ Some f → fresh (cell_of u c r) ≡ true → touched (Key u c) ≡ true) where
     abbrev affected : CellId → Bool
     affected c = fresh c || is_found graph cells c
 
     -- what a cell that is not found reads is not touched
-    not_touched : (k : CellNumber) → is_among cells k ≡ false → (q : Read) → IsHeld graph.names (reads_under graph.reads k) q → touched q ≡ false
-    not_touched k free q h = false_from (touched q) (λ e. false≢true (sym free ∙ closed.of_touched k (lists q h.0 k h.1 e h.2)))
+    not_touched : (k : CellNumber) → ListsReads touched k → is_among cells k ≡ false → (q : Read) → IsHeld graph.names (reads_under graph.reads k) q → touched q ≡ false
+    not_touched k listed free q h = false_from (touched q) (λ e. false≢true (sym free ∙ closed.of_touched k (listed q h.0 h.1 e h.2)))
 
     same_cell_free : (d : CellId) → (touch : Bool) → touch ≡ false → ((f : List ℕ) → s.formula d ≡ Some f → fresh d ≡ true → touch ≡ true) → is_found graph cells d ≡ false → IsSameCell s t fresh touched d → IsUntouchedCell s t affected d
     same_cell_free d touch off on free (inl h) = inl h
     same_cell_free d touch off on free (inr h) = inr (h.0, h.1, h.2, or_from (fresh d) (is_found graph cells d) (false_from (fresh d) (λ e. false≢true (sym off ∙ on h.0 h.1 e))) free)
 
-    untouched : (k : CellNumber) → is_among cells k ≡ false → (q : Read) → IsHeld graph.names (reads_under graph.reads k) q → IsUntouched s t affected q
-    untouched k free (Cell d) h =
-        let off = not_touched k free (Cell d) h in
+    untouched : (k : CellNumber) → ListsReads touched k → is_among cells k ≡ false → (q : Read) → IsHeld graph.names (reads_under graph.reads k) q → IsUntouched s t affected q
+    untouched k listed free (Cell d) h =
+        let off = not_touched k listed free (Cell d) h in
         let w = right.cell d off in
         (w.0, same_cell_free d (touched (Cell d)) off (fresh_cell d) (not_found k free d h.0 h.1 h.2) w.1)
-    untouched k free (Key u c) h =
-        let off = not_touched k free (Key u c) h in
+    untouched k listed free (Key u c) h =
+        let off = not_touched k listed free (Key u c) h in
         let w = right.key u c off in
         (w.0, λ r. same_cell_free (cell_of u c r) (touched (Key u c)) off (fresh_key u c r) (none_found k free u c r h.0 h.1 h.2) (w.1 r))
-    untouched k free (Rows u) h = right.rows u (not_touched k free (Rows u) h)
+    untouched k listed free (Rows u) h = right.rows u (not_touched k listed free (Rows u) h)
 
     by_number : (c : CellId) (k : CellNumber) → cell_in graph.names c ≡ Some k → is_found graph cells c ≡ false → is_among cells k ≡ false
     by_number c k is free = sym (ap (λ o. elim o as (λ _. Bool) [ None ↦ false | Some j ↦ is_among cells j ]) is) ∙ free
@@ -98,8 +107,9 @@ module _ (graph : Graph) (numbers : List ReadNumber) (cells : List CellNumber) (
       kind = λ c f e free. right.kind c f e (or_parts (fresh c) (is_found graph cells c) free).0;
       untouched = λ c f e free.
           let parts = or_parts (fresh c) (is_found graph cells c) free in
-          let has = held c f (right.was c f e parts.0) in
-          all_weaker (IsHeld graph.names (reads_under graph.reads has.0)) (IsUntouched s t affected) (untouched has.0 (by_number c has.0 has.1 parts.1)) (reads s c) has.2;
+          let was = right.was c f e parts.0 in
+          let has = held c f was in
+          all_weaker (IsHeld graph.names (reads_under graph.reads has.0)) (IsUntouched s t affected) (untouched has.0 (lists c f has.0 was has.1) (by_number c has.0 has.1 parts.1)) (reads s c) has.2;
     }
 
 -- ---- documents and actions
@@ -133,7 +143,7 @@ key_modified s (RemoveColumn t k) u c r h = absurd (false≢true h)
 key_modified s (RenameColumn t k new) u c r h = absurd (false≢true h)
 
 module _ (s : Document) (a : DocAction) (graph : Graph) (numbers : List ReadNumber) (cells : List CellNumber) (right : TouchesRight s a) (held : HoldsReads graph (sheet_of s))
-    (lists : ListsTouched graph (is_touched s a) numbers) (closed : IsClosed graph.reads numbers cells) where
+    (closed : IsClosed graph.reads numbers cells) (lists : ListsReadsOf graph numbers cells closed (sheet_of s) (is_touched s a)) where
   -- a formula cell that is not found keeps what its run notes
   pub found_keeps : KeepsNotes (sheet_of s) (sheet_of (apply s a)) (is_fresh_cell s a) graph cells
   found_keeps c f e new free =
@@ -145,7 +155,7 @@ module _ (s : Document) (a : DocAction) (graph : Graph) (numbers : List ReadNumb
 
 pub found_law : FoundLaw
 found_law s a graph numbers cells right held lists closed c f e new free =
-    let same = found_keeps s a graph numbers cells right held lists closed c f e new free in
+    let same = found_keeps s a graph numbers cells right held closed (λ d g k at is q n. lists q n k) c f e new free in
     (same.0, reads_noted (sheet_of (apply s a)) c ∙ ap reads_of same.1 ∙ sym (reads_noted (sheet_of s) c))
 
 -- ---- what is recorded

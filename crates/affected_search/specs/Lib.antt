@@ -1,4 +1,5 @@
 pub mod Actions
+pub mod ByAction
 pub mod ByColumn
 pub mod ExactNotes
 pub mod Found
@@ -13,4 +14,6 @@ pub mod RecordsListed
 pub mod RowValues
 pub mod Sheets
 pub mod CellNumbers
+pub mod TouchedReads
+pub mod Touches
 pub mod Upkeep

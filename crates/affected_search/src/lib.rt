@@ -22,32 +22,44 @@
 //! is reached than the action may affect, where the graph holds nothing else and readers of what is
 //! listed read something touched; so what `affected_by_records` finds is affected, where the graph
 //! holds no more than formula cells note. A graph that has just what each cell notes holds what
-//! formula cells note, and no more (`exact_notes_law`); `DepGraph::set` keeps it so. What an action
-//! on records loses is found, or written or removed (`narrow_law`):
-//! `narrow_cells` tells exactly these cells of a document, in order. `record_cell` records what the
-//! formula of a cell reads, by one attempt at most; once the new and the found cells are recorded
-//! anew, the graph holds the reads of each formula cell again (`set_law`, `carried_law`).
-//! Not promised: which reads a schema action touches, by numbers; that `affected_by_records` finds
-//! as few cells as can be: what an action affects is told by key columns whole, and of a formula
-//! column, and of one with an error in one of the rows, whoever looks up by it is found.
+//! formula cells note, and no more (`exact_notes_law`); `DepGraph::set` keeps it so. Over such a
+//! graph `affected_by_action` finds the cells of any action, of one on the schema too, by the reads
+//! that it touches: of a whole document a formula cell that it does not find keeps its value and
+//! what its run notes, unless it is new or its column is modified, and what it finds is affected.
+//! What an action on records loses is found, or written or removed (`narrow_law`): `narrow_cells`
+//! tells exactly these cells of a document, in order. `record_cell` records what the formula of a
+//! cell reads, by one attempt at most; once the new and the found cells are recorded anew, the
+//! graph holds the reads of each formula cell again (`set_law`, `carried_law`).
+//! Not promised: that `affected_by_records` finds as few cells as can be: what an action affects is
+//! told by key columns whole, and of a formula column, and of one with an error in one of the rows,
+//! whoever looks up by it is found; nor that `affected_by_action` does, which goes by key columns
+//! whole everywhere.
 //! Costs: each reader of a touched read, of a found cell and of a found cell's column as a key
 //! column is looked up once for each of these reads; a column is asked for once, however many of
-//! its cells are found. The rest of the document is not gone over. Where rows come or go, each name
-//! that has a number is asked for once, and once for each row. `narrow_cells` asks for each column
-//! of the tables that are written or have a number, and then for the named rows alone.
-//! Read first: specs/Reached.antt, then search.rt; specs/Listed.antt, then listed.rt.
+//! its cells are found. The rest of the document is not gone over, but by `affected_by_action`,
+//! which looks at each recorded read of each formula cell. Where rows come or go, each name that
+//! has a number is asked for once, and once for each row. `narrow_cells` asks for each column of
+//! the tables that are written or have a number, and then for the named rows alone.
+//! Read first: specs/Reached.antt, then search.rt; specs/Listed.antt, then listed.rt;
+//! specs/Touches.antt, then by_action.rt and touch.rt.
 #![tactic(auto)]
 
 mod affected;
+mod by_action;
 mod by_column;
+mod described;
 mod laws;
 mod listed;
 mod losing;
 mod recording;
 mod row_reads;
 mod search;
+mod touch;
+mod touched_reads;
+mod touching;
 
 pub use affected::AffectedCells;
+pub use by_action::affected_by_action;
 pub use by_column::rows_by_column;
 pub use laws::{
     carried_law, carried_notes_law, exact_notes_law, found_law, found_notes_law, held_law,

@@ -12,3 +12,4 @@ mod ExchangedLemmas
 pub mod RelaidLemmas
 pub mod LaidLemmas
 mod RowsOver
+mod AlteredLemmas

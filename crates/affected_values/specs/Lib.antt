@@ -5,3 +5,4 @@ pub mod Carried
 pub mod Indexing
 pub mod Relaid
 pub mod RowsOver
+pub mod Altered

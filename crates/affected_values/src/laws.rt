@@ -1,5 +1,6 @@
 //! Laws of values that are kept over an action.
 
+ghost use Rattle.affected_values.specs.Altered.{AlteredLaw};
 ghost use Rattle.affected_values.specs.RowsOver.{LeadsOverRowsLaw, RightLaidLaw, RowsBackLaw, RowsLeftLaw};
 ghost use Rattle.affected_values.specs.SamePlaces.{LeftRightLaw, SamePlacesLaw};
 ghost use Rattle.affected_values.specs.WaysBack.{LeadsOverLaw, WayBackLaw};
@@ -43,4 +44,10 @@ pub fn rows_back_law()
 /// So they are where the values that were laid anew are as they were.
 pub fn rows_left_law()
     ensures { RowsLeftLaw }
+{}
+
+/// A formula cell that an action on no records does not alter has the formula that it had; one that
+/// it alters is new, or its column is modified.
+pub fn altered_law()
+    ensures { AlteredLaw }
 {}

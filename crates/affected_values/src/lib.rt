@@ -16,6 +16,8 @@
 //! `rows_back_law`, `rows_left_law`). `push_row_cells` tells the formula cells of such rows.
 //! Over an action on records indexes of data columns are kept up: `leave_indexes` takes its rows
 //! out before it, `enter_indexes` puts them in after it.
+//! Over an action on no records a formula cell that is not altered has the formula that it had; one
+//! that is altered is new, or its column is modified (`altered_law`).
 //! Not promised: that an index is not given up.
 //! Read first: specs/Taken.antt, then taking.rt; specs/Relaid.antt, then relaying.rt and
 //! specs/RowsOver.antt; specs/Indexing.antt, then indexing.rt.
@@ -30,7 +32,7 @@ mod taking;
 
 pub use indexing::{enter_indexes, leave_indexes};
 pub use laws::{
-    leads_over_law, leads_over_rows_law, left_right_law, right_laid_law, rows_back_law,
+    altered_law, leads_over_law, leads_over_rows_law, left_right_law, right_laid_law, rows_back_law,
     rows_left_law, same_places_law, way_back_law,
 };
 pub use naming::named_cells;

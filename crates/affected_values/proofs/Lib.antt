@@ -13,3 +13,4 @@ pub mod RelaidLemmas
 pub mod LaidLemmas
 mod RowsOver
 mod AlteredLemmas
+mod FormulaCells

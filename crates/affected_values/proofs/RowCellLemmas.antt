@@ -15,10 +15,11 @@ use Rattle.doc_model.specs.Rows.{has}
 use Rattle.doc_model.specs.Schema.{no_grid}
 use Rattle.doc_model.proofs.ByIdsLaws.{found_all, found_id}
 use Rattle.doc_readers.specs.Parts.{grid_at}
-use Rattle.recalc.specs.Cells.{cell_of}
+use Rattle.recalc.specs.Cells.{cell_of, same_cell}
 use Rattle.recalc.specs.Evaluated.{formula_in}
 use Rattle.recalc.specs.Stack.{on}
 use Rattle.recalc.proofs.Moves.{on_append}
+use Rattle.recalc.proofs.Turn.{same_true}
 use Rattle.affected_values.specs.Carried.{HasCellsOf, HasCellsOfColumn}
 
 all_three : (a b e p o : Bool) → a ≡ true → b ≡ true → (e || p) ≡ true → (p ≡ true → o ≡ true) → ((a && b && e) || o) ≡ true
@@ -46,10 +47,34 @@ nothing_there [] i h = omega arith
 nothing_there (x ∷ xs) zero h = absurd (cc)
 nothing_there (x ∷ xs) (suc i) h = let later : length xs ≤ i = nothing_there xs i h in omega arith
 
+-- a cell of a column in some rows is one of the column
+in_column : (t c : List ℕ) (rows : List ℕ) (d : CellId) → on (map (cell_of t c) rows) d ≡ true → (bytes_eq d.table t && bytes_eq d.column c) ≡ true
+in_column t c [] d h = absurd (false≢true h)
+in_column t c (q ∷ rows) d h = by (same_cell (cell_of t c q) d) refl h (in_column t c rows d)
+  where
+    itself : (bytes_eq t t && bytes_eq c c) ≡ true
+    itself = ap (λ b. b && bytes_eq c c) ((bytes_eq-Decides t t).1 refl) ∙ (bytes_eq-Decides c c).1 refl
+
+    by : (b : Bool) → same_cell (cell_of t c q) d ≡ b → (b || on (map (cell_of t c) rows) d) ≡ true → (on (map (cell_of t c) rows) d ≡ true → (bytes_eq d.table t && bytes_eq d.column c) ≡ true) → (bytes_eq d.table t && bytes_eq d.column c) ≡ true
+    by true e h later = ap (λ (x : CellId). bytes_eq x.table t && bytes_eq x.column c) (sym (same_true (cell_of t c q) d e)) ∙ itself
+    by false e h later = later h
+
+-- what is pushed twice passes, where each time only such cells are
+pub only_next : (p : CellId → Bool) (old mid new : List CellId) → ((c : CellId) → on mid c ≡ true → on old c ≡ false → p c ≡ true) → ((c : CellId) → on new c ≡ true → on mid c ≡ false → p c ≡ true)
+    → (c : CellId) → on new c ≡ true → on old c ≡ false → p c ≡ true
+only_next p old mid new first second c is isnt = by (on mid c) refl
+  where
+    by : (b : Bool) → on mid c ≡ b → p c ≡ true
+    by true e = first c e isnt
+    by false e = second c is e
+
 -- the cells of a column were pushed
 module _ (old new : List CellId) (t c : List ℕ) (rows : List ℕ) (is : new ≡ old ++ map (cell_of t c) rows) where
   pub pushed_stays : (d : CellId) → on old d ≡ true → on new d ≡ true
   pushed_stays d h = ap (λ l. on l d) is ∙ on_append old (map (cell_of t c) rows) d ∙ or_first (on old d) (on (map (cell_of t c) rows) d) h
+
+  pub pushed_only : (d : CellId) → on new d ≡ true → on old d ≡ false → (bytes_eq d.table t && bytes_eq d.column c) ≡ true
+  pushed_only d h isnt = in_column t c rows d (ap (λ b. b || on (map (cell_of t c) rows) d) (sym isnt) ∙ sym (on_append old (map (cell_of t c) rows) d) ∙ ap (λ l. on l d) (sym is) ∙ h)
 
   pub pushed_there : (r : ℕ) → has rows r ≡ true → on new (cell_of t c r) ≡ true
   pushed_there r h = ap (λ l. on l (cell_of t c r)) is ∙ on_append old (map (cell_of t c) rows) (cell_of t c r) ∙ or_second (on old (cell_of t c r)) (on (map (cell_of t c) rows) (cell_of t c r)) (on_rows t c rows r h)

@@ -6,3 +6,4 @@ pub mod Indexing
 pub mod Relaid
 pub mod RowsOver
 pub mod Altered
+pub mod Pushed

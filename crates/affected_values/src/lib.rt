@@ -17,12 +17,15 @@
 //! Over an action on records indexes of data columns are kept up: `leave_indexes` takes its rows
 //! out before it, `enter_indexes` puts them in after it.
 //! Over an action on no records a formula cell that is not altered has the formula that it had; one
-//! that is altered is new, or its column is modified (`altered_law`).
+//! that is altered is new, or its column is modified (`altered_law`). `push_altered_cells` tells
+//! the formula cells that are altered.
 //! Not promised: that an index is not given up.
 //! Read first: specs/Taken.antt, then taking.rt; specs/Relaid.antt, then relaying.rt and
-//! specs/RowsOver.antt; specs/Indexing.antt, then indexing.rt.
+//! specs/RowsOver.antt; specs/Indexing.antt, then indexing.rt; specs/Altered.antt, then
+//! altered_cells.rt.
 #![tactic(auto)]
 
+mod altered_cells;
 mod indexing;
 mod laws;
 mod naming;
@@ -30,10 +33,11 @@ mod relaying;
 mod row_cells;
 mod taking;
 
+pub use altered_cells::push_altered_cells;
 pub use indexing::{enter_indexes, leave_indexes};
 pub use laws::{
-    altered_law, leads_over_law, leads_over_rows_law, left_right_law, right_laid_law, rows_back_law,
-    rows_left_law, same_places_law, way_back_law,
+    altered_law, leads_over_law, leads_over_rows_law, left_right_law, right_laid_law,
+    rows_back_law, rows_left_law, same_places_law, way_back_law,
 };
 pub use naming::named_cells;
 pub use relaying::{LaidAside, lay_anew, lay_back};

@@ -1,6 +1,7 @@
 //! The formula cells of rows.
 
-ghost use Rattle.std.specs.Prelude.{◌≡◌, ◌++◌, true, map, OnOk};
+ghost use Rattle.std.specs.Prelude.{◌≡◌, ◌&&◌, ◌++◌, true, false, map, OnOk};
+ghost use Rattle.std.specs.Str.{bytes_eq};
 ghost use Rattle.cell_types.specs.declared.cell.CellId.{CellId};
 ghost use Rattle.doc_readers.specs.Parts.{grid_at};
 ghost use Rattle.recalc.specs.Cells.{cell_of};
@@ -28,8 +29,8 @@ fn push_column_cells(
     Ok(())
 }
 
-// The same, where it is a formula column.
-fn push_where(
+/// Puts the cells of a column in these rows last, where it is a formula column.
+pub(crate) fn push_where(
     table: &Name,
     column: &ColDef,
     rows: &[u32],
@@ -38,6 +39,9 @@ fn push_where(
     ensures stays { OnOk result
         ((c : CellId) → on cells.old.items c ≡ true → on cells.new.items c ≡ true) }
     ensures pushed { OnOk result (HasCellsOfColumn table.now rows.now cells.new.items column.now) }
+    ensures only { OnOk result
+        ((c : CellId) → on cells.new.items c ≡ true → on cells.old.items c ≡ false
+        → (bytes_eq c.table table.now && bytes_eq c.column column.now.id) ≡ true) }
 {
     if !column.info.is_formula {
         return Ok(());
@@ -63,6 +67,9 @@ pub fn push_row_cells<D: DocTables>(
     ensures alike { OnOk result
         (HasCellsWith (grid_at (D.document tables.now) table.now).columns table.now rows.now
         cells.new.items) }
+    ensures only { OnOk result
+        ((c : CellId) → on cells.new.items c ≡ true → on cells.old.items c ≡ false
+        → bytes_eq c.table table.now ≡ true) }
 {
     let mut index = 0;
     while let Some(column) = tables.column(table, index) {

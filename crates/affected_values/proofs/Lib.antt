@@ -14,3 +14,4 @@ pub mod LaidLemmas
 mod RowsOver
 mod AlteredLemmas
 mod FormulaCells
+mod CarriedLemmas

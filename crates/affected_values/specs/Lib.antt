@@ -6,4 +6,5 @@ pub mod Indexing
 pub mod Relaid
 pub mod RowsOver
 pub mod Altered
+pub mod Copied
 pub mod Pushed

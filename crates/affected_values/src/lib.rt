@@ -1,4 +1,5 @@
-//! Values of affected cells: taken out of their places and put back, and laid beside other rows.
+//! Values of affected cells: taken out of their places and put back, laid beside other rows, and
+//! copied.
 //!
 //! Stands on `recalc` (evaluated cells, how one is found, and indexes), `affected_search` and
 //! `dep_graph` (the cells that an action affects), `affected_cells` (laws of actions),
@@ -16,16 +17,19 @@
 //! `rows_back_law`, `rows_left_law`). `push_row_cells` tells the formula cells of such rows.
 //! Over an action on records indexes of data columns are kept up: `leave_indexes` takes its rows
 //! out before it, `enter_indexes` puts them in after it.
-//! Over an action on no records a formula cell that is not altered has the formula that it had; one
-//! that is altered is new, or its column is modified (`altered_law`). `push_altered_cells` tells
-//! the formula cells that are altered.
+//! Over an action on no records `carry_values` copies the values that are kept beside the tables
+//! and columns as they are then; of each formula cell that the action does not alter the value
+//! stands in its place. `push_altered_cells` tells the formula cells that it alters; by
+//! `altered_law` these are new, or their column is modified, and all others have the formulas that
+//! they had.
 //! Not promised: that an index is not given up.
 //! Read first: specs/Taken.antt, then taking.rt; specs/Relaid.antt, then relaying.rt and
 //! specs/RowsOver.antt; specs/Indexing.antt, then indexing.rt; specs/Altered.antt, then
-//! altered_cells.rt.
+//! carrying.rt and altered_cells.rt.
 #![tactic(auto)]
 
 mod altered_cells;
+mod carrying;
 mod indexing;
 mod laws;
 mod naming;
@@ -34,6 +38,7 @@ mod row_cells;
 mod taking;
 
 pub use altered_cells::push_altered_cells;
+pub use carrying::carry_values;
 pub use indexing::{enter_indexes, leave_indexes};
 pub use laws::{
     altered_law, leads_over_law, leads_over_rows_law, left_right_law, right_laid_law,

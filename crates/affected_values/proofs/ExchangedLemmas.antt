@@ -1,5 +1,5 @@
 -- Columns laid beside other rows, one after the other.
-use Rattle.std.proofs.Common.{ℕ, zero, suc, Bool, true, false, cond, not, ◌&&◌, ◌||◌, nat_eq, List, [], ◌∷◌, map, set, length, slice_get, get_or, ◌≡◌, ◌<◌, ◌≤◌, refl, sym, ap, ◌∙◌, subst, Option, Some, None, arith}
+use Rattle.std.proofs.Common.{ℕ, zero, suc, Bool, true, false, cond, List, [], ◌∷◌, map, set, length, slice_get, get_or, ◌≡◌, ◌<◌, ◌≤◌, refl, sym, ap, ◌∙◌, subst, Option, Some, None, arith}
 use Rattle.std.proofs.lemmas.List.{length-map}
 use Rattle.std.proofs.lemmas.Bool.{lt-ltb}
 use Rattle.std.proofs.lemmas.List.Folds.{find_at}
@@ -8,11 +8,11 @@ use Rattle.std.specs.List.{AllByRecursion, find, position, position_or_len}
 use Rattle.std.specs.Str.{bytes_eq}
 use Rattle.cell_types.specs.declared.value.CellValue.{CellValue}
 use Rattle.doc_model.specs.ByIds.{find_id}
-use Rattle.doc_model.specs.Rows.{IsAscending, has}
+use Rattle.doc_model.specs.Rows.{has}
 use Rattle.recalc.proofs.PlaceLemmas.{IsFirst, find-first, first_there}
 use Rattle.recalc.specs.declared.kept.KeptColumn.{KeptColumn}
 use Rattle.recalc.specs.Kept.{held_column, held_in, kept_column_id}
-use Rattle.affected_values.specs.Relaid.{AreExchanged, ColumnValues, HasPlaces, IsExchanged, aside_in, blank_of, places_in}
+use Rattle.affected_values.specs.Relaid.{AreExchanged, ColumnValues, HasPlaces, IsExchanged, aside_in, places_in}
 
 -- the first columns were exchanged, the others not
 abbrev pub AreExchangedTo : (rows others : List ℕ) → ℕ → List KeptColumn → List ColumnValues → List KeptColumn → List ColumnValues → Type 0

@@ -1,6 +1,6 @@
 -- Indexes of data columns that an action leaves alone.
-use Rattle.std.proofs.Common.{ℕ, Bool, true, false, cond, not, ◌&&◌, ◌||◌, List, [], ◌∷◌, map, ◌≡◌, inl, inr, refl, sym, ap, ◌∙◌, subst, Option, Some, None, Vec}
-use Rattle.std.proofs.lemmas.Bool.{true≢false, false≢true}
+use Rattle.std.proofs.Common.{ℕ, Bool, true, false, not, ◌&&◌, ◌||◌, List, [], ◌∷◌, map, ◌≡◌, inl, inr, refl, sym, ap, ◌∙◌, Option, Some, None, Vec}
+use Rattle.std.proofs.lemmas.Bool.{false≢true}
 use Rattle.std.specs.Global.{Global}
 use Rattle.std.specs.List.{list_any}
 use Rattle.std.specs.Str.{bytes_eq}
@@ -23,7 +23,7 @@ use Rattle.recalc.specs.Evaluated.{sheet_of}
 use Rattle.recalc.specs.Indexes.{AreUnder, IsInBucket, IsIndex}
 use Rattle.recalc.specs.Sheet.{Sheet}
 use Rattle.affected_cells.specs.Touched.{Touch, cells_written, touched_by}
-use Rattle.affected_cells.specs.TouchedRight.{IsSameCell, IsTouchedRight, TouchesRight}
+use Rattle.affected_cells.specs.TouchedRight.{IsSameCell, IsTouchedRight}
 use Rattle.affected_cells.proofs.KeptLaws.{update_law}
 use Rattle.affected_cells.proofs.RowsLaw.{rows_law}
 use Rattle.affected_cells.proofs.Tests.{flipped}

@@ -8,15 +8,13 @@ use Rattle.std.specs.List.{AllByRecursion}
 use Rattle.std.specs.Option.{is_some}
 use Rattle.std.specs.Str.{bytes_eq}
 use Rattle.cell_types.specs.declared.cell.CellId.{CellId}
-use Rattle.cell_types.specs.declared.value.CellValue.{CellValue}
 use Rattle.doc_model.specs.declared.action.DocAction.{DocAction}
 use Rattle.doc_model.specs.declared.action.DocAction.TheVariants.{AddColumn, AddTable, BulkAdd, BulkRemove, BulkUpdate, ModifyColumn, RemoveColumn, RemoveTable, RenameColumn, RenameTable}
 use Rattle.doc_model.specs.declared.column.ColDef.{ColDef}
-use Rattle.doc_model.specs.Apply.{apply, effect}
+use Rattle.doc_model.specs.Apply.{effect}
 use Rattle.doc_model.specs.ByIds.{AreDistinct, find_id}
 use Rattle.doc_model.specs.Column.{column_id, start_of}
 use Rattle.doc_model.specs.Document.{Table, Document, on_grid, table_id, with_table}
-use Rattle.doc_model.specs.DocumentLaws.{IsWhole}
 use Rattle.doc_model.specs.Grid.{Grid}
 use Rattle.doc_model.specs.MetadataIds.{is_schema_id}
 use Rattle.doc_model.specs.Records.{add_rows, remove_rows}
@@ -33,7 +31,7 @@ use Rattle.recalc.proofs.KeptLemmas.{column_blank, column_kept, find_table, matc
 use Rattle.recalc.proofs.ToldCells.{grid_found}
 use Rattle.affected_values.specs.declared.relaying.LaidAside.{LaidAside}
 use Rattle.affected_values.specs.Carried.{moved_table}
-use Rattle.affected_values.specs.Relaid.{CanBeLaid, ColumnValues, HasAside, HasPlaces, IsLaidAnew, IsLaidBack, IsMovedFrom, IsTableExchanged, aside_at, aside_in, blank_of, is_beyond, places_in}
+use Rattle.affected_values.specs.Relaid.{CanBeLaid, ColumnValues, HasAside, HasPlaces, IsLaidAnew, IsLaidBack, IsMovedFrom, IsTableExchanged, aside_in, blank_of, is_beyond, places_in}
 use Rattle.affected_values.proofs.RelaidLemmas.{IsAlikeBut, alike_back, alike_with, columns_alike, distinct_alike, found_alike, held_here, held_other, kept_laid, left_here, left_sizes, rows_alike}
 
 some_same : {X : Type 0} (x y : X) → Some x ≡ Some y → x ≡ y

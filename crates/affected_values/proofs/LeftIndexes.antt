@@ -1,9 +1,9 @@
 -- Indexes but for some rows: rows taken out of them, put in, and carried over an action.
-use Rattle.std.proofs.Common.{ℕ, zero, suc, ◌+◌, ◌<◌, ◌≤◌, arith, Bool, true, false, cond, not, ◌&&◌, ◌||◌, eqb, List, [], ◌∷◌, ◌++◌, map, filter, take, length, get_or, ◌≡◌, inl, inr, refl, sym, ap, ◌∙◌, subst, Option, Some, None, Vec}
-use Rattle.std.proofs.lemmas.Bool.{true≢false, false≢true, eqb-true, or_left, or_right, and_parts}
+use Rattle.std.proofs.Common.{ℕ, suc, ◌+◌, ◌<◌, ◌≤◌, arith, Bool, true, false, cond, not, ◌&&◌, ◌||◌, eqb, List, [], ◌∷◌, ◌++◌, map, take, length, get_or, ◌≡◌, refl, sym, ap, ◌∙◌, subst, Option, Some, None, Vec}
+use Rattle.std.proofs.lemmas.Bool.{true≢false, false≢true, eqb-true}
 use Rattle.std.proofs.lemmas.List.{take_more, take_all}
 use Rattle.std.specs.Global.{Global}
-use Rattle.std.specs.List.{list_any, AllByRecursion}
+use Rattle.std.specs.List.{list_any}
 use Rattle.std.specs.Option.{option_map}
 use Rattle.std.specs.Str.{bytes_eq}
 use Rattle.cell_types.specs.declared.cell.CellId.{CellId}
@@ -22,7 +22,7 @@ use Rattle.doc_model.specs.Document.{Table, Document, on_grid, table_id, with_ta
 use Rattle.doc_model.specs.Grid.{Grid}
 use Rattle.doc_model.specs.Readers.{rows_at}
 use Rattle.doc_model.specs.Records.{add_rows, remove_rows, update_rows}
-use Rattle.doc_model.specs.Rows.{has, insert_rows, without}
+use Rattle.doc_model.specs.Rows.{has, without}
 use Rattle.doc_model.specs.Valid.{valid}
 use Rattle.doc_model.proofs.ByRowLaws.{find-with_id}
 use Rattle.doc_model.proofs.Choices.{cond_true}
@@ -37,8 +37,7 @@ use Rattle.recalc.specs.Indexes.{AreIndexes, AreUnder, IsInBucket, IsIndex}
 use Rattle.recalc.specs.Sheet.{Sheet}
 use Rattle.recalc.proofs.FilledIndexes.{filled_more}
 use Rattle.affected_cells.specs.Touched.{Touch, cells_written, touched_by}
-use Rattle.affected_cells.specs.TouchedRight.{IsTouchedRight, TouchesRight}
-use Rattle.affected_cells.specs.Touched.{is_touched}
+use Rattle.affected_cells.specs.TouchedRight.{IsTouchedRight}
 use Rattle.affected_cells.proofs.KeptLaws.{update_law}
 use Rattle.affected_cells.proofs.RowsLaw.{rows_law}
 use Rattle.affected_values.specs.Indexing.{AreLeft, IsIndexBut, IsLeft, leaves_column, rows_of}

@@ -1,13 +1,12 @@
 -- A table laid beside other rows, in documents that differ in its rows.
-use Rattle.std.proofs.Common.{ℕ, zero, suc, Bool, true, false, cond, not, ◌&&◌, List, [], ◌∷◌, map, set, length, slice_get, ◌≡◌, ◌<◌, ◌≤◌, refl, sym, ap, ◌∙◌, subst, Option, Some, None, arith}
-use Rattle.std.proofs.lemmas.Bool.{false≢true, true≢false}
+use Rattle.std.proofs.Common.{ℕ, zero, suc, Bool, true, false, cond, List, [], ◌∷◌, map, set, length, slice_get, ◌≡◌, refl, sym, ap, ◌∙◌, subst, Option, Some, None}
+use Rattle.std.proofs.lemmas.Bool.{true≢false}
 use Rattle.std.proofs.lemmas.List.{length-map}
 use Rattle.std.proofs.lemmas.Simd.{map-map}
 use Rattle.std.proofs.lemmas.Slice.Eq.{bytes_eq-Decides}
 use Rattle.std.specs.List.{AllByRecursion}
 use Rattle.std.specs.Str.{bytes_eq}
 use Rattle.cell_types.specs.declared.cell.CellId.{CellId}
-use Rattle.cell_types.specs.declared.value.CellValue.{CellValue}
 use Rattle.doc_model.specs.declared.column.ColDef.{ColDef}
 use Rattle.doc_model.specs.ByIds.{AreDistinct, find_id}
 use Rattle.doc_model.specs.Column.{column_id}
@@ -19,11 +18,11 @@ use Rattle.doc_model.proofs.ByIdsLaws.{bytes_apart}
 use Rattle.doc_readers.specs.Parts.{grid_at}
 use Rattle.recalc.specs.declared.kept.KeptColumn.{KeptColumn}
 use Rattle.recalc.specs.declared.kept.KeptTable.{KeptTable}
-use Rattle.recalc.specs.Kept.{ColumnShape, IsKeptOf, TableShape, blank_column, column_part, column_shape, held_at, held_column, held_in, held_table, kept_column_id, kept_table_id}
+use Rattle.recalc.specs.Kept.{ColumnShape, IsKeptOf, TableShape, blank_column, column_part, column_shape, held_at, held_column, held_table, kept_column_id, kept_table_id}
 use Rattle.recalc.proofs.KeptLemmas.{column_blank, column_kept, none_each, shape_blank, shape_kept, table_of}
 use Rattle.recalc.proofs.PlaceLemmas.{IsFirst, find-first, find-set, position_first}
 use Rattle.recalc.proofs.ToldCells.{grid_found}
-use Rattle.affected_values.specs.Relaid.{AreExchanged, IsExchanged, IsTableExchanged, ColumnValues, aside_in, places_in}
+use Rattle.affected_values.specs.Relaid.{AreExchanged, IsTableExchanged, ColumnValues, aside_in, places_in}
 use Rattle.affected_values.proofs.ExchangedLemmas.{held_after, left_after, left_places}
 
 pub no_other : (x y : KeptTable) → Some x ≡ Some y → x ≡ y

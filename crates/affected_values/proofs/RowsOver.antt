@@ -1,7 +1,6 @@
 -- What is kept over rows of one table that come or go, and what leads back.
-use Rattle.std.proofs.Common.{ℕ, Bool, true, false, cond, not, ◌&&◌, ◌||◌, List, [], ◌≡◌, refl, sym, ap, ◌∙◌, subst, inl, inr, Option, Some, None, unwrap_or}
-use Rattle.std.proofs.lemmas.Bool.{false≢true, true≢false}
-use Rattle.std.proofs.lemmas.Slice.Eq.{bytes_eq-Decides}
+use Rattle.std.proofs.Common.{ℕ, Bool, true, false, cond, not, ◌&&◌, ◌||◌, List, ◌≡◌, refl, sym, ap, ◌∙◌, inl, inr, Option, Some, None, unwrap_or}
+use Rattle.std.proofs.lemmas.Bool.{true≢false}
 use Rattle.std.specs.Option.{is_some}
 use Rattle.std.specs.Str.{bytes_eq}
 use Rattle.cell_types.specs.declared.cell.CellId.{CellId}
@@ -12,7 +11,6 @@ use Rattle.doc_model.specs.Apply.{apply}
 use Rattle.doc_model.specs.Document.{Document}
 use Rattle.doc_model.specs.Rows.{has}
 use Rattle.doc_model.specs.Valid.{valid}
-use Rattle.doc_readers.specs.Parts.{grid_at}
 use Rattle.dep_graph.specs.declared.numbers.CellNumber.{CellNumber}
 use Rattle.dep_graph.specs.Graph.{Graph}
 use Rattle.recalc.specs.declared.kept.KeptTable.{KeptTable}
@@ -27,14 +25,12 @@ use Rattle.affected_cells.proofs.RowsLaw.{rows_law}
 use Rattle.affected_search.specs.Actions.{KeepsOthers}
 use Rattle.affected_search.specs.Sheets.{is_found}
 use Rattle.affected_values.specs.declared.relaying.LaidAside.{LaidAside}
-use Rattle.affected_values.specs.declared.taking.HeldValue.{HeldValue}
 use Rattle.affected_values.specs.Carried.{HasCellsOf, moved_rows, moved_table}
-use Rattle.affected_values.specs.Relaid.{IsLaidAnew, IsLaidBack, IsMovedFrom, aside_at, is_beyond}
-use Rattle.affected_values.specs.RowsOver.{LeadsOverRows, LeadsOverRowsLaw, RightLaidLaw, RowsBackLaw, RowsLeftLaw}
-use Rattle.affected_values.specs.Taken.{IsRightBut, LeadsBack, taken_of}
+use Rattle.affected_values.specs.Relaid.{IsLaidAnew, IsMovedFrom, aside_at, is_beyond}
+use Rattle.affected_values.specs.RowsOver.{LeadsOverRowsLaw, RightLaidLaw, RowsBackLaw, RowsLeftLaw}
+use Rattle.affected_values.specs.Taken.{IsRightBut, taken_of}
 use Rattle.affected_values.proofs.HeldNone.{held_none}
 use Rattle.affected_values.proofs.LaidLemmas.{formula_stays, moved_alike, not_beyond}
-use Rattle.affected_values.proofs.RelaidLemmas.{alike_back}
 use Rattle.affected_values.proofs.WaysBack.{kept_value}
 
 some_same : {X : Type 0} (x y : X) → Some x ≡ Some y → x ≡ y

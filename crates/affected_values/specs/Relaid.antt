@@ -1,5 +1,5 @@
 -- The values of one table laid beside other rows.
-use Rattle.std.specs.Prelude.{ℕ, zero, suc, Bool, true, false, cond, not, ◌&&◌, List, [], ◌∷◌, map, length, slice_get, slice_set, Option, Some, None, Vec, ◌≡◌, ⊤}
+use Rattle.std.specs.Prelude.{ℕ, Bool, true, cond, not, ◌&&◌, List, [], ◌∷◌, map, length, slice_get, slice_set, Option, Some, None, Vec, ◌≡◌, ⊤}
 use Rattle.std.specs.Global.{Global}
 use Rattle.std.specs.List.{AllByRecursion, position}
 use Rattle.std.specs.Option.{is_some}
@@ -7,7 +7,6 @@ use Rattle.std.specs.Str.{bytes_eq}
 use Rattle.cell_types.specs.declared.cell.CellId.{CellId}
 use Rattle.cell_types.specs.declared.value.CellValue.{CellValue}
 use Rattle.doc_model.specs.declared.action.DocAction.{DocAction}
-use Rattle.doc_model.specs.declared.column.ColDef.{ColDef}
 use Rattle.doc_model.specs.Apply.{apply}
 use Rattle.doc_model.specs.ByIds.{find_id}
 use Rattle.doc_model.specs.Column.{column_id}

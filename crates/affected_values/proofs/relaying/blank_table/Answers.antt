@@ -1,7 +1,6 @@
-use Rattle.std.proofs.Common.{◌≡◌, ◌∙◌, ap, map, Some, None, Option, Vec, Global}
+use Rattle.std.proofs.Common.{◌≡◌, ◌∙◌, ap, map, Some}
 use Rattle.std.proofs.lemmas.Result.{IfOk-weaker}
 use Rattle.doc_model.specs.ByIds.{find_id}
-use Rattle.cell_types.specs.declared.value.CellValue.{CellValue}
 use Rattle.recalc.specs.declared.kept.KeptTable.{KeptTable}
 use Rattle.recalc.specs.Kept.{kept_table_id}
 use Rattle.affected_values.specs.Relaid.{blank_of}

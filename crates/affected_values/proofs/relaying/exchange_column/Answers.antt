@@ -1,4 +1,4 @@
-use Rattle.std.proofs.Common.{◌≡◌, false, sym, rules}
+use Rattle.std.proofs.Common.{◌≡◌, false, rules}
 use Rattle.affected_values.proofs.ExchangedLemmas.{exchanged_data}
 use Rattle.affected_values.proofs.relaying.exchange_column.Goals as goal
 

@@ -1,5 +1,4 @@
-use Rattle.std.proofs.Common.{ℕ, suc, ◌≡◌, ◌<◌, ◌≤◌, ◌+◌, ◌-◌, Some, arith, length, slice_get, subst, sym, set, ◌∙◌, rules}
-use Rattle.std.proofs.lemmas.List.{length-set}
+use Rattle.std.proofs.Common.{suc, ◌≡◌, ◌<◌, ◌≤◌, ◌+◌, arith, length, subst, set, rules}
 use Rattle.affected_values.proofs.ExchangedLemmas.{AreExchangedTo, exchanged_all, exchanged_next, item_within, lengths_same, maps_length, next_aside, next_places}
 use Rattle.affected_values.proofs.relaying.exchange_columns.Goals as goal
 

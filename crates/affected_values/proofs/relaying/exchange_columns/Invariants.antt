@@ -1,4 +1,4 @@
-use Rattle.std.proofs.Common.{◌≡◌, ◌≤◌, ◌-◌, ◌+◌, length}
+use Rattle.std.proofs.Common.{◌≡◌, ◌≤◌, ◌-◌, length}
 use Rattle.affected_values.proofs.ExchangedLemmas.{AreExchangedTo}
 use Rattle.affected_values.proofs.relaying.exchange_columns.Given as goal
 

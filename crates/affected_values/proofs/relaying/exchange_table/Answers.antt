@@ -1,10 +1,10 @@
-use Rattle.std.proofs.Common.{◌≡◌, ◌<◌, ◌∙◌, sym, ap, subst, Some, map, length, slice_get, rules, Option}
+use Rattle.std.proofs.Common.{◌≡◌, ◌∙◌, sym, ap, subst, Some, map, length, rules}
 use Rattle.std.proofs.lemmas.Option.{get_or_from_slice_get}
 use Rattle.std.specs.List.{AllByRecursion, position}
 use Rattle.std.specs.Str.{bytes_eq}
 use Rattle.recalc.specs.declared.kept.KeptTable.{KeptTable}
 use Rattle.recalc.specs.Kept.{kept_table_id}
-use Rattle.affected_values.specs.Relaid.{AreExchanged, HasPlaces, places_in}
+use Rattle.affected_values.specs.Relaid.{HasPlaces, places_in}
 use Rattle.recalc.proofs.PlaceLemmas.{IsFirst, position_first}
 use Rattle.affected_values.proofs.ExchangedLemmas.{first_item, no_position}
 use Rattle.affected_values.proofs.relaying.exchange_table.Goals as goal

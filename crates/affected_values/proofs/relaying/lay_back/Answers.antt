@@ -1,4 +1,4 @@
-use Rattle.std.proofs.Common.{◌≡◌, ◌∙◌, refl, sym, ap, subst}
+use Rattle.std.proofs.Common.{sym, subst}
 use Rattle.affected_values.specs.Relaid.{CanBeLaid, IsTableExchanged}
 use Rattle.affected_values.proofs.LaidLemmas.{can_lay_back, laid_back}
 use Rattle.affected_values.proofs.relaying.lay_back.Goals as goal

@@ -1,5 +1,4 @@
-use Rattle.std.proofs.Common.{rules, arith, refl, ap, sym, subst, ℕ, zero, suc, ◌≡◌, ◌∙◌, ◌<◌, ◌≤◌, ◌+◌, Some, length, get_or, slice_get}
-use Rattle.std.proofs.lemmas.Bool.{ltb-true, ltb-false}
+use Rattle.std.proofs.Common.{rules, arith, refl, subst, suc, ◌≡◌, ◌<◌, ◌≤◌, ◌+◌, length, get_or}
 use Rattle.recalc.specs.Kept.{held_in}
 use Rattle.affected_values.proofs.TradedLemmas.{IsMidway, ahead_first, ahead_second, midway_same, midway_traded}
 use Rattle.recalc.proofs.RowPlaces.{stands}

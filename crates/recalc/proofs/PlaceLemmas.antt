@@ -35,6 +35,14 @@ other_lengths a b other = by_test (bytes_eq a b) refl
     by_test true e = absurd (other (ap length ((bytes_eq-Decides a b).0 e)))
     by_test false e = refl
 
+-- ids whose ends are told apart
+pub other_ends : (a b : List ℕ) (t : Bool) → (a ≡ b → t ≡ true) → t ≡ false → bytes_eq a b ≡ false
+other_ends a b t alike other = by_test (bytes_eq a b) refl
+  where
+    by_test : (u : Bool) → bytes_eq a b ≡ u → u ≡ false
+    by_test true e = absurd (true≢false (sym (alike ((bytes_eq-Decides a b).0 e)) ∙ other))
+    by_test false e = refl
+
 -- in one column
 pub held-set : (rows : List ℕ) (vs : List (Option CellValue)) (p r : ℕ) (v : Option CellValue) (q : ℕ) → IsAscending rows → slice_get rows p ≡ Some r → p < length vs
     → held_in rows (set vs p v) q ≡ cond (nat_eq r q) v (held_in rows vs q)

@@ -1,6 +1,6 @@
 -- What is kept of a document: the values of its formula cells, and nothing where no column has a
 -- formula. Such a document stays one until an action brings a formula column.
-use Rattle.std.specs.Prelude.{ℕ, Bool, false, List, Option, Some, None, ◌≡◌}
+use Rattle.std.specs.Prelude.{Bool, false, List, Option, Some, None, ◌≡◌}
 use Rattle.std.specs.List.{list_any}
 use Rattle.doc_model.specs.declared.action.DocAction.{DocAction}
 use Rattle.doc_model.specs.declared.action.DocAction.TheVariants.{AddTable, AddColumn, ModifyColumn}

@@ -17,8 +17,9 @@ use cell_types::{KeyItem, Name};
 use doc_model::DocTables;
 use lookup_index::bucket_of;
 
+/// Whether the name is `id`.
 #[tactic(auto, unfolding(formula_parse::specs::Lexemes::id_word))]
-fn is_id(name: &Name) -> bool
+pub(crate) fn is_id(name: &Name) -> bool
     ensures { result ≡ is_id name.now }
 {
     name.as_str() == "id"

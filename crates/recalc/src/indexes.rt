@@ -8,6 +8,8 @@ ghost use Rattle.doc_readers.specs.Parts.{grid_at};
 ghost use Rattle.recalc.specs.Evaluated.{sheet_of};
 ghost use Rattle.recalc.specs.Indexes.{AreIndexes, IsInBucket, IsIndex, index_at, is_error};
 
+use crate::candidates::is_id;
+use crate::places::is_same_id;
 use cell_types::{CellValue, KeyList, Name};
 use doc_model::{ColDef, DocTables};
 use doc_readers::{find_column, rows_in};
@@ -31,9 +33,8 @@ pub(crate) fn find_index<'a>(
 ) -> Option<&'a ColumnIndex>
     ensures { option_copied result ≡ index_at indexes.now table.now column.now }
 {
-    indexes.iter().find(|index| {
-        index.table.as_str() == table.as_str() && index.column.as_str() == column.as_str()
-    })
+    indexes.iter().find(|index| is_same_id(&index.table, table)
+        && is_same_id(&index.column, column))
 }
 
 fn is_error(value: &CellValue) -> bool
@@ -103,7 +104,8 @@ fn column_index(table: &Name, column: &Name, index: LookupIndex) -> Result<Colum
     })
 }
 
-// Makes the index of a column, where it is a data column and has none.
+// Makes the index of a column, where it is a data column and has none. By `id` rows are found
+// without one.
 fn index_column<D: DocTables>(
     alloc: Global,
     tables: &D,
@@ -114,7 +116,7 @@ fn index_column<D: DocTables>(
     requires { AreIndexes (sheet_of (D.document tables.now)) indexes.old.items }
     ensures { OnOk result (AreIndexes (sheet_of (D.document tables.now)) indexes.new.items) }
 {
-    if find_index(&*indexes, table, column).is_some() {
+    if is_id(column) || find_index(&*indexes, table, column).is_some() {
         return Ok(());
     }
     let Some(found) = find_column(tables, table, column) else {
@@ -146,7 +148,13 @@ fn index_keys<D: DocTables>(
     Ok(())
 }
 
-fn index_lookup<D: DocTables>(
+/// Makes the indexes of the data columns by which a lookup was made, where they have none. A column
+/// in which an error stands has none, and neither has `id`.
+///
+/// Errors: out of memory; the indexes are then to be given up.
+/// Memory: a row id for each row of the table, for each index. Cost: linear in the table's rows for
+/// each index that is made; where all are there, a search for each key.
+pub fn index_lookup<D: DocTables>(
     alloc: Global,
     tables: &D,
     indexes: &mut Vec<ColumnIndex>,
@@ -162,11 +170,9 @@ fn index_lookup<D: DocTables>(
 }
 
 /// Makes the indexes of the data columns by which the lookups of a run were made, where they have
-/// none. A column in which an error stands has none.
+/// none.
 ///
-/// Errors: out of memory; the indexes are then to be given up.
-/// Memory: a row id for each row of the table, for each index. Cost: linear in the table's rows for
-/// each index that is made; where all are there, a search for each key.
+/// Errors, memory and cost: as to make those of each.
 pub fn index_lookups<D: DocTables>(
     alloc: Global,
     tables: &D,

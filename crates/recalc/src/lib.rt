@@ -8,7 +8,8 @@
 //!
 //! Promises: `keep_values` finds the value of each formula cell, and `settle` of one cell from any
 //! values that are right; `index_lookups` makes the indexes of the data columns by which a run
-//! looked rows up, in which each row stands under the bucket of its cell and under no other;
+//! looked rows up, in which each row stands under the bucket of its cell and under no other, and
+//! `index_lookup` those of one lookup;
 //! `watched_cells` tells the cells that an action may lose, and `keep_lost` leaves those that it
 //! lost. laws.rt: more fuel changes no value, as much fuel as there are formula cells is enough, a
 //! cell is circular exactly where no fuel gives it a value, and a whole document with its values in
@@ -37,7 +38,7 @@ mod watched;
 pub use cells::{cell_id, keep_lost, push_cells};
 pub use current::{brings_formula, has_formula, keep_values, keep_values_after};
 pub use evaluating::{blank_tables, evaluate_rest};
-pub use indexes::{ColumnIndex, bucket_at, index_lookups};
+pub use indexes::{ColumnIndex, bucket_at, index_lookup, index_lookups};
 pub use kept::{KeptColumn, KeptTable};
 pub use names::{push_if, sorted};
 pub use places::{column_at, exchange_value, value_beside};

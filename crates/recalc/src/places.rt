@@ -21,14 +21,27 @@ use doc_model::DocTables;
 use doc_readers::rows_in;
 use std::mem;
 
+// Whether two texts end in the same byte, where both have one.
+fn ends_alike(left: &[u8], right: &[u8]) -> bool
+    ensures { left.now ≡ right.now → result ≡ true }
+{
+    match (left.last(), right.last()) {
+        (Some(left), Some(right)) => *left == *right,
+        _ => true,
+    }
+}
+
 /// Whether two ids are the same.
-#[tactic(auto, using(crate::proofs::PlaceLemmas::lengths_first, crate::proofs::PlaceLemmas::other_lengths))]
+#[tactic(auto, using(crate::proofs::PlaceLemmas::other_lengths, crate::proofs::PlaceLemmas::other_ends))]
 pub(crate) fn is_same_id(left: &Name, right: &Name) -> bool
     ensures { result ≡ bytes_eq left.now right.now }
 {
-    // Lengths first: they differ mostly, and cost least.
+    // Lengths first, then the last bytes: they differ mostly, and cost least.
     let (left, right) = (left.as_str(), right.as_str());
-    left.len() == right.len() && left == right
+    if left.len() != right.len() || !ends_alike(left.as_bytes(), right.as_bytes()) {
+        return false;
+    }
+    left == right
 }
 
 // Whether the row stands at the index.

@@ -3,3 +3,4 @@ pub mod NameLaws
 pub mod OfNames
 pub mod ReaderLaws
 pub mod RecordLaws
+pub mod RunLaws

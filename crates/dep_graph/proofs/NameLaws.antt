@@ -148,11 +148,11 @@ numbers_more names (r ∷ ss) (p ∷ reads) s q h is = (h.0, numbers_more names 
 pub numbers_pushed : (old new : List (List ℕ)) → IsGrown old new → (ss : List Source) (reads now : List ReadNumber) (s : Source) (q : ReadNumber) → AreNumbers old ss reads → source_in new s ≡ Some q → now ≡ reads ++ q ∷ [] → AreNumbers new (ss ++ s ∷ []) now
 numbers_pushed old new grown ss reads now s q h is e = subst (AreNumbers new (ss ++ s ∷ [])) (sym e) (numbers_more new ss reads s q (numbers_stay old new grown ss reads h) is)
 
-append_assoc : {A : Type 0} (xs ys zs : List A) → (xs ++ ys) ++ zs ≡ xs ++ (ys ++ zs)
+pub append_assoc : {A : Type 0} (xs ys zs : List A) → (xs ++ ys) ++ zs ≡ xs ++ (ys ++ zs)
 append_assoc [] ys zs = refl
 append_assoc (x ∷ xs) ys zs = ap (λ r. x ∷ r) (append_assoc xs ys zs)
 
-append_none : {A : Type 0} (xs : List A) → xs ++ [] ≡ xs
+pub append_none : {A : Type 0} (xs : List A) → xs ++ [] ≡ xs
 append_none [] = refl
 append_none (x ∷ xs) = ap (λ r. x ∷ r) (append_none xs)
 

@@ -4,4 +4,5 @@ pub mod NumberLaws
 pub mod Numbers
 pub mod Readers
 pub mod Records
+pub mod Runs
 pub mod Sources

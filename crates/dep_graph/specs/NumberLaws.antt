@@ -15,7 +15,7 @@ use Rattle.dep_graph.specs.Numbers.{is_cell, is_column, is_read, is_value}
 abbrev column_with : ℕ → ℕ → ColumnNumber
 column_with table column = record { table = table; column = column }
 
-abbrev cell_with : ColumnNumber → ℕ → CellNumber
+abbrev pub cell_with : ColumnNumber → ℕ → CellNumber
 cell_with column row = record { column = column; row = row }
 
 abbrev value_with : ColumnNumber → ℕ → ValueNumber

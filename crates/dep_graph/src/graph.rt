@@ -12,10 +12,11 @@ ghost use Rattle.dep_graph.specs.Sources.{cell_in, column_in};
 ghost use Rattle.dep_graph.specs.declared.numbers.CellNumber.{CellNumber};
 
 use crate::names::NameNumbers;
-use crate::noting::{cell_number, note_numbers};
+use crate::noting::{cell_number, note_numbers, run_numbers};
 use crate::numbers::{CellNumber, ColumnNumber, ReadNumber};
 use crate::readers::Readers;
 use crate::records::{Records, forget, record, recorded};
+use crate::runs::NoteRuns;
 use cell_types::{CellId, Name};
 use formula_eval::NoteList;
 use std::alloc::{AllocError, Global};
@@ -70,6 +71,18 @@ impl DepGraph {
     {
         let cell = cell_number(&mut self.names, reader)?;
         let new = note_numbers(&mut self.names, self.alloc, notes.as_slice())?;
+        record(&mut self.reads, &mut self.readers, self.alloc, cell, new)
+    }
+
+    /// The same, where notes stand together.
+    ///
+    /// Errors: out of memory; each cell then reads what it read.
+    pub fn set_runs(&mut self, reader: &CellId, runs: &NoteRuns) -> Result<(), AllocError>
+        ensures ok { OnOk result (IsSet self.old self.new reader.now runs.now) }
+        ensures err { OnErr result (IsKept self.old self.new) }
+    {
+        let cell = cell_number(&mut self.names, reader)?;
+        let new = run_numbers(&mut self.names, self.alloc, runs.as_slice())?;
         record(&mut self.reads, &mut self.readers, self.alloc, cell, new)
     }
 

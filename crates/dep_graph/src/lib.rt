@@ -11,7 +11,9 @@
 //! of them, by bucket: so its readers are found by the values that were looked up. Without a key it
 //! reads all rows of its table, as what takes them all does. Names have numbers inside; a number is
 //! never given again, and its name is found by it (`number_law`), which has no other number. Asking
-//! and forgetting take no memory.
+//! and forgetting take no memory. `NoteRuns` keeps the notes of a run, with the names of a column
+//! once for cells of it that are read one after the other; `DepGraph::set_runs` takes them as they
+//! stand.
 //! Not promised: that a column told by `columns_of` still has such a cell; that few values share a
 //! bucket; anything of what a cell does that was not set.
 //! Read first: specs/Sources.antt and specs/Graph.antt, then graph.rt, records.rt and readers.rt.
@@ -25,7 +27,9 @@ mod noting;
 mod numbers;
 mod readers;
 mod records;
+mod runs;
 
 pub use graph::DepGraph;
 pub use laws::number_law;
 pub use numbers::{CellNumber, ColumnNumber, ReadNumber, ValueNumber};
+pub use runs::{NoteRun, NoteRuns};

@@ -2,10 +2,13 @@
 
 ghost use Rattle.std.specs.Prelude.{◌≡◌, ◌∷◌, ◌++◌, [], List, Some, IfOk, OnOk, map};
 ghost use Rattle.dep_graph.specs.Names.{IsGrown, number_in};
+ghost use Rattle.dep_graph.specs.NumberLaws.{cell_with};
+ghost use Rattle.dep_graph.specs.Runs.{more_cells, notes_after, notes_in, notes_of};
 ghost use Rattle.dep_graph.specs.Sources.{AreNumbers, Source, all_source, cell_in, column_in, read_source, source_in, source_of_key, sources, sources_of, sources_of_keys};
 
 use crate::names::NameNumbers;
 use crate::numbers::{CellNumber, ColumnNumber, ReadNumber, ValueNumber};
+use crate::runs::NoteRun;
 use cell_types::{CellId, KeyItem, Name, Read};
 use formula_eval::Note;
 use lookup_index::bucket_of;
@@ -161,6 +164,85 @@ pub(crate) fn note_numbers(
     let mut reads = Vec::with_capacity(alloc, notes.len())?;
     for note in notes {
         push_note(names, note, &mut reads)?;
+    }
+    Ok(reads)
+}
+
+// Puts the cells of a column in these rows last.
+fn push_cells(
+    column: ColumnNumber,
+    rows: &[u32],
+    reads: &mut Vec<ReadNumber>,
+) -> Result<(), AllocError>
+    ensures { OnOk result (reads.new.items
+        ≡ reads.old.items ++ map (λ r. ReadNumber.Cell (cell_with column r)) rows.now) }
+{
+    for row in rows {
+        reads.push(ReadNumber::Cell(CellNumber { column, row: *row }))?;
+    }
+    Ok(())
+}
+
+fn push_more(
+    names: &mut NameNumbers,
+    table: &Name,
+    column: &Name,
+    rows: &[u32],
+    reads: &mut Vec<ReadNumber>,
+) -> Result<(), AllocError>
+    ensures ok { (done : List Source) → AreNumbers names.old done reads.old.items → OnOk result
+        (AreNumbers names.new (done ++ sources (more_cells table.now column.now rows.now))
+        reads.new.items) }
+    ensures grown { IsGrown names.old names.new }
+{
+    let column = column_number(names, table, column)?;
+    push_cells(column, rows, reads)
+}
+
+fn push_after(
+    names: &mut NameNumbers,
+    note: &Note,
+    rows: &[u32],
+    reads: &mut Vec<ReadNumber>,
+) -> Result<(), AllocError>
+    ensures ok { (done : List Source) → AreNumbers names.old done reads.old.items → OnOk result
+        (AreNumbers names.new (done ++ sources (notes_after note.now rows.now)) reads.new.items) }
+    ensures grown { IsGrown names.old names.new }
+{
+    match note {
+        Note::Read(Read::Cell(cell)) => push_more(names, &cell.table, &cell.column, rows, reads),
+        _ => Ok(()),
+    }
+}
+
+fn push_run(
+    names: &mut NameNumbers,
+    run: &NoteRun,
+    reads: &mut Vec<ReadNumber>,
+) -> Result<(), AllocError>
+    ensures ok { (done : List Source) → AreNumbers names.old done reads.old.items → OnOk result
+        (AreNumbers names.new (done ++ sources (notes_of run.now)) reads.new.items) }
+    ensures grown { IsGrown names.old names.new }
+{
+    push_note(names, &run.note, reads)?;
+    push_after(names, &run.note, run.more.as_slice(), reads)
+}
+
+/// The same of notes that stand together.
+///
+/// Errors: out of memory; what had a number keeps it.
+pub(crate) fn run_numbers(
+    names: &mut NameNumbers,
+    alloc: Global,
+    runs: &[NoteRun],
+) -> Result<Vec<ReadNumber>, AllocError>
+    ensures ok { IfOk result
+        (λ reads. AreNumbers names.new (sources (notes_in runs.now)) reads.items) }
+    ensures grown { IsGrown names.old names.new }
+{
+    let mut reads = Vec::with_capacity(alloc, runs.len())?;
+    for run in runs {
+        push_run(names, run, &mut reads)?;
     }
     Ok(reads)
 }

@@ -12,17 +12,18 @@ ghost use Rattle.recalc.specs.Stack.{IsOpen};
 ghost use Rattle.known_reads.specs.Recorded.{IsFitted, IsTold};
 
 use cell_types::{CellId, CellValue, ColType, ErrKind, RowRef, convert};
+use dep_graph::{NoteRun, NoteRuns};
 use doc_model::DocTables;
-use formula_eval::{CellReader, NoteList, Steps, Tried, attempt_noting};
+use formula_eval::{CellReader, Steps, Tried, attempt_noting};
 use formula_parse::Formula;
-use recalc::{ColumnIndex, KeptTable, KnownReader, column_at, index_lookups, row_of};
+use recalc::{ColumnIndex, KeptTable, KnownReader, column_at, index_lookup, row_of};
 use std::alloc::{AllocError, Global};
 use std::sync::ledger::Ledger;
 
 /// What is found of a cell: its value with what its run noted, or a cell that is needed first.
 #[derive(Drop)]
 pub(crate) enum Found {
-    Value { value: CellValue, notes: NoteList },
+    Value { value: CellValue, notes: NoteRuns },
     Need(CellId),
 }
 
@@ -32,7 +33,7 @@ fn attempt_tree<R: CellReader, L: Ledger>(
     reader: &R,
     at: &RowRef,
     tree: Option<&Formula>,
-    notes: &mut NoteList,
+    notes: &mut NoteRuns,
     steps: &mut Steps<L>,
 ) -> Result<Tried, AllocError>
     requires { notes.old ≡ [] }
@@ -48,7 +49,7 @@ fn attempt_tree<R: CellReader, L: Ledger>(
     attempt_noting(alloc, formula, at, reader, notes, steps)
 }
 
-fn found_of(alloc: Global, ty: &ColType, tried: Tried, notes: NoteList) -> Result<Found, AllocError>
+fn found_of(alloc: Global, ty: &ColType, tried: Tried, notes: NoteRuns) -> Result<Found, AllocError>
     ensures { IfOk result (λ x. IsFitted x ty.now tried notes) }
 {
     match tried {
@@ -58,6 +59,22 @@ fn found_of(alloc: Global, ty: &ColType, tried: Tried, notes: NoteList) -> Resul
         }
         Tried::Need(cell) => Ok(Found::Need(cell)),
     }
+}
+
+// Makes the indexes of the data columns by which the lookups of a run were made.
+fn index_runs<D: DocTables>(
+    alloc: Global,
+    tables: &D,
+    indexes: &mut Vec<ColumnIndex>,
+    runs: &[NoteRun],
+) -> Result<(), AllocError>
+    requires { AreIndexes (sheet_of (D.document tables.now)) indexes.old.items }
+    ensures { OnOk result (AreIndexes (sheet_of (D.document tables.now)) indexes.new.items) }
+{
+    for run in runs {
+        index_lookup(alloc, tables, indexes, &run.note)?;
+    }
+    Ok(())
 }
 
 /// One attempt at a formula cell whose value is not known.
@@ -93,9 +110,9 @@ pub(crate) fn try_cell<D: DocTables, L: Ledger>(
         kept,
         indexes: &*indexes,
     };
-    let mut notes = NoteList::new(alloc);
+    let mut notes = NoteRuns::new(alloc);
     let tried = attempt_tree(alloc, &reader, &at, column.tree.as_ref(), &mut notes, steps)?;
     // So that the lookups of other cells need not scan.
-    index_lookups(alloc, tables, indexes, notes.as_slice())?;
+    index_runs(alloc, tables, indexes, notes.as_slice())?;
     found_of(alloc, &column.ty, tried, notes)
 }

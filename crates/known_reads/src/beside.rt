@@ -18,9 +18,8 @@ use crate::bounded::{BoundedGraph, ReadsFault};
 use crate::recording::{forget_plain, record_cells};
 use crate::walking::record_all;
 use cell_types::CellId;
-use dep_graph::DepGraph;
+use dep_graph::{DepGraph, NoteRuns};
 use doc_model::DocTables;
-use formula_eval::NoteList;
 use recalc::{ColumnIndex, KeptTable};
 use std::alloc::{AllocError, Global};
 use std::marker::Model;
@@ -223,7 +222,7 @@ impl KnownReads {
     /// cannot be recorded for want of room or memory.
     ///
     /// Memory: what the graph takes.
-    pub(crate) fn keep_notes(&mut self, cell: CellId, given: &NoteList)
+    pub(crate) fn keep_notes(&mut self, cell: CellId, given: &NoteRuns)
         ensures { (s : Sheet) → notes s cell ≡ given.now
             → IsNotedOf self.old self.new s cell }
     {

@@ -10,7 +10,7 @@ ghost use Rattle.affected_search.specs.Recording.{NeedsNone};
 
 use affected_search::record_cell;
 use cell_types::{CellId, RowRef};
-use dep_graph::DepGraph;
+use dep_graph::{DepGraph, NoteRuns};
 use formula_eval::{CellReader, NoteList, Steps};
 use formula_parse::Formula;
 use std::alloc::{AllocError, Global};
@@ -136,7 +136,7 @@ impl BoundedGraph {
     }
 
     // Records what a run of a cell noted.
-    pub(crate) fn set(&mut self, cell: &CellId, notes: &NoteList) -> Result<(), ReadsFault>
+    pub(crate) fn set(&mut self, cell: &CellId, notes: &NoteRuns) -> Result<(), ReadsFault>
         ensures ok { OnOk result (IsSet self.old self.new cell.now notes.now) }
         ensures err { OnErr result (IsKept self.old self.new) }
     {
@@ -144,7 +144,7 @@ impl BoundedGraph {
             return Err(ReadsFault::TooMany);
         }
         let before = self.graph.reads_count(cell);
-        self.graph.set(cell, notes)?;
+        self.graph.set_runs(cell, notes)?;
         self.count_again(cell, before);
         Ok(())
     }

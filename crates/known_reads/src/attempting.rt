@@ -7,7 +7,8 @@ ghost use Rattle.formula_eval.specs.Attempted.{HasNoted, IsTried};
 ghost use Rattle.formula_eval.specs.OfText.{evaluated_some};
 ghost use Rattle.recalc.specs.Evaluated.{sheet_of};
 ghost use Rattle.recalc.specs.Indexes.{AreIndexes};
-ghost use Rattle.recalc.specs.Kept.{IsSettled, held_at};
+ghost use Rattle.recalc.specs.Kept.{IsKeptOf, IsSettled, held_at};
+ghost use Rattle.recalc.specs.Remembered.{IsRemembered};
 ghost use Rattle.recalc.specs.Stack.{IsOpen};
 ghost use Rattle.known_reads.specs.Recorded.{IsFitted, IsTold};
 
@@ -16,7 +17,9 @@ use dep_graph::{NoteRun, NoteRuns};
 use doc_model::DocTables;
 use formula_eval::{CellReader, Steps, Tried, attempt_noting};
 use formula_parse::Formula;
-use recalc::{ColumnIndex, KeptTable, KnownReader, column_at, index_lookup, row_of};
+use recalc::{
+    ColumnIndex, KeptTable, KnownReader, LastLookup, column_at, index_lookup, remember, row_of,
+};
 use std::alloc::{AllocError, Global};
 use std::sync::ledger::Ledger;
 
@@ -77,6 +80,27 @@ fn index_runs<D: DocTables>(
     Ok(())
 }
 
+// Remembers the last lookup of a run by one data column.
+fn remember_runs<D: DocTables>(
+    alloc: Global,
+    tables: &D,
+    kept: &[KeptTable],
+    indexes: &[ColumnIndex],
+    last: &mut Option<LastLookup>,
+    runs: &[NoteRun],
+) -> Result<(), AllocError>
+    requires whole { IsWhole (D.document tables.now) }
+    requires of_document { IsKeptOf (D.document tables.now) kept.now }
+    requires indexed { AreIndexes (sheet_of (D.document tables.now)) indexes.now }
+    requires remembered { IsRemembered (sheet_of (D.document tables.now)) last.old }
+    ensures { OnOk result (IsRemembered (sheet_of (D.document tables.now)) last.new) }
+{
+    for run in runs {
+        remember(alloc, tables, kept, indexes, last, &run.note)?;
+    }
+    Ok(())
+}
+
 /// One attempt at a formula cell whose value is not known.
 ///
 /// Errors: out of memory; the indexes are then to be given up.
@@ -87,18 +111,22 @@ pub(crate) fn try_cell<D: DocTables, L: Ledger>(
     tables: &D,
     kept: &[KeptTable],
     indexes: &mut Vec<ColumnIndex>,
+    last: &mut Option<LastLookup>,
     cell: &CellId,
     steps: &mut Steps<L>,
 ) -> Result<Found, AllocError>
     requires whole { IsWhole (D.document tables.now) }
     requires settled { IsSettled (D.document tables.now) kept.now }
     requires indexed { AreIndexes (sheet_of (D.document tables.now)) indexes.old.items }
+    requires remembered { IsRemembered (sheet_of (D.document tables.now)) last.old }
     requires opened { IsOpen (sheet_of (D.document tables.now))
         (held_at (D.document tables.now) kept.now) cell.now }
     ensures told { IfOk result (IsTold (sheet_of (D.document tables.now))
         (held_at (D.document tables.now) kept.now) cell.now) }
     ensures indexed { OnOk result
         (AreIndexes (sheet_of (D.document tables.now)) indexes.new.items) }
+    ensures remembered { OnOk result
+        (IsRemembered (sheet_of (D.document tables.now)) last.new) }
     ensures steps { steps.new ≤ steps.old + 1 }
 {
     let Some(column) = column_at(kept, &cell.table, &cell.column) else {
@@ -109,10 +137,12 @@ pub(crate) fn try_cell<D: DocTables, L: Ledger>(
         tables,
         kept,
         indexes: &*indexes,
+        last: &*last,
     };
     let mut notes = NoteRuns::new(alloc);
     let tried = attempt_tree(alloc, &reader, &at, column.tree.as_ref(), &mut notes, steps)?;
     // So that the lookups of other cells need not scan.
     index_runs(alloc, tables, indexes, notes.as_slice())?;
+    remember_runs(alloc, tables, kept, &*indexes, last, notes.as_slice())?;
     found_of(alloc, &column.ty, tried, notes)
 }

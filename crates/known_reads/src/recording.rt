@@ -48,6 +48,7 @@ fn record_formula<D: DocTables>(
         tables,
         kept,
         indexes: &*indexes,
+        last: &None,
     };
     let notes = graph.record_once::<KnownReader<'_, D>, Brand>(
         alloc,

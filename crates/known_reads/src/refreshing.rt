@@ -7,6 +7,7 @@ ghost use Rattle.doc_model.specs.DocumentLaws.{IsWhole};
 ghost use Rattle.recalc.specs.Evaluated.{sheet_of};
 ghost use Rattle.recalc.specs.Indexes.{AreIndexes};
 ghost use Rattle.recalc.specs.Kept.{IsEvaluated, IsFurther, IsKeptOf, IsSettled, held_at};
+ghost use Rattle.recalc.specs.Remembered.{IsRemembered};
 ghost use Rattle.affected_cells.specs.Bound.{attempt_bound};
 ghost use Rattle.affected_values.specs.Taken.{IsHeldWhere, IsRightBut, LeadsBack, taken_of};
 ghost use Rattle.known_reads.specs.Attempts.{HasFormulas, IsWithin};
@@ -19,9 +20,42 @@ use affected_values::{HeldValue, put_values_back, take_values};
 use cell_types::CellId;
 use doc_model::DocTables;
 use formula_eval::Steps;
-use recalc::{ColumnIndex, KeptTable};
+use recalc::{ColumnIndex, KeptTable, LastLookup};
 use std::alloc::{AllocError, Global};
 use std::sync::ledger::Ledger;
+
+// Evaluates the cells whose values were taken out, where all values that are known are right, from
+// a lookup that is remembered.
+fn settle_each<D: DocTables, L: Ledger>(
+    alloc: Global,
+    tables: &D,
+    kept: &mut Vec<KeptTable>,
+    indexes: &mut Vec<ColumnIndex>,
+    last: &mut Option<LastLookup>,
+    reads: &mut KnownReads,
+    taken: &[HeldValue],
+    steps: &mut Steps<L>,
+) -> Result<(), AllocError>
+    requires whole { IsWhole (D.document tables.now) }
+    requires indexed { AreIndexes (sheet_of (D.document tables.now)) indexes.old.items }
+    requires remembered { IsRemembered (sheet_of (D.document tables.now)) last.old }
+    requires settled { IsSettled (D.document tables.now) kept.old.items }
+    ensures known { OnOk result ((c : CellId) → is_some (taken_of taken.now c) ≡ true
+        → IsHeldWhere (D.document tables.now) kept.new.items c) }
+    ensures further { IsFurther (D.document tables.now) kept.old.items kept.new.items }
+    ensures recording { IsRecording (D.document tables.now)
+        (held_at (D.document tables.now) kept.old.items) reads.old
+        (held_at (D.document tables.now) kept.new.items) reads.new }
+    ensures attempts { IsWithin (sheet_of (D.document tables.now))
+        (held_at (D.document tables.now) kept.old.items) steps.old steps.new }
+    ensures indexed { OnOk result
+        (AreIndexes (sheet_of (D.document tables.now)) indexes.new.items) }
+{
+    for held in taken {
+        settle_cell(alloc, tables, kept, indexes, last, reads, &held.cell, steps)?;
+    }
+    Ok(())
+}
 
 // Evaluates the cells whose values were taken out, where all values that are known are right.
 fn settle_taken<D: DocTables, L: Ledger>(
@@ -47,10 +81,11 @@ fn settle_taken<D: DocTables, L: Ledger>(
     ensures indexed { OnOk result
         (AreIndexes (sheet_of (D.document tables.now)) indexes.new.items) }
 {
-    for held in taken {
-        settle_cell(alloc, tables, kept, indexes, reads, &held.cell, steps)?;
-    }
-    Ok(())
+    let mut last = None;
+    let known = &mut last;
+    let done = settle_each(alloc, tables, kept, indexes, known, reads, taken, steps);
+    drop(last);
+    done
 }
 
 /// Evaluates these cells anew, where the values of all other formula cells are known and right, and

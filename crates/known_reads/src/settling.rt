@@ -8,6 +8,7 @@ ghost use Rattle.recalc.specs.Cells.{same_cell};
 ghost use Rattle.recalc.specs.Evaluated.{formula_at, sheet_of};
 ghost use Rattle.recalc.specs.Indexes.{AreIndexes};
 ghost use Rattle.recalc.specs.Kept.{IsFurther, IsKeptOf, IsSettled, held_at};
+ghost use Rattle.recalc.specs.Remembered.{IsRemembered};
 ghost use Rattle.recalc.specs.Stack.{IsOpen, IsWorking, on};
 ghost use Rattle.recalc.specs.Turn.{IsTurn, StaysKnown};
 ghost use Rattle.affected_values.specs.Taken.{IsHeldWhere};
@@ -19,7 +20,7 @@ use crate::beside::KnownReads;
 use cell_types::{CellId, CellValue, ErrKind};
 use doc_model::DocTables;
 use formula_eval::{Reading, Steps};
-use recalc::{ColumnIndex, KeptTable, cell_id, cell_told, exchange_value};
+use recalc::{ColumnIndex, KeptTable, LastLookup, cell_id, cell_told, exchange_value};
 use std::alloc::{AllocError, Global};
 use std::sync::ledger::Ledger;
 
@@ -80,12 +81,14 @@ fn turn<D: DocTables, L: Ledger>(
     tables: &D,
     kept: &mut Vec<KeptTable>,
     indexes: &mut Vec<ColumnIndex>,
+    last: &mut Option<LastLookup>,
     reads: &mut KnownReads,
     stack: &mut Vec<CellId>,
     steps: &mut Steps<L>,
 ) -> Result<(), AllocError>
     requires whole { IsWhole (D.document tables.now) }
     requires indexed { AreIndexes (sheet_of (D.document tables.now)) indexes.old.items }
+    requires remembered { IsRemembered (sheet_of (D.document tables.now)) last.old }
     requires of_document { IsKeptOf (D.document tables.now) kept.old.items }
     requires working { IsWorking (sheet_of (D.document tables.now))
         (held_at (D.document tables.now) kept.old.items) stack.old.items }
@@ -94,6 +97,8 @@ fn turn<D: DocTables, L: Ledger>(
     ensures of_document { OnOk result (IsKeptOf (D.document tables.now) kept.new.items) }
     ensures indexed { OnOk result
         (AreIndexes (sheet_of (D.document tables.now)) indexes.new.items) }
+    ensures remembered { OnOk result
+        (IsRemembered (sheet_of (D.document tables.now)) last.new) }
     ensures err { OnErr result (kept.new ≡ kept.old) }
     ensures stays { StaysKnown (held_at (D.document tables.now) kept.old.items)
         (held_at (D.document tables.now) kept.new.items) }
@@ -112,7 +117,7 @@ fn turn<D: DocTables, L: Ledger>(
     let Some(top) = stack.pop() else {
         unreachable!();
     };
-    match try_cell(alloc, tables, kept, indexes, &top, steps)? {
+    match try_cell(alloc, tables, kept, indexes, last, &top, steps)? {
         Found::Value { value, notes } => {
             put_value(tables, kept, &top, value);
             reads.keep_notes(top, &notes);
@@ -142,6 +147,7 @@ pub(crate) fn settle_cell<D: DocTables, L: Ledger>(
     tables: &D,
     kept: &mut Vec<KeptTable>,
     indexes: &mut Vec<ColumnIndex>,
+    last: &mut Option<LastLookup>,
     reads: &mut KnownReads,
     cell: &CellId,
     steps: &mut Steps<L>,
@@ -149,10 +155,13 @@ pub(crate) fn settle_cell<D: DocTables, L: Ledger>(
     requires whole { IsWhole (D.document tables.now) }
     requires settled { IsSettled (D.document tables.now) kept.old.items }
     requires indexed { AreIndexes (sheet_of (D.document tables.now)) indexes.old.items }
+    requires remembered { IsRemembered (sheet_of (D.document tables.now)) last.old }
     ensures further { IsFurther (D.document tables.now) kept.old.items kept.new.items }
     ensures known { OnOk result (IsHeldWhere (D.document tables.now) kept.new.items cell.now) }
     ensures indexed { OnOk result
         (AreIndexes (sheet_of (D.document tables.now)) indexes.new.items) }
+    ensures remembered { OnOk result
+        (IsRemembered (sheet_of (D.document tables.now)) last.new) }
     ensures recording { IsRecording (D.document tables.now)
         (held_at (D.document tables.now) kept.old.items) reads.old
         (held_at (D.document tables.now) kept.new.items) reads.new }
@@ -168,7 +177,7 @@ pub(crate) fn settle_cell<D: DocTables, L: Ledger>(
     let mut stack = Vec::new(alloc);
     stack.push(cell_id(&cell.table, &cell.column, cell.row)?)?;
     'settling: while !stack.is_empty() {
-        turn(alloc, tables, kept, indexes, reads, &mut stack, steps)?;
+        turn(alloc, tables, kept, indexes, last, reads, &mut stack, steps)?;
     }
     Ok(())
 }

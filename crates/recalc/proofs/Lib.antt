@@ -26,3 +26,4 @@ pub mod NarrowedRows
 pub mod FilledIndexes
 pub mod LosingCells
 pub mod MayLoseCells
+pub mod SameLookups

@@ -14,3 +14,4 @@ pub mod Indexes
 pub mod FilledLaws
 pub mod Watched
 pub mod MayLose
+pub mod Remembered

@@ -9,7 +9,8 @@
 //! Promises: `keep_values` finds the value of each formula cell, and `settle` of one cell from any
 //! values that are right; `index_lookups` makes the indexes of the data columns by which a run
 //! looked rows up, in which each row stands under the bucket of its cell and under no other, and
-//! `index_lookup` those of one lookup;
+//! `index_lookup` those of one lookup; `remember` keeps the last lookup by one data column, and its
+//! rows, for a `KnownReader`;
 //! `watched_cells` tells the cells that an action may lose, and `keep_lost` leaves those that it
 //! lost. laws.rt: more fuel changes no value, as much fuel as there are formula cells is enough, a
 //! cell is circular exactly where no fuel gives it a value, and a whole document with its values in
@@ -30,6 +31,7 @@ pub mod laws;
 mod names;
 mod places;
 mod reading;
+mod remembering;
 mod rows;
 mod settling;
 mod touched;
@@ -43,6 +45,7 @@ pub use kept::{KeptColumn, KeptTable};
 pub use names::{push_if, sorted};
 pub use places::{column_at, exchange_value, value_beside};
 pub use reading::{KnownReader, cell_told};
+pub use remembering::{LastLookup, remember};
 pub use rows::rows_among;
 pub use settling::{row_of, settle};
 pub use touched::{may_lose_column, rows_of_table};

@@ -15,19 +15,22 @@ use crate::candidates::candidates;
 use crate::indexes::ColumnIndex;
 use crate::kept::KeptTable;
 use crate::places::{column_at, find_column, find_table, row_index, value_at};
-use cell_types::{CellValue, ColType, KeyList, Name};
+use crate::remembering::{LastLookup, remembered};
+use cell_types::{CellValue, ColType, KeyList, Name, RowList};
 use doc_model::DocTables;
 use doc_readers::rows_in;
 use formula_eval::{CellReader, CellSource, Matching, Reading, scan, scan_among};
 use std::alloc::{AllocError, Global};
 use std::marker::Model;
 
-/// A whole document, what is known of its formula cells, and indexes of data columns.
+/// A whole document, what is known of its formula cells, indexes of data columns, and the last
+/// lookup.
 #[derive(Drop)]
 pub struct KnownReader<'a, D: DocTables> {
     pub tables: &'a D,
     pub kept: &'a [KeptTable],
     pub indexes: &'a [ColumnIndex],
+    pub last: &'a Option<LastLookup>,
 }
 
 impl<'a, D: DocTables> Model for KnownReader<'a, D> {
@@ -36,6 +39,7 @@ impl<'a, D: DocTables> Model for KnownReader<'a, D> {
     ghost use Rattle.recalc.specs.Evaluated.{sheet_of};
     ghost use Rattle.recalc.specs.Indexes.{AreIndexes};
     ghost use Rattle.recalc.specs.Kept.{IsKeptOf};
+    ghost use Rattle.recalc.specs.Remembered.{IsRemembered};
     ghost use Rattle.recalc.specs.Seen.{Seen};
     ghost use Rattle.std.specs.Coded.{codes};
 
@@ -51,7 +55,8 @@ impl<'a, D: DocTables> Model for KnownReader<'a, D> {
 
     ghost invariant = { λ r.
         IsWhole (D.document r.tables.now) × IsKeptOf (D.document r.tables.now) r.kept.now
-        × AreIndexes (sheet_of (D.document r.tables.now)) r.indexes.now };
+        × AreIndexes (sheet_of (D.document r.tables.now)) r.indexes.now
+        × IsRemembered (sheet_of (D.document r.tables.now)) r.last.now };
 }
 
 fn needed_or(value: Option<&CellValue>) -> Reading<'_>
@@ -134,7 +139,8 @@ impl<'a, D: DocTables> CellSource for KnownReader<'a, D> {
     }
 }
 
-/// Lookups look at the rows under one key's value alone, where each key is `id` or has an index.
+/// Lookups look at the rows under one key's value alone, where each key is `id` or has an index, and
+/// at none where the lookup is the last one.
 impl<'a, D: DocTables> CellReader for KnownReader<'a, D> {
     fn matching(
         &self,
@@ -142,6 +148,9 @@ impl<'a, D: DocTables> CellReader for KnownReader<'a, D> {
         table: &Name,
         keys: &KeyList,
     ) -> Result<Matching, AllocError> {
+        if let Some(rows) = remembered(self.last, table, keys.as_slice()) {
+            return Ok(Matching::Rows(RowList::from(Vec::from_slice(alloc, rows)?)));
+        }
         match candidates(self.tables, self.indexes, table, keys.as_slice()) {
             Some(rows) => scan_among(alloc, self, table, keys, rows),
             None => scan(alloc, self, table, keys),

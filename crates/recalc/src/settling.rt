@@ -142,6 +142,7 @@ fn try_cell<D: DocTables>(
         tables,
         kept,
         indexes: &*indexes,
+        last: &None,
     };
     let mut notes = LookupNotes::new(alloc);
     let tried = attempt_tree(alloc, tree_in(column), at, &reader, &mut notes)?;

@@ -17,6 +17,7 @@ settling-preserved g c =
     record {
       of_document = c.in_ok-turn.ensures.of_document;
       indexed = c.in_ok-turn.ensures.indexed;
+      remembered = c.in_ok-turn.ensures.remembered;
       settling = settling_turn (sheet_of s) (held_at s c.args.kept.now.items) c.args.cell.now (held_at s c.settling.kept.items) (held_at s c.turn.new.kept.items) c.settling.stack.items c.turn.new.stack.items
           c.settling.invariant.settling c.in_ok-turn.ensures.turn;
       stays = λ d h. c.turn.ensures.stays d (c.settling.invariant.stays d h);

@@ -2,6 +2,7 @@ use Rattle.std.proofs.Common.{[]}
 use Rattle.recalc.specs.Evaluated.{sheet_of}
 use Rattle.recalc.specs.Indexes.{AreIndexes}
 use Rattle.recalc.specs.Kept.{IsKeptOf, held_at}
+use Rattle.recalc.specs.Remembered.{IsRemembered}
 use Rattle.recalc.specs.Stack.{work}
 use Rattle.recalc.specs.Turn.{IsSettling, StaysKnown}
 use Rattle.known_reads.specs.Attempts.{IsNaming, IsSpent}
@@ -12,6 +13,7 @@ abbrev pub invariant-settling : goal.invariant-settling
 invariant-settling g l = record {
   of_document : IsKeptOf (g.D.DocReader.document l.tables) l.kept.items;
   indexed : AreIndexes (sheet_of (g.D.DocReader.document l.tables)) l.indexes.items;
+  remembered : IsRemembered (sheet_of (g.D.DocReader.document l.tables)) l.last;
   settling : IsSettling (sheet_of (g.D.DocReader.document l.tables)) (held_at (g.D.DocReader.document l.tables) l.initial.kept.items) l.cell
       (held_at (g.D.DocReader.document l.tables) l.kept.items) l.stack.items;
   stays : StaysKnown (held_at (g.D.DocReader.document l.tables) l.initial.kept.items) (held_at (g.D.DocReader.document l.tables) l.kept.items);

@@ -5,7 +5,7 @@ use Rattle.recalc.proofs.Progress.{each_more, further_next}
 use Rattle.affected_values.proofs.RefreshedLemmas.{IsHeldOf, held_stays, taken_known}
 use Rattle.known_reads.proofs.BoundLemmas.{spent_next, spent_within, within_next}
 use Rattle.known_reads.proofs.RecordedLemmas.{recording_next}
-use Rattle.known_reads.proofs.refreshing.settle_taken.Goals as goal
+use Rattle.known_reads.proofs.refreshing.settle_each.Goals as goal
 
 pub returns-in_err-settle_cell-clause-recording : goal.returns-in_err-settle_cell-clause-recording
 returns-in_err-settle_cell-clause-recording g c =
@@ -23,6 +23,7 @@ loop-held-preserved g c =
           (held_stays s c.loop-held.kept.items c.settle_cell.new.kept.items further) refl
           (subst (IsHeldOf s c.settle_cell.new.kept.items) c.held-item.is c.in_ok-settle_cell.ensures.known) c.loop-held.invariant.known;
       indexed = c.in_ok-settle_cell.ensures.indexed;
+      remembered = c.in_ok-settle_cell.ensures.remembered;
       recording = recording_next s (held_at s c.args.kept.now.items) (held_at s c.loop-held.kept.items) (held_at s c.settle_cell.new.kept.items) c.args.reads.now c.loop-held.reads c.settle_cell.new.reads
           c.loop-held.invariant.recording c.settle_cell.ensures.recording;
       attempts = spent_next (sheet_of s) (held_at s c.args.kept.now.items) (held_at s c.loop-held.kept.items) (held_at s c.settle_cell.new.kept.items) [] [] [] c.args.steps.now c.loop-held.steps c.settle_cell.new.steps

@@ -139,8 +139,8 @@ impl<'a, D: DocTables> CellSource for KnownReader<'a, D> {
     }
 }
 
-/// Lookups look at the rows under one key's value alone, where each key is `id` or has an index, and
-/// at none where the lookup is the last one.
+/// Lookups look at the rows under one key's value alone, where each key is `id` or has an index,
+/// and at none where the lookup is the last one.
 impl<'a, D: DocTables> CellReader for KnownReader<'a, D> {
     fn matching(
         &self,

@@ -47,9 +47,7 @@ fn is_this(last: &LastLookup, table: &Name, key: &KeyItem) -> bool
     requires { key.now.contains ≡ false }
     ensures { result ≡ true → (last.now.table ≡ table.now) × (key_of last.now ≡ key.now) }
 {
-    last.column.same_as(&key.column)
-        && last.value.same_as(&key.value)
-        && last.table.same_as(table)
+    last.column.same_as(&key.column) && last.value.same_as(&key.value) && last.table.same_as(table)
 }
 
 // The rows that the last lookup found, where it is this one.

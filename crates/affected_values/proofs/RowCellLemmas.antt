@@ -1,6 +1,6 @@
 -- The formula cells of rows.
 use Rattle.std.proofs.Common.{ℕ, zero, suc, ◌≤◌, length, slice_get, arith, Bool, true, false, cond, ◌&&◌, ◌||◌, nat_eq, List, [], ◌∷◌, ◌++◌, map, ◌≡◌, refl, sym, ap, ◌∙◌, subst, Option, Some, None}
-use Rattle.std.proofs.lemmas.Bool.{false≢true}
+use Rattle.std.proofs.lemmas.Bool.{eq-eqb, false≢true}
 use Rattle.std.proofs.lemmas.Slice.Eq.{bytes_eq-Decides}
 use Rattle.std.specs.List.{AllByRecursion}
 use Rattle.std.specs.Option.{is_some}
@@ -59,6 +59,15 @@ in_column t c (q ∷ rows) d h = by (same_cell (cell_of t c q) d) refl h (in_col
     by true e h later = ap (λ (x : CellId). bytes_eq x.table t && bytes_eq x.column c) (sym (same_true (cell_of t c q) d e)) ∙ itself
     by false e h later = later h
 
+-- and in one of the rows
+in_rows : (t c : List ℕ) (rows : List ℕ) (d : CellId) → on (map (cell_of t c) rows) d ≡ true → has rows d.row ≡ true
+in_rows t c [] d h = absurd (false≢true h)
+in_rows t c (q ∷ rows) d h = by (same_cell (cell_of t c q) d) refl h (in_rows t c rows d)
+  where
+    by : (b : Bool) → same_cell (cell_of t c q) d ≡ b → (b || on (map (cell_of t c) rows) d) ≡ true → (on (map (cell_of t c) rows) d ≡ true → has rows d.row ≡ true) → has (q ∷ rows) d.row ≡ true
+    by true e h later = ap (λ (x : CellId). has (q ∷ rows) x.row) (sym (same_true (cell_of t c q) d e)) ∙ ap (λ b. b || has rows q) (eq-eqb q q refl)
+    by false e h later = or_second (nat_eq q d.row) (has rows d.row) (later h)
+
 -- what is pushed twice passes, where each time only such cells are
 pub only_next : (p : CellId → Bool) (old mid new : List CellId) → ((c : CellId) → on mid c ≡ true → on old c ≡ false → p c ≡ true) → ((c : CellId) → on new c ≡ true → on mid c ≡ false → p c ≡ true)
     → (c : CellId) → on new c ≡ true → on old c ≡ false → p c ≡ true
@@ -75,6 +84,9 @@ module _ (old new : List CellId) (t c : List ℕ) (rows : List ℕ) (is : new �
 
   pub pushed_only : (d : CellId) → on new d ≡ true → on old d ≡ false → (bytes_eq d.table t && bytes_eq d.column c) ≡ true
   pushed_only d h isnt = in_column t c rows d (ap (λ b. b || on (map (cell_of t c) rows) d) (sym isnt) ∙ sym (on_append old (map (cell_of t c) rows) d) ∙ ap (λ l. on l d) (sym is) ∙ h)
+
+  pub pushed_rows : (d : CellId) → on new d ≡ true → on old d ≡ false → has rows d.row ≡ true
+  pushed_rows d h isnt = in_rows t c rows d (ap (λ b. b || on (map (cell_of t c) rows) d) (sym isnt) ∙ sym (on_append old (map (cell_of t c) rows) d) ∙ ap (λ l. on l d) (sym is) ∙ h)
 
   pub pushed_there : (r : ℕ) → has rows r ≡ true → on new (cell_of t c r) ≡ true
   pushed_there r h = ap (λ l. on l (cell_of t c r)) is ∙ on_append old (map (cell_of t c) rows) (cell_of t c r) ∙ or_second (on old (cell_of t c r)) (on (map (cell_of t c) rows) (cell_of t c r)) (on_rows t c rows r h)

@@ -3,6 +3,7 @@
 ghost use Rattle.std.specs.Prelude.{◌≡◌, ◌&&◌, ◌++◌, true, false, map, OnOk};
 ghost use Rattle.std.specs.Str.{bytes_eq};
 ghost use Rattle.cell_types.specs.declared.cell.CellId.{CellId};
+ghost use Rattle.doc_model.specs.Rows.{has};
 ghost use Rattle.doc_readers.specs.Parts.{grid_at};
 ghost use Rattle.recalc.specs.Cells.{cell_of};
 ghost use Rattle.recalc.specs.Stack.{on};
@@ -42,6 +43,9 @@ pub(crate) fn push_where(
     ensures only { OnOk result
         ((c : CellId) → on cells.new.items c ≡ true → on cells.old.items c ≡ false
         → (bytes_eq c.table table.now && bytes_eq c.column column.now.id) ≡ true) }
+    ensures rows { OnOk result
+        ((c : CellId) → on cells.new.items c ≡ true → on cells.old.items c ≡ false
+        → has rows.now c.row ≡ true) }
 {
     if !column.info.is_formula {
         return Ok(());
@@ -49,8 +53,8 @@ pub(crate) fn push_where(
     push_column_cells(table, &column.id, rows, cells)
 }
 
-/// Puts the cells of the formula columns of a table in these rows last, whether the rows are there
-/// or not.
+/// Puts the cells of the formula columns of a table in these rows last, and no others, whether the
+/// rows are there or not.
 ///
 /// Errors: out of memory; some are then there. Memory: the cells.
 /// Cost: linear in the columns of the table and in the cells.
@@ -70,6 +74,9 @@ pub fn push_row_cells<D: DocTables>(
     ensures only { OnOk result
         ((c : CellId) → on cells.new.items c ≡ true → on cells.old.items c ≡ false
         → bytes_eq c.table table.now ≡ true) }
+    ensures rows { OnOk result
+        ((c : CellId) → on cells.new.items c ≡ true → on cells.old.items c ≡ false
+        → has rows.now c.row ≡ true) }
 {
     let mut index = 0;
     while let Some(column) = tables.column(table, index) {

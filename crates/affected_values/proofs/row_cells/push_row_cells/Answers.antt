@@ -2,6 +2,7 @@ use Rattle.std.proofs.Common.{refl, subst, sym}
 use Rattle.std.proofs.lemmas.Bool.{and_parts}
 use Rattle.std.specs.List.{AllByRecursion}
 use Rattle.std.specs.Str.{bytes_eq}
+use Rattle.doc_model.specs.Rows.{has}
 use Rattle.doc_readers.specs.Parts.{grid_at}
 use Rattle.doc_readers.proofs.ColumnLemmas.{column_past, column_read}
 use Rattle.recalc.proofs.Progress.{each_all, each_next}
@@ -21,6 +22,7 @@ loop-column-preserved g c =
           (column_read s t c.loop-column.index c.in-Some.column.now c.in-Some.ensures.told) c.in_ok-push_where.ensures.pushed c.loop-column.invariant.each;
       only = only_next (λ d. bytes_eq d.table t) c.args.cells.now.items c.loop-column.cells.items c.push_where.new.cells.items c.loop-column.invariant.only
           (λ d is isnt. (and_parts (bytes_eq d.table t) (bytes_eq d.column c.in-Some.column.now.id) (c.in_ok-push_where.ensures.only d is isnt)).0);
+      rows = only_next (λ d. has c.args.rows.now d.row) c.args.cells.now.items c.loop-column.cells.items c.push_where.new.cells.items c.loop-column.invariant.rows c.in_ok-push_where.ensures.rows;
     }
 
 pub returns-clause-pushed : goal.returns-clause-pushed

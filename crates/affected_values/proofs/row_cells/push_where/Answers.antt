@@ -1,5 +1,5 @@
 use Rattle.recalc.proofs.Turns.{on_ok}
-use Rattle.affected_values.proofs.RowCellLemmas.{pushed_only, pushed_stays, pushed_there}
+use Rattle.affected_values.proofs.RowCellLemmas.{pushed_only, pushed_rows, pushed_stays, pushed_there}
 use Rattle.affected_values.proofs.row_cells.push_where.Goals as goal
 
 pub returns-clause-stays : goal.returns-clause-stays
@@ -13,3 +13,7 @@ returns-clause-pushed c =
 pub returns-clause-only : goal.returns-clause-only
 returns-clause-only c =
     on_ok _ _ c.push_column_cells.result (pushed_only c.args.cells.now.items c.push_column_cells.new.cells.items c.args.table.now c.args.column.now.id c.args.rows.now) c.push_column_cells.ensures
+
+pub returns-clause-rows : goal.returns-clause-rows
+returns-clause-rows c =
+    on_ok _ _ c.push_column_cells.result (pushed_rows c.args.cells.now.items c.push_column_cells.new.cells.items c.args.table.now c.args.column.now.id c.args.rows.now) c.push_column_cells.ensures

@@ -1,2 +1,4 @@
-pub mod UpdateLemmas
+mod AlteredLemmas
 mod MovedLemmas
+pub mod SpentLemmas
+pub mod UpdateLemmas

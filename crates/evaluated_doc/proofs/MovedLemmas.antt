@@ -11,6 +11,7 @@ use Rattle.doc_model.specs.Column.{column_id, start_of}
 use Rattle.doc_model.specs.Document.{Document, Table, on_grid, table_id, with_table}
 use Rattle.doc_model.specs.Grid.{Grid}
 use Rattle.doc_model.specs.Records.{add_rows, remove_rows}
+use Rattle.doc_model.specs.Rows.{without}
 use Rattle.doc_model.specs.Schema.{no_grid}
 use Rattle.doc_readers.specs.Parts.{grid_at}
 use Rattle.doc_model.specs.DocumentLaws.{IsWhole}
@@ -54,64 +55,73 @@ moved_records (ModifyColumn u c i) t h = absurd (none_some t h)
 
 -- ---- columns, which stay
 
-abbrev columns_of : Option Table → List ColDef
-columns_of None = []
-columns_of (Some u) = u.grid.columns
+-- what is told of the grid of a table, where it is there
+module _ {X : Type 0} (part : Grid ColDef → X) (none : X) where
+  abbrev part_of : Option Table → X
+  part_of None = none
+  part_of (Some u) = part u.grid
 
-at_grid : (s : Document) (t : List ℕ) → (grid_at s t).columns ≡ columns_of (find_id table_id t s)
-at_grid s t = by (find_id table_id t s)
-  where
-    by : (o : Option Table) → (elim o as (λ _. Grid ColDef) [ None ↦ no_grid | Some u ↦ u.grid ]).columns ≡ columns_of o
-    by None = refl
-    by (Some u) = refl
+  -- of a table whose grid is changed
+  part_mapped : (t : List ℕ) (f : Grid ColDef → Grid ColDef) (R : X → X) → ((g : Grid ColDef) → part (f g) ≡ R (part g)) → R none ≡ none → (s : Document)
+      → part_of (find_id table_id t (with_table t (on_grid f) s)) ≡ R (part_of (find_id table_id t s))
+  part_mapped t f R h empty [] = sym empty
+  part_mapped t f R h empty (x ∷ s) = by (part_mapped t f R h empty s) (bytes_eq x.id t) refl
+    where
+      by : part_of (find_id table_id t (with_table t (on_grid f) s)) ≡ R (part_of (find_id table_id t s)) → (b : Bool) → bytes_eq x.id t ≡ b
+          → part_of (find_id table_id t (cond (bytes_eq x.id t) (on_grid f x) x ∷ with_table t (on_grid f) s)) ≡ R (part_of (cond (bytes_eq x.id t) (Some x) (find_id table_id t s)))
+      by later true is =
+          ap (λ b. part_of (find_id table_id t (cond b (on_grid f x) x ∷ with_table t (on_grid f) s))) is
+          ∙ ap (λ b. part_of (cond b (Some (on_grid f x)) (find_id table_id t (with_table t (on_grid f) s)))) is
+          ∙ h x.grid
+          ∙ sym (ap (λ b. R (part_of (cond b (Some x) (find_id table_id t s)))) is)
+      by later false is =
+          ap (λ b. part_of (find_id table_id t (cond b (on_grid f x) x ∷ with_table t (on_grid f) s))) is
+          ∙ ap (λ b. part_of (cond b (Some x) (find_id table_id t (with_table t (on_grid f) s)))) is
+          ∙ later
+          ∙ sym (ap (λ b. R (part_of (cond b (Some x) (find_id table_id t s)))) is)
 
-columns_mapped : (t : List ℕ) (f : Grid ColDef → Grid ColDef) → ((g : Grid ColDef) → (f g).columns ≡ g.columns) → (s : Document) → columns_of (find_id table_id t (with_table t (on_grid f) s)) ≡ columns_of (find_id table_id t s)
-columns_mapped t f h [] = refl
-columns_mapped t f h (x ∷ s) = by (columns_mapped t f h s) (bytes_eq x.id t) refl
-  where
-    by : columns_of (find_id table_id t (with_table t (on_grid f) s)) ≡ columns_of (find_id table_id t s) → (b : Bool) → bytes_eq x.id t ≡ b
-        → columns_of (find_id table_id t (cond (bytes_eq x.id t) (on_grid f x) x ∷ with_table t (on_grid f) s)) ≡ columns_of (cond (bytes_eq x.id t) (Some x) (find_id table_id t s))
-    by later true is =
-        ap (λ b. columns_of (find_id table_id t (cond b (on_grid f x) x ∷ with_table t (on_grid f) s))) is
-        ∙ ap (λ b. columns_of (cond b (Some (on_grid f x)) (find_id table_id t (with_table t (on_grid f) s)))) is
-        ∙ h x.grid
-        ∙ sym (ap (λ b. columns_of (cond b (Some x) (find_id table_id t s))) is)
-    by later false is =
-        ap (λ b. columns_of (find_id table_id t (cond b (on_grid f x) x ∷ with_table t (on_grid f) s))) is
-        ∙ ap (λ b. columns_of (cond b (Some x) (find_id table_id t (with_table t (on_grid f) s)))) is
-        ∙ later
-        ∙ sym (ap (λ b. columns_of (cond b (Some x) (find_id table_id t s))) is)
+  at_grid : (s : Document) (t : List ℕ) → part no_grid ≡ none → part (grid_at s t) ≡ part_of (find_id table_id t s)
+  at_grid s t empty = by (find_id table_id t s)
+    where
+      by : (o : Option Table) → part (elim o as (λ _. Grid ColDef) [ None ↦ no_grid | Some u ↦ u.grid ]) ≡ part_of o
+      by None = empty
+      by (Some u) = refl
 
-kept_or : (s next : Document) (t : List ℕ) (b : Bool) → columns_of (find_id table_id t next) ≡ columns_of (find_id table_id t s) → columns_of (find_id table_id t (cond b next s)) ≡ columns_of (find_id table_id t s)
-kept_or s next t true h = h
-kept_or s next t false h = refl
+  -- over an action that is done to the grid of one table where it is valid
+  part_moved : (s : Document) (a : DocAction) (t : List ℕ) (f : Grid ColDef → Grid ColDef) (R : X → X) → ((g : Grid ColDef) → part (f g) ≡ R (part g)) → R none ≡ none → part no_grid ≡ none
+      → apply s a ≡ with_table t (on_grid f) s → part (grid_at (apply s a) t) ≡ R (part (grid_at s t))
+  part_moved s a t f R h still empty done =
+      at_grid (apply s a) t empty ∙ ap (λ d. part_of (find_id table_id t d)) done ∙ part_mapped t f R h still s ∙ sym (ap R (at_grid s t empty))
 
 some_same : (x y : List ℕ) → Some x ≡ Some y → x ≡ y
 some_same x y e = cc
 
 -- rows come or go under the columns that there were
-pub columns_moved : (s : Document) (a : DocAction) (t : List ℕ) → moved_table a ≡ Some t → (grid_at (apply s a) t).columns ≡ (grid_at s t).columns
-columns_moved s a t moved = at_grid (apply s a) t ∙ by a moved ∙ sym (at_grid s t)
-  where
-    by : (a : DocAction) → moved_table a ≡ Some t → columns_of (find_id table_id t (apply s a)) ≡ columns_of (find_id table_id t s)
-    by (BulkAdd u rows ks) h =
-        subst (λ n. columns_of (find_id table_id n (apply s (BulkAdd u rows ks))) ≡ columns_of (find_id table_id n s)) (some_same u t h)
-        (kept_or s (with_table u (on_grid (add_rows column_id start_of rows ks)) s) u (valid s (BulkAdd u rows ks)) (columns_mapped u (add_rows column_id start_of rows ks) (λ g. refl) s))
-    by (BulkRemove u rows) h =
-        subst (λ n. columns_of (find_id table_id n (apply s (BulkRemove u rows))) ≡ columns_of (find_id table_id n s)) (some_same u t h)
-        (kept_or s (with_table u (on_grid (remove_rows column_id rows)) s) u (valid s (BulkRemove u rows)) (columns_mapped u (remove_rows column_id rows) (λ g. refl) s))
-    by (BulkUpdate u rows ks) h = absurd (none_some t h)
-    by (AddTable u r cs) h = absurd (none_some t h)
-    by (RemoveTable u) h = absurd (none_some t h)
-    by (RenameTable u n) h = absurd (none_some t h)
-    by (AddColumn u d) h = absurd (none_some t h)
-    by (RemoveColumn u c) h = absurd (none_some t h)
-    by (RenameColumn u c n) h = absurd (none_some t h)
-    by (ModifyColumn u c i) h = absurd (none_some t h)
+pub columns_moved : (s : Document) (a : DocAction) (t : List ℕ) → valid s a ≡ true → moved_table a ≡ Some t → (grid_at (apply s a) t).columns ≡ (grid_at s t).columns
+columns_moved s (BulkAdd u rows ks) t ok h =
+    part_moved (λ (g : Grid ColDef). g.columns) [] s (BulkAdd u rows ks) t (add_rows column_id start_of rows ks) (λ cs. cs) (λ g. refl) refl refl
+    (ap (λ b. cond b (with_table u (on_grid (add_rows column_id start_of rows ks)) s) s) ok ∙ ap (λ n. with_table n (on_grid (add_rows column_id start_of rows ks)) s) (some_same u t h))
+columns_moved s (BulkRemove u rows) t ok h =
+    part_moved (λ (g : Grid ColDef). g.columns) [] s (BulkRemove u rows) t (remove_rows column_id rows) (λ cs. cs) (λ g. refl) refl refl
+    (ap (λ b. cond b (with_table u (on_grid (remove_rows column_id rows)) s) s) ok ∙ ap (λ n. with_table n (on_grid (remove_rows column_id rows)) s) (some_same u t h))
+columns_moved s (BulkUpdate u rows ks) t ok h = absurd (none_some t h)
+columns_moved s (AddTable u r cs) t ok h = absurd (none_some t h)
+columns_moved s (RemoveTable u) t ok h = absurd (none_some t h)
+columns_moved s (RenameTable u n) t ok h = absurd (none_some t h)
+columns_moved s (AddColumn u d) t ok h = absurd (none_some t h)
+columns_moved s (RemoveColumn u c) t ok h = absurd (none_some t h)
+columns_moved s (RenameColumn u c n) t ok h = absurd (none_some t h)
+columns_moved s (ModifyColumn u c i) t ok h = absurd (none_some t h)
+
+-- rows that go leave the others
+pub rows_removed : (s : Document) (u rows t : List ℕ) → valid s (BulkRemove u rows) ≡ true → Some u ≡ Some t → (grid_at (apply s (BulkRemove u rows)) t).rows ≡ without rows (grid_at s t).rows
+rows_removed s u rows t ok h =
+    part_moved (λ (g : Grid ColDef). g.rows) [] s (BulkRemove u rows) t (remove_rows column_id rows) (without rows) (λ g. refl) refl refl
+    (ap (λ b. cond b (with_table u (on_grid (remove_rows column_id rows)) s) s) ok ∙ ap (λ n. with_table n (on_grid (remove_rows column_id rows)) s) (some_same u t h))
 
 module _ (s next : Document) (a : DocAction) (t rows : List ℕ) (x : Moved) (ok : valid s a ≡ true) (moved : moved_table a ≡ Some t) (done : next ≡ apply s a) where
   columns_same : (grid_at s t).columns ≡ (grid_at next t).columns
-  columns_same = sym (ap (λ d. (grid_at d t).columns) done ∙ columns_moved s a t moved)
+  columns_same = sym (ap (λ d. (grid_at d t).columns) done ∙ columns_moved s a t ok moved)
 
   -- the graph is right of each cell but the found ones and those of the rows
   pub known_but : ReadsOverLaw → (known : Beside) (cells : List CellId) → IsMoved known.graph a s t rows x
@@ -126,7 +136,7 @@ module _ (s next : Document) (a : DocAction) (t rows : List ℕ) (x : Moved) (ok
   reads_before law graph these is =
       let has : HasCellsWith (grid_at s t).columns t (moved_rows a) x.stale.items = subst (λ rs. HasCellsWith (grid_at s t).columns t rs x.stale.items) (sym these) is.moved in
       subst (λ d. ReadsSameAfter d s x.stale.items) (sym done)
-      (law s a t graph x.found x.stale.items moved ok is.keeps is.stale (has s refl) (has (apply s a) (columns_moved s a t moved)))
+      (law s a t graph x.found x.stale.items moved ok is.keeps is.stale (has s refl) (has (apply s a) (columns_moved s a t ok moved)))
 
 -- ---- rows that were put
 

@@ -3,6 +3,7 @@ use Rattle.std.proofs.Common.{ℕ, true, false, cond, filter, ◌||◌, List, []
 use Rattle.std.proofs.lemmas.Bool.{false≢true, true≢false}
 use Rattle.std.specs.Option.{is_some}
 use Rattle.cell_types.specs.declared.cell.CellId.{CellId}
+use Rattle.cell_types.specs.declared.cell.CellOld.{CellOld}
 use Rattle.doc_model.specs.declared.action.DocAction.{DocAction}
 use Rattle.doc_model.specs.declared.action.DocAction.TheVariants.{AddColumn, AddTable, BulkAdd, BulkRemove, BulkUpdate, ModifyColumn, RemoveColumn, RemoveTable, RenameColumn, RenameTable}
 use Rattle.doc_model.specs.declared.column.CellColumn.{CellColumn}
@@ -17,7 +18,7 @@ use Rattle.recalc.specs.Current.{IsCurrent, has_formula, has_formulas}
 use Rattle.recalc.specs.Evaluated.{filled, formula_at}
 use Rattle.recalc.specs.Kept.{IsEvaluated, IsKeptOf, held_at}
 use Rattle.recalc.specs.Lost.{all_cells, is_lost, lost}
-use Rattle.recalc.specs.MayLose.{is_record}
+use Rattle.recalc.specs.MayLose.{MayLoseLaw, is_record, may_lose}
 use Rattle.recalc.specs.Stack.{on}
 use Rattle.affected_cells.proofs.UpdateTouches.{after, same_columns, same_formula}
 use Rattle.affected_search.specs.Actions.{KeepsOthers}
@@ -53,6 +54,12 @@ pub lost_narrow : NarrowLaw → (s next : Document) (a : DocAction) → valid s 
     → filter (is_lost (filled next) a) (filter (is_narrow graph found (filled s) a) (all_cells (filled s))) ≡ lost s next a
 lost_narrow law s next a ok records done graph found whole keeps =
     subst (λ d. filter (is_lost (filled d) a) (filter (is_narrow graph found (filled s) a) (all_cells (filled s))) ≡ lost s d a) (sym done) (sym (law s a graph found whole ok records keeps))
+
+-- the cells that an action loses are among those that it may lose
+pub lost_watched : MayLoseLaw → (s next : Document) (a : DocAction) → valid s a ≡ true → next ≡ apply s a → IsWhole s → (cells left : List CellOld)
+    → cells ≡ filter (may_lose (filled s) a) (all_cells (filled s)) → left ≡ filter (is_lost (filled next) a) cells → left ≡ lost s next a
+lost_watched law s next a ok done whole cells left watched kept =
+    kept ∙ ap (filter (is_lost (filled next) a)) watched ∙ subst (λ d. filter (is_lost (filled d) a) (filter (may_lose (filled s) a) (all_cells (filled s))) ≡ lost s d a) (sym done) (sym (law s a whole ok))
 
 -- where all cells are stale, nothing is said of the graph
 pub none_known : (s : Document) (known : Beside) → known.are_all_stale ≡ true → KnowsOthers s known

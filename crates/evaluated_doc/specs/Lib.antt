@@ -1,3 +1,5 @@
+pub mod Altering
 pub mod Moved
+pub mod Spent
 pub mod Update
 pub mod WayBack

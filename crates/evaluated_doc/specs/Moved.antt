@@ -19,14 +19,16 @@ use Rattle.affected_values.specs.RowsOver.{LeadsOverRows}
 use Rattle.known_reads.specs.Beside.{Beside, KnowsOthers}
 use Rattle.known_reads.specs.Moved.{ReadsSameAfter}
 use Rattle.evaluated_doc.specs.declared.moving.Moved.{Moved}
+use Rattle.evaluated_doc.specs.Spent.{AreAffected}
 
--- the found cells of a search, by which all others keep values and notes, also by name, and with
--- the cells of the formula columns of a table in these rows; and the rows that the table has, which
--- ascend
+-- the found cells of a search, by which all others keep values and notes, also by name, and no
+-- others but those that the action may affect, and with the cells of the formula columns of a table
+-- in these rows; and the rows that the table has, which ascend
 pub record IsMoved (graph : Graph) (a : DocAction) (s : Document) (t rows : List ℕ) (x : Moved) :
     Type 0 where
   pub keeps : KeepsOthers s graph a x.found
   pub noted : (c : CellId) → is_found graph x.found c ≡ true → on x.noted.items c ≡ true
+  pub only : AreAffected s a x.noted.items
   pub stale : (c : CellId) → is_found graph x.found c ≡ true → on x.stale.items c ≡ true
   pub moved : HasCellsWith (grid_at s t).columns t rows x.stale.items
   pub were : x.rows.items ≡ (grid_at s t).rows

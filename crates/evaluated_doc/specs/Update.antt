@@ -15,6 +15,7 @@ use Rattle.affected_values.specs.declared.taking.HeldValue.{HeldValue}
 use Rattle.affected_values.specs.WaysBack.{LeadsOver}
 use Rattle.known_reads.specs.Beside.{ReadsSameBut}
 use Rattle.evaluated_doc.specs.declared.updating.Affected.{Affected}
+use Rattle.evaluated_doc.specs.Spent.{AreAffected}
 
 -- whether the action is an update
 abbrev pub is_update : DocAction → Bool
@@ -28,10 +29,12 @@ pub record HasFound (s : Document) (graph : Graph) (a : DocAction) (cells : List
   pub keeps : KeepsOthers s graph a found
   pub named : (c : CellId) → is_found graph found c ≡ true → on cells c ≡ true
 
--- the found cells, two lists with them by name, and room for what is taken of the first
+-- the found cells, two lists with them by name, of which the first has no others but those that the
+-- action may affect, and room for what is taken of it
 pub record IsAffected (s : Document) (graph : Graph) (a : DocAction) (x : Affected) : Type 0 where
   pub found : KeepsOthers s graph a x.found
   pub cells : HasFound s graph a x.cells.items
+  pub only : AreAffected s a x.cells.items
   pub stale : HasFound s graph a x.stale.items
   pub empty : x.room.items ≡ []
   pub room : length x.cells.items ≤ vec_capacity x.room

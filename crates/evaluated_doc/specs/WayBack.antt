@@ -1,12 +1,14 @@
 -- What a change did, and what leads back.
-use Rattle.std.specs.Prelude.{List}
+use Rattle.std.specs.Prelude.{Bool, true, false, List}
 use Rattle.std.specs.Option.{option_map}
 use Rattle.cell_types.specs.declared.cell.CellOld.{CellOld}
 use Rattle.doc_model.specs.Document.{Document}
 use Rattle.doc_model.specs.DocumentLaws.{IsWhole}
 use Rattle.recalc.specs.Current.{IsCurrent}
+use Rattle.recalc.specs.Kept.{IsEvaluated}
+use Rattle.known_reads.specs.Moved.{ReadsSameAfter}
 use Rattle.evaluated_doc.specs.declared.trace.Before.{Before}
-use Rattle.evaluated_doc.specs.declared.trace.Before.TheVariants.{Rows, Update, Whole}
+use Rattle.evaluated_doc.specs.declared.trace.Before.TheVariants.{Altered, Rows, Update, Whole}
 use Rattle.evaluated_doc.specs.Moved.{LeadsFromRows}
 use Rattle.evaluated_doc.specs.Update.{LeadsFrom}
 
@@ -23,6 +25,13 @@ abbrev pub HasBefore : Document → Document → Before → Type 0
 HasBefore s now (Whole kept) = IsCurrent s (option_map (λ v. v.items) kept)
 HasBefore s now (Update taken stale) = LeadsFrom s now taken.items stale.items
 HasBefore s now (Rows taken aside stale) = LeadsFromRows s now taken.items aside stale.items
+HasBefore s now (Altered kept stale) =
+    IsEvaluated s kept.items × ReadsSameAfter now s stale.items
+
+-- whether all values before are kept, since all cells were evaluated
+abbrev pub is_whole : Before → Bool
+is_whole (Whole kept) = true
+is_whole _ = false
 
 module _ {Back : Type 0} (fits : Back → Document → Type 0)
     (undone : Back → Document → Document) where

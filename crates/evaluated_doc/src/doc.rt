@@ -1,6 +1,6 @@
 //! A document with its formula cells evaluated.
 
-ghost use Rattle.std.specs.Prelude.{true, ◌≡◌, ◌<◌, ◌↔◌, false, Err, List, None, Some, IfOk, OnOk, OnErr, MatchOption};
+ghost use Rattle.std.specs.Prelude.{true, ℕ, ◌≡◌, ◌<◌, ◌↔◌, false, Err, List, None, Some, IfOk, OnOk, OnErr, MatchOption};
 ghost use Rattle.std.specs.Option.{option_copied, option_map};
 ghost use Rattle.cell_types.specs.declared.cell.CellId.{CellId};
 ghost use Rattle.doc_model.specs.Apply.{apply};
@@ -13,16 +13,19 @@ ghost use Rattle.recalc.specs.Current.{IsCurrent};
 ghost use Rattle.recalc.specs.Evaluated.{filled};
 ghost use Rattle.recalc.specs.Kept.{IsEvaluated};
 ghost use Rattle.recalc.specs.Lost.{lost};
+ghost use Rattle.recalc.specs.MayLose.{is_record};
 ghost use Rattle.recalc.specs.Seen.{value_told};
 ghost use Rattle.affected_values.specs.Carried.{moved_rows, moved_table};
+ghost use Rattle.evaluated_doc.specs.Spent.{HasSpent};
 ghost use Rattle.evaluated_doc.specs.Update.{LeadsFrom, is_update};
 ghost use Rattle.evaluated_doc.specs.WayBack.{IsWayBack};
 ghost use Rattle.evaluated_doc.specs.declared.doc.ChangeFault.TheVariants.{Invalid};
 
+use crate::altering::{find_altered, refresh_altered};
 use crate::indexing::{give_up, take_indexes};
-use crate::moving::{few_moved, find_moved, go_back_over, refresh_moved};
+use crate::moving::{find_moved, go_back_over, moved_by, refresh_moved};
 use crate::trace::{Before, Trace};
-use crate::updating::{find_affected, is_narrow, is_of_schema};
+use crate::updating::{find_affected, is_update, note_whole};
 use affected_search::{narrow_cells, narrow_law};
 use affected_values::{HeldValue, enter_indexes, leads_over_law, put_values_back, way_back_law};
 use cell_types::{CellValue, Name};
@@ -123,6 +126,8 @@ impl<D: DocTables> Doc<D> {
             (λ trace. D.undone trace.back (D.document self.new) ≡ D.document self.old) }
         ensures err { OnErr result (D.document self.new ≡ D.document self.old) }
         ensures whole { IsWhole (D.document self.new) }
+        ensures spent { IfOk result (λ trace. (old new : ℕ)
+            → HasSpent (D.document self.old) action.now trace.before old new) }
     {
         kept_law();
         stays_plain_law();
@@ -137,10 +142,7 @@ impl<D: DocTables> Doc<D> {
             return Err(AllocError);
         };
         let kept = mem::replace(&mut self.kept, fresh);
-        self.reads.note_all();
-        if is_of_schema(action) {
-            self.reads.try_again();
-        }
+        note_whole(&mut self.reads, action);
         keep_lost(self, action, &mut cells);
         Ok(Trace {
             cells,
@@ -149,26 +151,16 @@ impl<D: DocTables> Doc<D> {
         })
     }
 
-    // Whether it pays to find what the action affects.
-    fn is_narrow(&self, action: &DocAction) -> bool
-        ensures { result ≡ true → is_update action.now ≡ true }
-    {
-        self.kept.is_some() && !self.reads.is_wide() && is_narrow(&self.tables, action)
-    }
-
     // Does a valid update where values are kept, and evaluates what it affects, in a count of
     // attempts of its own; the whole document, where too much is read for this to be found.
     fn put_update<L: Ledger>(
         &mut self,
         alloc: Global,
         action: &DocAction,
-        blank: Blank,
+        steps: &mut Steps<L>,
     ) -> Result<Trace<D>, AllocError>
         requires valid { valid (D.document self.old) action.now ≡ true }
         requires update { is_update action.now ≡ true }
-        requires name { blank.name ≡ L.name }
-        requires parts { blank.parts ≡ L.parts }
-        requires some { 0 < L.parts }
         ensures ok { OnOk result
             (D.document self.new ≡ apply (D.document self.old) action.now) }
         ensures cells { IfOk result (λ trace. trace.cells
@@ -179,6 +171,8 @@ impl<D: DocTables> Doc<D> {
             (λ trace. D.undone trace.back (D.document self.new) ≡ D.document self.old) }
         ensures err { OnErr result (D.document self.new ≡ D.document self.old) }
         ensures whole { IsWhole (D.document self.new) }
+        ensures spent { IfOk result (λ trace. HasSpent (D.document self.old) action.now trace.before
+            steps.old steps.new) }
     {
         kept_law();
         narrow_law();
@@ -205,8 +199,7 @@ impl<D: DocTables> Doc<D> {
         let tables = &self.tables;
         let reads = &mut self.reads;
         let known = &mut indexes;
-        let mut steps = Steps::<L>::new(blank);
-        let done = refresh_recording(alloc, tables, kept, known, reads, named, room, &mut steps);
+        let done = refresh_recording(alloc, tables, kept, known, reads, named, room, steps);
         let Ok(taken) = done else {
             self.tables.take_back(undo);
             return Err(AllocError);
@@ -228,11 +221,8 @@ impl<D: DocTables> Doc<D> {
         action: &DocAction,
         table: &Name,
         rows: &[u32],
-        blank: Blank,
+        steps: &mut Steps<L>,
     ) -> Result<Trace<D>, AllocError>
-        requires name { blank.name ≡ L.name }
-        requires parts { blank.parts ≡ L.parts }
-        requires some { 0 < L.parts }
         requires valid { valid (D.document self.old) action.now ≡ true }
         requires table { moved_table action.now ≡ Some table.now }
         requires rows { moved_rows action.now ≡ rows.now }
@@ -246,6 +236,8 @@ impl<D: DocTables> Doc<D> {
             (λ trace. D.undone trace.back (D.document self.new) ≡ D.document self.old) }
         ensures err { OnErr result (D.document self.new ≡ D.document self.old) }
         ensures whole { IsWhole (D.document self.new) }
+        ensures spent { IfOk result (λ trace. HasSpent (D.document self.old) action.now trace.before
+            steps.old steps.new) }
     {
         kept_law();
         narrow_law();
@@ -271,10 +263,7 @@ impl<D: DocTables> Doc<D> {
         let tables = &self.tables;
         let reads = &mut self.reads;
         let known = &mut indexes;
-        let mut steps = Steps::<L>::new(blank);
-        let done = refresh_moved(
-            alloc, tables, kept, known, reads, moved, table, rows, &mut steps,
-        );
+        let done = refresh_moved(alloc, tables, kept, known, reads, moved, table, rows, steps);
         let Ok(before) = done else {
             self.tables.take_back(undo);
             return Err(AllocError);
@@ -288,20 +277,142 @@ impl<D: DocTables> Doc<D> {
         })
     }
 
-    /// Does an action that is valid, and evaluates the document after it.
+    // Does a valid action on no records where values are kept, and evaluates what it affects and
+    // alters, in a count of attempts of its own; the whole document, where too much is read for
+    // this to be found.
+    fn put_altered<L: Ledger>(
+        &mut self,
+        alloc: Global,
+        action: &DocAction,
+        steps: &mut Steps<L>,
+    ) -> Result<Trace<D>, AllocError>
+        requires valid { valid (D.document self.old) action.now ≡ true }
+        requires schema { is_record action.now ≡ false }
+        ensures ok { OnOk result
+            (D.document self.new ≡ apply (D.document self.old) action.now) }
+        ensures cells { IfOk result (λ trace. trace.cells
+            ≡ lost (D.document self.old) (D.document self.new) action.now) }
+        ensures way { IfOk result
+            (λ trace. IsWayBack D.fits D.undone trace (D.document self.new)) }
+        ensures back { IfOk result
+            (λ trace. D.undone trace.back (D.document self.new) ≡ D.document self.old) }
+        ensures err { OnErr result (D.document self.new ≡ D.document self.old) }
+        ensures whole { IsWhole (D.document self.new) }
+        ensures spent { IfOk result (λ trace. HasSpent (D.document self.old) action.now trace.before
+            steps.old steps.new) }
+    {
+        kept_law();
+        may_lose_law();
+        let Some(kept) = &self.kept else {
+            return self.put_whole(alloc, action);
+        };
+        let mut indexes = take_indexes(alloc, &mut self.indexes);
+        let known = &mut indexes;
+        let found = find_altered(alloc, &self.tables, kept, &mut self.reads, known, action);
+        let altered = match found {
+            Ok(altered) => altered,
+            Err(ReadsFault::TooMany) => return self.put_whole(alloc, action),
+            Err(ReadsFault::NoMemory) => return Err(AllocError),
+        };
+        let mut cells = watched_cells(alloc, self, action, false)?;
+        let undo = self.tables.put(action)?;
+        let Some(kept) = &mut self.kept else {
+            unreachable!();
+        };
+        let tables = &self.tables;
+        let reads = &mut self.reads;
+        let known = &mut self.indexes;
+        let done = refresh_altered(alloc, tables, kept, known, reads, altered, action, steps);
+        let Ok(before) = done else {
+            self.tables.take_back(undo);
+            return Err(AllocError);
+        };
+        keep_lost(self, action, &mut cells);
+        Ok(Trace {
+            cells,
+            back: undo,
+            before,
+        })
+    }
+
+    /// Does an action that is valid, and evaluates the document after it. It counts its attempts at
+    /// formula cells, but for those that record what stale cells read: unless it evaluates the
+    /// whole document (`Trace::is_whole`), they are at most as many as it takes to evaluate what
+    /// the action may affect.
     ///
     /// Errors: out of memory; the document is then as it was.
     /// Memory: the store's, and a copy of the cells that may be lost: those of formula columns, and
     /// of data columns those that a record action writes or removes, or all of the table of a
-    /// schema action. Where a column has a formula or is given one, as to start. An update of few
-    /// rows takes that of what it affects and writes, what the graph of reads takes of that and of
-    /// stale cells, and an index of each data column by which these look rows up, where it has
-    /// none. So do few rows that come or go, with a place for each formula cell of their table. Any
-    /// other change gives the indexes up.
-    /// Cost: where no column has a formula, a record action looks at its own table and rows alone;
-    /// an update of few rows looks at each column, and at the rows that it affects and writes,
-    /// unless formulas read more than is recorded; so do few rows that come or go, which look also
-    /// at each row of their table.
+    /// schema action. Where a column has a formula, a change takes that of what it affects and
+    /// writes, what the graph of reads takes of that and of stale cells, and an index of each data
+    /// column by which these look rows up, where it has none; rows that come or go take a place for
+    /// each formula cell of their table, a schema action a copy of all values. A schema action
+    /// gives the indexes up.
+    /// Cost: where no column has a formula, a record action looks at its own table and rows alone.
+    /// Else an update looks at each column, and at the rows that it affects and writes, unless
+    /// formulas read more than is recorded; rows that come or go look also at each row of their
+    /// table, a schema action at each formula cell and each read that is recorded.
+    pub fn put_counted<L: Ledger>(
+        &mut self,
+        alloc: Global,
+        action: &DocAction,
+        steps: &mut Steps<L>,
+    ) -> Result<Trace<D>, AllocError>
+        requires { valid (D.document self.old) action.now ≡ true }
+        ensures ok { OnOk result
+            (D.document self.new ≡ apply (D.document self.old) action.now) }
+        ensures cells { IfOk result (λ trace. trace.cells
+            ≡ lost (D.document self.old) (D.document self.new) action.now) }
+        ensures way { IfOk result
+            (λ trace. IsWayBack D.fits D.undone trace (D.document self.new)) }
+        ensures back { IfOk result
+            (λ trace. D.undone trace.back (D.document self.new) ≡ D.document self.old) }
+        ensures err { OnErr result (D.document self.new ≡ D.document self.old) }
+        ensures whole { IsWhole (D.document self.new) }
+        ensures spent { IfOk result (λ trace. HasSpent (D.document self.old) action.now trace.before
+            steps.old steps.new) }
+    {
+        if self.kept.is_none() || self.reads.is_wide() {
+            return self.put_whole(alloc, action);
+        }
+        if is_update(action) {
+            return self.put_update(alloc, action, steps);
+        }
+        match moved_by(action) {
+            Some((table, rows)) => self.put_rows(alloc, action, table, rows, steps),
+            None => self.put_altered(alloc, action, steps),
+        }
+    }
+
+    // The same, in a count of its own.
+    fn put_alone<L: Ledger>(
+        &mut self,
+        alloc: Global,
+        action: &DocAction,
+        blank: Blank,
+    ) -> Result<Trace<D>, AllocError>
+        requires name { blank.name ≡ L.name }
+        requires parts { blank.parts ≡ L.parts }
+        requires some { 0 < L.parts }
+        requires valid { valid (D.document self.old) action.now ≡ true }
+        ensures ok { OnOk result
+            (D.document self.new ≡ apply (D.document self.old) action.now) }
+        ensures cells { IfOk result (λ trace. trace.cells
+            ≡ lost (D.document self.old) (D.document self.new) action.now) }
+        ensures way { IfOk result
+            (λ trace. IsWayBack D.fits D.undone trace (D.document self.new)) }
+        ensures back { IfOk result
+            (λ trace. D.undone trace.back (D.document self.new) ≡ D.document self.old) }
+        ensures err { OnErr result (D.document self.new ≡ D.document self.old) }
+        ensures whole { IsWhole (D.document self.new) }
+    {
+        let mut steps = Steps::<L>::new(blank);
+        self.put_counted(alloc, action, &mut steps)
+    }
+
+    /// Does an action that is valid, and evaluates the document after it.
+    ///
+    /// Errors, memory and cost: as to `put_counted`.
     pub fn put(&mut self, alloc: Global, action: &DocAction) -> Result<Trace<D>, AllocError>
         requires { valid (D.document self.old) action.now ≡ true }
         ensures ok { OnOk result
@@ -315,15 +426,7 @@ impl<D: DocTables> Doc<D> {
         ensures err { OnErr result (D.document self.new ≡ D.document self.old) }
         ensures whole { IsWhole (D.document self.new) }
     {
-        if self.is_narrow(action) {
-            return self.put_update::<Brand>(alloc, action, Blank::new(1));
-        }
-        if let Some((table, rows)) = few_moved(&self.tables, action) {
-            if self.kept.is_some() && !self.reads.is_wide() {
-                return self.put_rows::<Brand>(alloc, action, table, rows, Blank::new(1));
-            }
-        }
-        self.put_whole(alloc, action)
+        self.put_alone::<Brand>(alloc, action, Blank::new(1))
     }
 
     /// Does a valid action, and evaluates the document after it.
@@ -402,6 +505,12 @@ impl<D: DocTables> Doc<D> {
             } => {
                 go_back_over(&self.tables, &mut self.kept, taken, aside);
                 self.tables.take_back(undo);
+                let reads = &mut self.reads;
+                reads.note_cells(stale);
+            }
+            Before::Altered { kept, stale } => {
+                self.tables.take_back(undo);
+                self.kept = Some(kept);
                 let reads = &mut self.reads;
                 reads.note_cells(stale);
             }

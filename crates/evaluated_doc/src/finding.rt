@@ -5,9 +5,11 @@ ghost use Rattle.doc_model.specs.Valid.{valid};
 ghost use Rattle.recalc.specs.Evaluated.{sheet_of};
 ghost use Rattle.recalc.specs.MayLose.{is_record};
 ghost use Rattle.affected_search.specs.Actions.{KeepsOthers};
+ghost use Rattle.affected_search.specs.ByAction.{FindsAffected};
+ghost use Rattle.affected_search.specs.ExactNotes.{HasNotes};
 ghost use Rattle.affected_search.specs.Noted.{HoldsNotes};
 
-use affected_search::{AffectedCells, affected_by_records, record_reads};
+use affected_search::{AffectedCells, affected_by_records, exact_notes_law, record_reads};
 use dep_graph::DepGraph;
 use doc_model::{DocAction, DocTables};
 use std::alloc::{AllocError, Global};
@@ -29,7 +31,10 @@ pub(crate) fn found_by_records<D: DocTables>(
     ensures same { D.document tables.new ≡ D.document tables.old }
     ensures others { IfOk result (λ cells. HoldsNotes graph.now (sheet_of (D.document tables.old))
         → KeepsOthers (D.document tables.old) graph.now action.now cells) }
+    ensures only { IfOk result (λ cells. HasNotes graph.now (sheet_of (D.document tables.old))
+        → FindsAffected (D.document tables.old) graph.now action.now cells) }
 {
+    exact_notes_law();
     let Some(before) = record_reads(alloc, graph, &*tables, action)? else {
         unreachable!();
     };

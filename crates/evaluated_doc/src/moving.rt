@@ -1,6 +1,6 @@
 //! What rows that come or go affect.
 
-ghost use Rattle.std.specs.Prelude.{◌≡◌, true, List, Some, IfOk, IfSome, OnErr, OnOk};
+ghost use Rattle.std.specs.Prelude.{◌≡◌, ◌+◌, ◌≤◌, true, List, None, Some, IfOk, MatchOption, OnErr, OnOk};
 ghost use Rattle.std.specs.Option.{option_map};
 ghost use Rattle.cell_types.specs.declared.cell.CellId.{CellId};
 ghost use Rattle.doc_model.specs.Document.{Document};
@@ -12,6 +12,7 @@ ghost use Rattle.recalc.specs.Evaluated.{sheet_of};
 ghost use Rattle.recalc.specs.Indexes.{AreIndexes};
 ghost use Rattle.recalc.specs.Kept.{IsEvaluated};
 ghost use Rattle.recalc.specs.Stack.{on};
+ghost use Rattle.affected_cells.specs.Bound.{bound};
 ghost use Rattle.affected_search.specs.Sheets.{is_found};
 ghost use Rattle.affected_values.specs.Carried.{HasCellsWith, moved_rows, moved_table};
 ghost use Rattle.affected_values.specs.Indexing.{AreLeft};
@@ -22,7 +23,6 @@ ghost use Rattle.evaluated_doc.specs.WayBack.{HasBefore};
 use crate::finding::found_by_records;
 use crate::indexing::leave;
 use crate::trace::Before;
-use crate::updating::are_few;
 use affected_search::AffectedCells;
 use affected_values::{
     HeldValue, LaidAside, lay_anew, lay_back, leads_over_rows_law, named_cells, push_row_cells,
@@ -49,33 +49,16 @@ pub(crate) struct Moved {
     pub(crate) rows: Vec<u32>,
 }
 
-fn if_few<'a, D: DocTables>(
-    tables: &D,
-    table: &'a Name,
-    rows: &'a [u32],
-) -> Option<(&'a Name, &'a [u32])>
-    ensures { IfSome result (λ m. (m.0.now ≡ table.now) × (m.1.now ≡ rows.now)) }
-{
-    if are_few(tables, table, rows) {
-        Some((table, rows))
-    } else {
-        None
-    }
-}
-
-/// The table of which few rows come or go by an action, and these rows.
+/// The table of which rows come or go by an action, and these rows.
 ///
 /// Memory: none.
-pub(crate) fn few_moved<'a, D: DocTables>(
-    tables: &D,
-    action: &'a DocAction,
-) -> Option<(&'a Name, &'a [u32])>
-    ensures { IfSome result
+pub(crate) fn moved_by(action: &DocAction) -> Option<(&Name, &[u32])>
+    ensures { MatchOption result (moved_table action.now ≡ None)
         (λ m. (moved_table action.now ≡ Some m.0.now) × (moved_rows action.now ≡ m.1.now)) }
 {
     match action {
         DocAction::BulkAdd { table, rows, .. } | DocAction::BulkRemove { table, rows } => {
-            if_few(tables, table, rows.as_slice())
+            Some((table, rows.as_slice()))
         }
         _ => None,
     }
@@ -192,6 +175,10 @@ pub(crate) fn refresh_moved<D: DocTables, L: Ledger>(
     ensures err { OnErr result ((s : Document)
         → IsMoving s (D.document tables.now) table.now rows.now kept.old.items reads.old moved
         → IsEvaluated s kept.new.items × KnowsOthers s reads.new) }
+    ensures spent { (s : Document)
+        → (is : IsMoving s (D.document tables.now) table.now rows.now kept.old.items reads.old
+        moved)
+        → steps.new ≤ steps.old + bound s is.moved.action }
 {
     right_laid_law();
     leads_over_rows_law();

@@ -1,6 +1,7 @@
 //! What a change did.
 
 ghost use Rattle.std.specs.Prelude.{◌≡◌};
+ghost use Rattle.evaluated_doc.specs.WayBack.{is_whole};
 
 use affected_values::{HeldValue, LaidAside};
 use cell_types::{CellId, CellOld};
@@ -23,6 +24,12 @@ pub enum Before {
     Rows {
         taken: Vec<HeldValue>,
         aside: LaidAside,
+        stale: Vec<CellId>,
+    },
+    /// All values before an action on no records, and the cells that may read something else
+    /// before it.
+    Altered {
+        kept: Vec<KeptTable>,
         stale: Vec<CellId>,
     },
 }
@@ -56,5 +63,14 @@ impl<D: DocTables> Trace<D> {
         ensures { result.now ≡ self.now.cells }
     {
         self.cells.as_slice()
+    }
+
+    /// Whether the change evaluated the whole document.
+    ///
+    /// Memory: none.
+    pub fn is_whole(&self) -> bool
+        ensures { result ≡ is_whole self.now.before }
+    {
+        matches!(&self.before, Before::Whole(_))
     }
 }

@@ -7,6 +7,7 @@ ghost use Rattle.recalc.specs.Evaluated.{sheet_of};
 ghost use Rattle.recalc.specs.Indexes.{AreIndexes};
 ghost use Rattle.recalc.specs.Kept.{IsEvaluated};
 ghost use Rattle.affected_search.specs.Actions.{KeepsOthers};
+ghost use Rattle.affected_search.specs.ByAction.{FindsAffected};
 ghost use Rattle.affected_values.specs.Indexing.{AreLeft};
 ghost use Rattle.known_reads.specs.Beside.{KnowsOthers};
 ghost use Rattle.evaluated_doc.specs.Update.{IsAffected, is_update};
@@ -15,28 +16,12 @@ use crate::finding::found_by_records;
 use crate::indexing::leave;
 use affected_search::AffectedCells;
 use affected_values::{HeldValue, named_cells};
-use cell_types::{CellId, Name};
+use cell_types::CellId;
 use dep_graph::DepGraph;
 use doc_model::{DocAction, DocTables};
-use doc_readers::rows_in;
 use known_reads::{KnownReads, ReadsFault};
 use recalc::{ColumnIndex, KeptTable};
 use std::alloc::{AllocError, Global};
-
-/// How many rows an action writes, adds or removes at most for that which it affects to be found,
-/// where its table is small: one of many rows affects most of it.
-const NARROW_ROWS: usize = 64;
-
-/// Of a large table it is one row of so many.
-const NARROW_SHARE: usize = 8;
-
-/// Whether so few rows of a table are written, or come or go, that it pays to find what this
-/// affects.
-///
-/// Memory: none.
-pub(crate) fn are_few<D: DocTables>(tables: &D, table: &Name, rows: &[u32]) -> bool {
-    rows.len() <= NARROW_ROWS || rows.len() <= rows_in(tables, table).len() / NARROW_SHARE
-}
 
 /// Affected cells: as they were found; to be evaluated anew, with room for what is known of them;
 /// and to be noted as stale by the way back.
@@ -48,26 +33,34 @@ pub(crate) struct Affected {
     pub(crate) stale: Vec<CellId>,
 }
 
-/// Whether it pays to find what an action affects: it is an update of few rows.
+/// Whether an action is an update.
 ///
 /// Memory: none.
-pub(crate) fn is_narrow<D: DocTables>(tables: &D, action: &DocAction) -> bool
-    ensures { result ≡ true → is_update action.now ≡ true }
+pub(crate) fn is_update(action: &DocAction) -> bool
+    ensures { result ≡ is_update action.now }
 {
-    match action {
-        DocAction::BulkUpdate { table, rows, .. } => are_few(tables, table, rows.as_slice()),
-        _ => false,
-    }
+    matches!(action, DocAction::BulkUpdate { .. })
 }
 
-/// Whether an action may change which formulas there are: it is on no records.
-///
-/// Memory: none.
-pub(crate) fn is_of_schema(action: &DocAction) -> bool {
+// Whether an action may change which formulas there are: it is on no records.
+fn is_of_schema(action: &DocAction) -> bool {
     !matches!(
         action,
         DocAction::BulkAdd { .. } | DocAction::BulkUpdate { .. } | DocAction::BulkRemove { .. }
     )
+}
+
+/// Notes all cells as stale after an action over which the whole document was evaluated. Reads that
+/// were too many may be fewer where formulas changed.
+///
+/// Memory: none.
+pub(crate) fn note_whole(reads: &mut KnownReads, action: &DocAction)
+    ensures { reads.new.are_all_stale ≡ true }
+{
+    reads.note_all();
+    if is_of_schema(action) {
+        reads.try_again();
+    }
 }
 
 // The found cells by name.
@@ -78,7 +71,8 @@ fn named<D: DocTables>(
     action: &DocAction,
     found: AffectedCells,
 ) -> Result<Affected, AllocError>
-    requires { KeepsOthers (D.document tables.now) graph.now action.now found }
+    requires others { KeepsOthers (D.document tables.now) graph.now action.now found }
+    requires only { FindsAffected (D.document tables.now) graph.now action.now found }
     ensures { IfOk result (λ x. IsAffected (D.document tables.now) graph.now action.now x) }
 {
     let _tables = tables;

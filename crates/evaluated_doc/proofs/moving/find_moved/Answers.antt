@@ -5,9 +5,12 @@ use Rattle.doc_readers.specs.Parts.{grid_at}
 use Rattle.recalc.specs.Evaluated.{sheet_of}
 use Rattle.recalc.specs.Stack.{on}
 use Rattle.affected_search.specs.Actions.{KeepsOthers}
+use Rattle.affected_search.specs.ByAction.{FindsAffected}
+use Rattle.affected_search.specs.ExactNotes.{HasNotes}
 use Rattle.affected_search.specs.Noted.{HoldsNotes}
 use Rattle.affected_search.specs.Sheets.{is_found}
 use Rattle.affected_values.specs.Carried.{HasCellsWith}
+use Rattle.evaluated_doc.proofs.SpentLemmas.{named_affected}
 use Rattle.evaluated_doc.proofs.moving.find_moved.Goals as goal
 
 pub returns-clause-found : goal.returns-clause-found
@@ -20,10 +23,13 @@ returns-clause-found g c =
     let found = c.in_ok-found.found in
     let same = c.found_by_records.ensures.same in
     let held : HoldsNotes c.graph.result.now (sheet_of s) = subst (λ gr. HoldsNotes gr (sheet_of s)) (sym c.graph.ensures) c.in_ok-make_right.ensures.ok in
+    let has : HasNotes c.graph.result.now (sheet_of s) = subst (λ gr. HasNotes gr (sheet_of s)) (sym c.graph.ensures) c.in_ok-make_right.ensures.exact in
+    let finds : FindsAffected s c.graph-2.result.now a found = subst (λ gr. FindsAffected s gr a found) (c.graph.ensures ∙ sym c.graph-2.ensures) (c.in_ok-found.ensures.only has) in
     let keeps : KeepsOthers s graph a found = subst (λ gr. KeepsOthers s gr a found) c.graph.ensures (c.in_ok-found.ensures.others held) in
     record {
       keeps = subst (λ gr. KeepsOthers s gr a found) (sym c.reserve.ensures.graph) keeps;
       noted = subst (λ gr. (d : CellId) → is_found gr found d ≡ true → on c.in_ok-noted.noted.items d ≡ true) (c.graph-2.ensures ∙ sym c.reserve.ensures.graph) c.in_ok-noted.ensures.found;
+      only = named_affected s a c.graph-2.result.now found c.in_ok-noted.noted.items finds c.in_ok-noted.ensures.only;
       stale = subst (λ gr. (d : CellId) → is_found gr found d ≡ true → on c.in_ok-stale.stale.items d ≡ true) (c.graph-3.ensures ∙ sym c.reserve.ensures.graph) c.in_ok-stale.ensures.named;
       moved = subst (λ d. HasCellsWith (grid_at d t).columns t rows c.in_ok-stale.stale.items) same c.in_ok-stale.ensures.rows;
       were = c.in_ok-rows.ensures.items ∙ c.rows_in.ensures.value ∙ ap (λ d. (grid_at d t).rows) same;

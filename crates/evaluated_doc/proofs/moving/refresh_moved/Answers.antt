@@ -1,6 +1,8 @@
-use Rattle.std.proofs.Common.{sym, subst}
+use Rattle.std.proofs.Common.{◌≡◌, true, sym, subst}
+use Rattle.doc_model.specs.Rows.{has}
 use Rattle.affected_values.specs.Relaid.{IsMovedFrom}
 use Rattle.evaluated_doc.proofs.MovedLemmas.{leads_from, reads_but, right_but}
+use Rattle.evaluated_doc.proofs.SpentLemmas.{rows_affected, spent}
 use Rattle.evaluated_doc.proofs.UpdateLemmas.{none_known}
 use Rattle.evaluated_doc.proofs.moving.refresh_moved.Goals as goal
 
@@ -49,3 +51,17 @@ returns-clause-err g c = λ s is.
           (c.lay_back.ensures s (subst (IsMovedFrom s now) (sym laid.table) is.moved) laid.has_aside c.refresh_recording.ensures.of_document),
       none_known s c.refresh_recording.new.reads c.in-Err.ensures.stale,
     )
+
+pub returns-in-Ok-clause-spent : goal.returns-in-Ok-clause-spent
+returns-in-Ok-clause-spent g c = λ s is.
+    spent s (g.D.DocReader.document c.args.tables.now) is.moved.action c.push_row_cells.new.cells.items c.args.steps.now c.refresh_recording.new.steps is.moved.ok is.moved.done
+    (rows_affected s is.moved.action c.args.table.now c.args.moved.noted.items c.push_row_cells.new.cells.items is.moved.moved is.found.only c.in_ok-push_row_cells.ensures.only
+    (λ d here other. subst (λ rs. has rs d.row ≡ true) (sym is.these) (c.in_ok-push_row_cells.ensures.rows d here other)))
+    c.refresh_recording.ensures.named
+
+pub returns-clause-spent : goal.returns-clause-spent
+returns-clause-spent g c = λ s is.
+    spent s (g.D.DocReader.document c.args.tables.now) is.moved.action c.push_row_cells.new.cells.items c.args.steps.now c.refresh_recording.new.steps is.moved.ok is.moved.done
+    (rows_affected s is.moved.action c.args.table.now c.args.moved.noted.items c.push_row_cells.new.cells.items is.moved.moved is.found.only c.in_ok-push_row_cells.ensures.only
+    (λ d here other. subst (λ rs. has rs d.row ≡ true) (sym is.these) (c.in_ok-push_row_cells.ensures.rows d here other)))
+    c.refresh_recording.ensures.named

@@ -5,10 +5,13 @@ use Rattle.doc_model.specs.DocumentLaws.{IsWhole}
 use Rattle.recalc.specs.declared.kept.KeptTable.{KeptTable}
 use Rattle.recalc.specs.Current.{IsCurrent}
 use Rattle.recalc.specs.Evaluated.{sheet_of}
+use Rattle.recalc.specs.Kept.{IsEvaluated}
 use Rattle.known_reads.specs.Beside.{KnowsOthers}
+use Rattle.known_reads.specs.Moved.{ReadsSameAfter}
 use Rattle.evaluated_doc.specs.Moved.{LeadsFromRows}
 use Rattle.evaluated_doc.specs.Update.{LeadsFrom}
 use Rattle.evaluated_doc.specs.WayBack.{HasBefore, IsWayBack}
+use Rattle.evaluated_doc.proofs.AlteredLemmas.{gone_back_to}
 use Rattle.evaluated_doc.proofs.MovedLemmas.{gone_back_over}
 use Rattle.evaluated_doc.proofs.UpdateLemmas.{gone_back, none_known}
 use Rattle.evaluated_doc.proofs.doc.Doc.go_back.Goals as goal
@@ -49,6 +52,19 @@ invariant_of-self-in-Update g c =
     let right = gone_back s now c.in-Update.taken.items c.in-Update.stale.items led c.stale_law.ensures (g.D.DocReader.document c.take_back-in-Update.new.self) _ c.self.inside.reads c.note_cells.new.self c.take_back-in-Update.ensures whole c.put_back.ensures
     (record { graph = c.note_cells.ensures.graph; stale = c.note_cells.ensures.stale }) c.self.invariant.2 in
     (right.0, right.1, right.2, c.give_up.ensures (sheet_of (g.D.DocReader.document c.take_back-in-Update.new.self)))
+
+pub invariant_of-self-in-Altered : goal.invariant_of-self-in-Altered
+invariant_of-self-in-Altered g c =
+    let back = c.trace.inside.back in
+    let now = g.D.DocReader.document c.self.inside.tables in
+    let s = g.D.DocTables.undone back now in
+    let way : IsWayBack g.D.DocTables.fits g.D.DocTables.undone c.args.trace now = subst (λ d. IsWayBack g.D.DocTables.fits g.D.DocTables.undone c.args.trace (g.D.DocReader.document d)) (sym c.self.view_is) c.requires in
+    let before : HasBefore s now c.trace.inside.before = subst (λ t. HasBefore (g.D.DocTables.undone t.back now) now t.before) (sym c.trace.view_is) way.before in
+    let whole : IsWhole s = subst (λ t. IsWhole (g.D.DocTables.undone t.back now)) (sym c.trace.view_is) way.whole in
+    let led : IsEvaluated s c.in-Altered.kept.items × ReadsSameAfter now s c.in-Altered.stale.items = rw c.in-Altered.is at before in
+    let right = gone_back_to c.noted_law.ensures s now (g.D.DocReader.document c.take_back-in-Altered.new.self) c.in-Altered.stale.items c.in-Altered.kept.items c.self.inside.reads c.note_cells-in-Altered.new.self led.0 led.1 c.take_back-in-Altered.ensures whole
+    (record { graph = c.note_cells-in-Altered.ensures.graph; stale = c.note_cells-in-Altered.ensures.stale }) c.self.invariant.2 in
+    (right.0, right.1, right.2, c.give_up.ensures (sheet_of (g.D.DocReader.document c.take_back-in-Altered.new.self)))
 
 pub invariant_of-self : goal.invariant_of-self
 invariant_of-self g c =

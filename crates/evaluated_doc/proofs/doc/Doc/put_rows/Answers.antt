@@ -13,8 +13,10 @@ use Rattle.recalc.specs.Lost.{all_cells, is_lost, lost}
 use Rattle.affected_search.specs.Narrow.{is_narrow}
 use Rattle.known_reads.specs.Beside.{KnowsOthers}
 use Rattle.evaluated_doc.specs.Moved.{IsMoving}
+use Rattle.evaluated_doc.specs.Spent.{HasSpent}
 use Rattle.evaluated_doc.specs.WayBack.{HasBefore}
 use Rattle.evaluated_doc.proofs.MovedLemmas.{moved_records}
+use Rattle.evaluated_doc.proofs.SpentLemmas.{spent_any}
 use Rattle.evaluated_doc.proofs.UpdateLemmas.{lost_narrow}
 use Rattle.evaluated_doc.proofs.doc.Doc.put_rows.Goals as goal
 
@@ -138,3 +140,21 @@ returns-clause-way g c =
       whole = subst IsWhole (sym (c.in_ok-undo.ensures.back ∙ c.find_moved-found.ensures.same)) c.self.invariant.0;
       before = subst (λ d. HasBefore d next c.in-Ok-done.before) (sym (c.in_ok-undo.ensures.back ∙ c.find_moved-found.ensures.same)) (c.in-Ok-done.ensures.way s moving);
     }
+
+pub returns-clause-spent : goal.returns-clause-spent
+returns-clause-spent g c =
+    let s = g.D.DocReader.document c.self.inside.tables in
+    let next = g.D.DocReader.document c.put.new.self in
+    let a = c.args.action.now in
+    let ok : valid s a ≡ true = subst (λ d. valid (g.D.DocReader.document d) a ≡ true) (sym c.self.view_is) c.requires.valid in
+    let done : next ≡ apply s a = c.in_ok-undo.ensures.done ∙ ap (λ d. apply d a) c.find_moved-found.ensures.same in
+    let before : IsEvaluated s c.in-Some-kept.kept.items = rw c.in-Some-kept.is at c.self.invariant.1 in
+    let moving : IsMoving s next c.args.table.now c.args.rows.now c.in-Some-kept.kept.items c.find_moved-found.new.reads c.in-Ok.moved = record {
+      moved = record { whole = c.self.invariant.0; action = a; moved = c.requires.table; ok = ok; done = done };
+      these = c.requires.rows;
+      found = c.in-Ok.ensures.found;
+      right = before;
+      others = c.find_moved-found.ensures.others;
+    } in
+    subst (λ d. HasSpent (g.D.DocReader.document d) a c.in-Ok-done.before c.args.steps.now c.refresh_moved-done.new.steps) c.self.view_is
+    (spent_any s a c.in-Ok-done.before c.args.steps.now c.refresh_moved-done.new.steps (c.refresh_moved-done.ensures.spent s moving))

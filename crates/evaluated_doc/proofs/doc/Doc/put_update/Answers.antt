@@ -1,4 +1,4 @@
-use Rattle.std.proofs.Common.{◌≡◌, true, filter, sym, ap, ◌∙◌, subst, Vec}
+use Rattle.std.proofs.Common.{◌≡◌, ◌+◌, ◌≤◌, true, filter, sym, ap, ◌∙◌, subst, Vec}
 use Rattle.std.specs.Global.{Global}
 use Rattle.std.specs.Option.{option_map}
 use Rattle.doc_model.specs.Apply.{apply}
@@ -10,9 +10,11 @@ use Rattle.recalc.specs.Evaluated.{filled, sheet_of}
 use Rattle.recalc.specs.Indexes.{AreIndexes}
 use Rattle.recalc.specs.Kept.{IsEvaluated}
 use Rattle.recalc.specs.Lost.{all_cells, is_lost, lost}
+use Rattle.affected_cells.specs.Bound.{bound}
 use Rattle.affected_search.specs.Narrow.{is_narrow}
 use Rattle.known_reads.specs.Beside.{KnowsOthers}
 use Rattle.evaluated_doc.specs.Update.{LeadsFrom}
+use Rattle.evaluated_doc.proofs.SpentLemmas.{spent}
 use Rattle.evaluated_doc.proofs.UpdateLemmas.{known_but, leads, none_known, lost_narrow, of_records, places, restored, right}
 use Rattle.evaluated_doc.proofs.doc.Doc.put_update.Goals as goal
 
@@ -134,3 +136,13 @@ pub invariant_of-self-in_err-undo : goal.invariant_of-self-in_err-undo
 invariant_of-self-in_err-undo g c =
     subst (λ d. IsWhole d × IsCurrent d (option_map (λ (v : Vec KeptTable Global). v.items) c.self.inside.kept) × KnowsOthers d c.find_affected-found.new.reads × AreIndexes (sheet_of d) c.take_indexes-indexes.new.indexes.items) (sym (c.in_err-undo.ensures.err ∙ c.find_affected-found.ensures.same))
     (c.self.invariant.0, c.self.invariant.1, c.find_affected-found.ensures.others, c.take_indexes-indexes.ensures.left (sheet_of (g.D.DocReader.document c.self.inside.tables)))
+
+pub returns-clause-spent : goal.returns-clause-spent
+returns-clause-spent g c =
+    let s = g.D.DocReader.document c.self.inside.tables in
+    let next = g.D.DocReader.document c.put.new.self in
+    let a = c.args.action.now in
+    let ok : valid s a ≡ true = subst (λ d. valid (g.D.DocReader.document d) a ≡ true) (sym c.self.view_is) c.requires.valid in
+    subst (λ d. c.refresh_recording-done.new.steps ≤ c.args.steps.now + bound (g.D.DocReader.document d) a) c.self.view_is
+    (spent s next a c.in-Ok.affected.cells.items c.args.steps.now c.refresh_recording-done.new.steps ok (c.in_ok-undo.ensures.done ∙ ap (λ d. apply d a) c.find_affected-found.ensures.same)
+    c.in-Ok.ensures.found.only c.refresh_recording-done.ensures.named)

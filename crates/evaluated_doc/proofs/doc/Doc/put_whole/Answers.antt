@@ -1,4 +1,4 @@
-use Rattle.std.proofs.Common.{◌≡◌, true, false, sym, ◌∙◌, subst, Option, Vec}
+use Rattle.std.proofs.Common.{◌≡◌, true, false, filter, sym, ◌∙◌, subst, Option, Vec}
 use Rattle.std.specs.Global.{Global}
 use Rattle.std.specs.Option.{option_map}
 use Rattle.doc_model.specs.DocumentLaws.{IsWhole}
@@ -7,9 +7,11 @@ use Rattle.recalc.specs.declared.kept.KeptTable.{KeptTable}
 use Rattle.recalc.specs.Current.{IsCurrent, has_formulas}
 use Rattle.recalc.specs.Evaluated.{filled, sheet_of}
 use Rattle.recalc.specs.Indexes.{AreIndexes}
+use Rattle.recalc.specs.Lost.{all_cells, lost}
+use Rattle.recalc.specs.MayLose.{may_lose}
 use Rattle.recalc.proofs.MayLoseCells.{plain_kept}
 use Rattle.known_reads.specs.Beside.{KnowsOthers}
-use Rattle.evaluated_doc.proofs.UpdateLemmas.{none_known}
+use Rattle.evaluated_doc.proofs.UpdateLemmas.{lost_watched, none_known}
 use Rattle.evaluated_doc.proofs.doc.Doc.put_whole.Goals as goal
 
 pub watched_cells-requires : goal.watched_cells-requires
@@ -23,26 +25,23 @@ invariant_of-self-in_default g c =
     subst (λ d. IsWhole d × IsCurrent d (option_map (λ (v : Vec KeptTable Global). v.items) c.self.inside.kept) × KnowsOthers d c.self.inside.reads × AreIndexes (sheet_of d) c.give_up.new.indexes.items)
     (sym (c.take_back.ensures ∙ c.in_ok-back.ensures.back)) (c.self.invariant.0, c.self.invariant.1, c.self.invariant.2, c.give_up.ensures (sheet_of s))
 
-pub invariant_of-self-then-is_of_schema : goal.invariant_of-self-then-is_of_schema
-invariant_of-self-then-is_of_schema g c =
+pub invariant_of-self-2 : goal.invariant_of-self-2
+invariant_of-self-2 g c =
     let s = g.D.DocReader.document c.self.inside.tables in
     let next = g.D.DocReader.document c.put.new.self in
     let a = c.args.action.now in
     let ok : valid s a ≡ true = subst (λ d. valid (g.D.DocReader.document d) a ≡ true) (sym c.self.view_is) c.requires in (
       subst IsWhole (sym c.in_ok-back.ensures.done) (c.kept_law.ensures s a c.self.invariant.0 ok),
       subst (λ (o : Option (Vec KeptTable Global)). IsCurrent next (option_map (λ (v : Vec KeptTable Global). v.items) o)) (sym c.replace-kept.ensures.after) c.in-Ok.ensures,
-      subst (KnowsOthers next) (sym c.try_again.ensures) (none_known next c.note_all.new.self c.note_all.ensures.all),
+      none_known next c.note_whole.new.reads c.note_whole.ensures,
       c.give_up.ensures (sheet_of next),
     )
 
-pub invariant_of-self-else-is_of_schema : goal.invariant_of-self-else-is_of_schema
-invariant_of-self-else-is_of_schema g c =
+pub returns-clause-cells : goal.returns-clause-cells
+returns-clause-cells g c =
     let s = g.D.DocReader.document c.self.inside.tables in
-    let next = g.D.DocReader.document c.put.new.self in
     let a = c.args.action.now in
-    let ok : valid s a ≡ true = subst (λ d. valid (g.D.DocReader.document d) a ≡ true) (sym c.self.view_is) c.requires in (
-      subst IsWhole (sym c.in_ok-back.ensures.done) (c.kept_law.ensures s a c.self.invariant.0 ok),
-      subst (λ (o : Option (Vec KeptTable Global)). IsCurrent next (option_map (λ (v : Vec KeptTable Global). v.items) o)) (sym c.replace-kept.ensures.after) c.in-Ok.ensures,
-      none_known next c.note_all.new.self c.note_all.ensures.all,
-      c.give_up.ensures (sheet_of next),
-    )
+    let ok : valid s a ≡ true = subst (λ d. valid (g.D.DocReader.document d) a ≡ true) (sym c.self.view_is) c.requires in
+    subst (λ d. c.keep_lost.new.cells.items ≡ lost (g.D.DocReader.document d) (g.D.DocReader.document c.put.new.self) a) c.self.view_is
+    (lost_watched c.may_lose_law.ensures s (g.D.DocReader.document c.put.new.self) a ok c.in_ok-back.ensures.done c.self.invariant.0 c.in_ok-cells.cells.items c.keep_lost.new.cells.items
+    (subst (λ d. c.in_ok-cells.cells.items ≡ filter (may_lose (filled (g.D.DocReader.document d)) a) (all_cells (filled (g.D.DocReader.document d)))) (sym c.self.view_is) c.in_ok-cells.ensures) c.keep_lost.ensures)

@@ -1,0 +1,35 @@
+-- An action on no records in a document of which values are kept.
+use Rattle.std.specs.Prelude.{List}
+use Rattle.cell_types.specs.declared.cell.CellId.{CellId}
+use Rattle.doc_model.specs.declared.action.DocAction.{DocAction}
+use Rattle.doc_model.specs.Document.{Document}
+use Rattle.dep_graph.specs.Graph.{Graph}
+use Rattle.recalc.specs.declared.kept.KeptTable.{KeptTable}
+use Rattle.recalc.specs.Kept.{IsEvaluated}
+use Rattle.affected_values.specs.Altered.{HasAltered, IsAlteredFrom}
+use Rattle.known_reads.specs.Beside.{Beside, KnowsOthers}
+use Rattle.evaluated_doc.specs.declared.altering.Altered.{Altered}
+use Rattle.evaluated_doc.specs.Spent.{AreAffected}
+use Rattle.evaluated_doc.specs.Update.{HasFound}
+
+-- among the cells are the found ones of a search, by which all others keep values and notes, and
+-- the formula cells that the action alters
+pub record HasFoundAltered (s : Document) (graph : Graph) (a : DocAction) (cells : List CellId) :
+    Type 0 where
+  pub found : HasFound s graph a cells
+  pub altered : HasAltered s a cells
+
+-- so it is of both lists; the first has no others but those that the action may affect
+pub record IsAltered (s : Document) (graph : Graph) (a : DocAction) (x : Altered) : Type 0 where
+  pub cells : HasFoundAltered s graph a x.cells.items
+  pub only : AreAffected s a x.cells.items
+  pub stale : HasFoundAltered s graph a x.stale.items
+
+-- the second document is the first one after the action; of the first these values are kept beside
+-- a graph, and of it this was found
+pub record IsAltering (s now : Document) (a : DocAction) (kept : List KeptTable) (known : Beside)
+    (x : Altered) : Type 0 where
+  pub altered : IsAlteredFrom s now a
+  pub found : IsAltered s known.graph a x
+  pub right : IsEvaluated s kept
+  pub others : KnowsOthers s known

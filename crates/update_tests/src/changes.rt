@@ -1,18 +1,22 @@
-//! Random actions on one table: records that come, go and are updated, formulas that change,
-//! columns that come, go and are renamed.
+//! Random actions on a table and one beside it: records that come, go and are updated, formulas and
+//! types that change, columns and the other table that come, go and are renamed.
 //!
 //! The table is `Table1` of a new document: `A` and `B` hold small numbers, `C` lists of them, `R`
-//! refers to records of the table; `F1` to `F9` have formulas. What is drawn need not be valid.
+//! refers to records of the table; `F1` to `F9` have formulas. The other is `Other`, or `Third`:
+//! `P` holds small numbers, `G` and `H` have formulas. What is drawn need not be valid.
 
 use crate::draws::Draws;
 use cell_types::{CellItem, CellList, CellText, CellValue, ColType, Name, RowList, ValueList};
-use doc_model::{CellColumn, ColDef, ColInfo, ColumnList, DocAction};
+use doc_model::{CellColumn, ColDef, ColDefList, ColInfo, ColumnList, DocAction};
 use std::alloc::{AllocError, Global};
 
 const TABLE: &str = "Table1";
 
-// Sums over lookups, chains, choices, references, lists, and cells that may need themselves.
-static FORMULAS: [&str; 12] = [
+const OTHER: &str = "Other";
+
+// Sums over lookups, chains, choices, references, lists, cells that may need themselves, and reads
+// of a table that need not be there.
+static FORMULAS: [&str; 15] = [
     "$A + 1",
     "SUM(Table1.lookupRecords(A=$A).B)",
     "Table1.lookupOne(id=$id - 1).F3 + $A",
@@ -25,6 +29,9 @@ static FORMULAS: [&str; 12] = [
     "len(Table1.lookupRecords(C=CONTAINS($A)))",
     "Table1.lookupOne(A=$B, B=$A).F2",
     "$B // $A",
+    "SUM(Other.all.P) + $B",
+    "len(Other.lookupRecords(P=$A))",
+    "IFERROR(Other.lookupOne(P=$B).H, $A)",
 ];
 
 // The formula columns.
@@ -111,6 +118,20 @@ fn rows(alloc: Global, draws: &mut Draws) -> Result<Vec<u32>, AllocError> {
         rows.push(row)?;
     }
     Ok(rows)
+}
+
+// Rows of the other table.
+fn add_other(alloc: Global, draws: &mut Draws) -> Result<DocAction, AllocError> {
+    let rows = rows(alloc, draws)?;
+    let mut columns = ColumnList::new(alloc);
+    columns.push(cell_column(alloc, draws, "P", rows.len())?)?;
+    let table = name(alloc, OTHER)?;
+    let rows = RowList::from(rows);
+    Ok(DocAction::BulkAdd {
+        table,
+        rows,
+        columns,
+    })
 }
 
 fn add(alloc: Global, draws: &mut Draws) -> Result<DocAction, AllocError> {
@@ -222,14 +243,79 @@ pub(crate) fn opening(alloc: Global, number: u32) -> Result<DocAction, AllocErro
     )
 }
 
+fn data_info(alloc: Global, ty: ColType) -> Result<ColInfo, AllocError> {
+    Ok(ColInfo {
+        ty,
+        is_formula: false,
+        formula: CellText::empty(alloc),
+    })
+}
+
+// Gives a data column another type; its cells stay.
+fn retype(alloc: Global, ty: ColType) -> Result<DocAction, AllocError> {
+    let info = data_info(alloc, ty)?;
+    let column = name(alloc, "A")?;
+    let table = name(alloc, TABLE)?;
+    Ok(DocAction::ModifyColumn {
+        table,
+        column,
+        info,
+    })
+}
+
+fn definition(alloc: Global, id: &str, row: u32, info: ColInfo) -> Result<ColDef, AllocError> {
+    let id = name(alloc, id)?;
+    Ok(ColDef { id, info, row })
+}
+
+// The other table.
+fn add_table(alloc: Global) -> Result<DocAction, AllocError> {
+    let sum = formula_info(alloc, "SUM(Table1.lookupRecords(A=$P).B)")?;
+    let next = formula_info(alloc, "$G + len(Table1.all)")?;
+    let mut columns = ColDefList::new(alloc);
+    columns.push(definition(alloc, "P", 15, data_info(alloc, ColType::Any)?)?)?;
+    columns.push(definition(alloc, "G", 16, sum)?)?;
+    columns.push(definition(alloc, "H", 17, next)?)?;
+    let table = name(alloc, OTHER)?;
+    Ok(DocAction::AddTable {
+        table,
+        row: 2,
+        columns,
+    })
+}
+
+fn remove_table(alloc: Global) -> Result<DocAction, AllocError> {
+    let table = name(alloc, OTHER)?;
+    Ok(DocAction::RemoveTable { table })
+}
+
+fn rename_table(alloc: Global, table: &str, new: &str) -> Result<DocAction, AllocError> {
+    let table = name(alloc, table)?;
+    let new = name(alloc, new)?;
+    Ok(DocAction::RenameTable { table, new })
+}
+
+fn table_change(alloc: Global, draws: &mut Draws) -> Result<DocAction, AllocError> {
+    match draws.number() % 8 {
+        0 => remove_table(alloc),
+        1 => rename_table(alloc, OTHER, "Third"),
+        2 | 3 => rename_table(alloc, "Third", OTHER),
+        4 | 5 => add_table(alloc),
+        _ => add_other(alloc, draws),
+    }
+}
+
 fn schema_change(alloc: Global, draws: &mut Draws) -> Result<DocAction, AllocError> {
     let column = text_at(&COLUMNS, draws.number() % 9);
-    let formula = text_at(&FORMULAS, draws.number() % 12);
-    match draws.number() % 6 {
+    let formula = text_at(&FORMULAS, draws.number() % 15);
+    match draws.number() % 10 {
         0 => add_formula(alloc, "X", 14, formula),
         1 => remove_column(alloc, "X"),
         2 => rename_column(alloc, "B", "D"),
         3 => rename_column(alloc, "D", "B"),
+        4 => rename_column(alloc, "F2", "X"),
+        5 => retype(alloc, ColType::Int),
+        6 => retype(alloc, ColType::Any),
         _ => modify(alloc, column, formula),
     }
 }
@@ -238,6 +324,7 @@ fn schema_change(alloc: Global, draws: &mut Draws) -> Result<DocAction, AllocErr
 pub(crate) fn change(alloc: Global, draws: &mut Draws) -> Result<DocAction, AllocError> {
     match draws.number() % 16 {
         0 => schema_change(alloc, draws),
+        5 => table_change(alloc, draws),
         1 | 2 | 3 => add(alloc, draws),
         4 => remove(alloc, draws),
         _ => update(alloc, draws),

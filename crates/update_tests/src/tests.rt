@@ -18,7 +18,7 @@ use std::alloc::{AllocError, Global};
 const CHANGES: u32 = 10_000;
 
 // More than the document ever has.
-const MOST_TABLES: usize = 6;
+const MOST_TABLES: usize = 7;
 
 const MOST_COLUMNS: usize = 16;
 

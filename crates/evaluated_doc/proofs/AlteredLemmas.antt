@@ -13,9 +13,8 @@ use Rattle.recalc.specs.Evaluated.{formula_at, sheet_of, value_of}
 use Rattle.recalc.specs.Kept.{IsEvaluated, held_at}
 use Rattle.recalc.specs.Sheet.{evaluated}
 use Rattle.recalc.specs.Stack.{on}
-use Rattle.affected_cells.specs.Affected.{is_fresh_cell, is_modified}
+use Rattle.affected_cells.specs.Affected.{is_modified}
 use Rattle.affected_cells.specs.Noted.{notes}
-use Rattle.affected_search.specs.Actions.{KeepsOthers}
 use Rattle.affected_search.specs.Sheets.{is_found}
 use Rattle.affected_values.specs.Altered.{AlteredLaw, HasAltered, IsAlteredRight, IsCarried, is_altered}
 use Rattle.affected_values.specs.Taken.{IsRightBut}

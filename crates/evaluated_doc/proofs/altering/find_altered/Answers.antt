@@ -1,4 +1,4 @@
-use Rattle.std.proofs.Common.{◌≡◌, true, false, ◌∙◌, refl, sym, subst}
+use Rattle.std.proofs.Common.{◌≡◌, true, ◌∙◌, refl, sym, subst}
 use Rattle.cell_types.specs.declared.cell.CellId.{CellId}
 use Rattle.recalc.specs.Evaluated.{sheet_of}
 use Rattle.recalc.specs.Stack.{on}

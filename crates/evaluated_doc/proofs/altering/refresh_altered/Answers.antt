@@ -5,7 +5,6 @@ use Rattle.recalc.specs.Kept.{IsEvaluated, IsKeptOf}
 use Rattle.affected_values.specs.Altered.{IsCarried}
 use Rattle.evaluated_doc.proofs.AlteredLemmas.{reads_before, reads_but, right_but, with_more}
 use Rattle.evaluated_doc.proofs.SpentLemmas.{altered_affected, spent}
-use Rattle.evaluated_doc.proofs.UpdateLemmas.{none_known}
 use Rattle.evaluated_doc.proofs.altering.refresh_altered.Goals as goal
 
 pub carry_values-requires-clause-altered : goal.carry_values-requires-clause-altered

@@ -1,4 +1,4 @@
-use Rattle.std.proofs.Common.{◌≡◌, sym, subst, Vec}
+use Rattle.std.proofs.Common.{sym, subst, Vec}
 use Rattle.std.specs.Global.{Global}
 use Rattle.std.specs.Option.{option_map}
 use Rattle.doc_model.specs.DocumentLaws.{IsWhole}

@@ -69,7 +69,7 @@ def seconds(lines):
 
 
 def cost(load, edits):
-    """Milliseconds of one edit, behind a first one, for which all that formulas read is recorded."""
+    """Milliseconds of one edit, behind a first one."""
     first = seconds(load + edits[:1])
     print(f"the first such edit: {(first - seconds(load)) * 1e3:.0f} ms", flush=True)
     return (seconds(load + edits) - first) * 1e3 / (len(edits) - 1)

@@ -1,4 +1,5 @@
 mod AlteredLemmas
 mod MovedLemmas
 pub mod SpentLemmas
+pub mod StartLemmas
 pub mod UpdateLemmas

@@ -43,6 +43,7 @@ use Rattle.evaluated_doc.proofs.MovedLemmas.{rows_removed}
 use Rattle.evaluated_doc.specs.declared.trace.Before.{Before}
 use Rattle.evaluated_doc.specs.declared.trace.Before.TheVariants.{Altered, Rows, Update, Whole}
 use Rattle.evaluated_doc.specs.Spent.{AreAffected, HasSpent}
+use Rattle.evaluated_doc.specs.WayBack.{is_whole}
 
 none_some : (x : List ℕ) → None ≡ Some x → ⊥
 none_some x e = cc
@@ -188,8 +189,8 @@ spent s now a cells old new ok done are within =
         by None e h = absurd (false≢true h)
         by (Some f) e h = in_filter (affected s a) c (sheet_of now).cells ((is_sheet now).listed c f e) (are ok c here (ap (λ d. is_some (formula_at d c)) (sym done) ∙ there))
 
-pub spent_any : (s : Document) (a : DocAction) (before : Before) (old new : ℕ) → new ≤ old + bound s a → HasSpent s a before old new
-spent_any s a (Whole kept) old new h = tt
-spent_any s a (Update taken stale) old new h = h
-spent_any s a (Rows taken aside stale) old new h = h
-spent_any s a (Altered kept stale) old new h = h
+pub spent_any : (s : Document) (a : DocAction) (before : Before) (old new : ℕ) → is_whole before ≡ false → new ≤ old + bound s a → HasSpent s a before old new
+spent_any s a (Whole kept) old new part h = absurd (true≢false part)
+spent_any s a (Update taken stale) old new part h = h
+spent_any s a (Rows taken aside stale) old new part h = h
+spent_any s a (Altered kept stale) old new part h = h

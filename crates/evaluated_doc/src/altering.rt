@@ -14,7 +14,7 @@ ghost use Rattle.affected_search.specs.Sheets.{is_found};
 ghost use Rattle.affected_values.specs.Altered.{HasAltered, is_altered};
 ghost use Rattle.known_reads.specs.Beside.{KnowsOthers};
 ghost use Rattle.evaluated_doc.specs.Altering.{IsAltered, IsAltering};
-ghost use Rattle.evaluated_doc.specs.WayBack.{HasBefore};
+ghost use Rattle.evaluated_doc.specs.WayBack.{HasBefore, is_whole};
 
 use crate::trace::Before;
 use affected_search::{AffectedCells, affected_by_action};
@@ -120,6 +120,7 @@ pub(crate) fn refresh_altered<D: DocTables, L: Ledger>(
     ensures way { IfOk result (λ before. (s : Document)
         → IsAltering s (D.document tables.now) action.now kept.old.items reads.old altered
         → HasBefore s (D.document tables.now) before) }
+    ensures part { IfOk result (λ before. is_whole before ≡ false) }
     ensures err { OnErr result ((s : Document)
         → IsAltering s (D.document tables.now) action.now kept.old.items reads.old altered
         → IsEvaluated s kept.new.items × KnowsOthers s reads.new) }

@@ -1,6 +1,6 @@
 //! A document with its formula cells evaluated.
 
-ghost use Rattle.std.specs.Prelude.{true, ℕ, ◌≡◌, ◌<◌, ◌↔◌, false, Err, List, None, Some, IfOk, OnOk, OnErr, MatchOption};
+ghost use Rattle.std.specs.Prelude.{true, ◌≡◌, ◌<◌, ◌↔◌, false, Err, List, None, Some, IfOk, OnOk, OnErr, MatchOption};
 ghost use Rattle.std.specs.Option.{option_copied, option_map};
 ghost use Rattle.cell_types.specs.declared.cell.CellId.{CellId};
 ghost use Rattle.doc_model.specs.Apply.{apply};
@@ -24,8 +24,9 @@ ghost use Rattle.evaluated_doc.specs.declared.doc.ChangeFault.TheVariants.{Inval
 use crate::altering::{find_altered, refresh_altered};
 use crate::indexing::{give_up, take_indexes};
 use crate::moving::{find_moved, go_back_over, moved_by, refresh_moved};
+use crate::starting::{Start, start_alone, start_of};
 use crate::trace::{Before, Trace};
-use crate::updating::{find_affected, is_update, note_whole};
+use crate::updating::{find_affected, is_of_schema, is_update};
 use affected_search::{narrow_cells, narrow_law};
 use affected_values::{HeldValue, enter_indexes, leads_over_law, put_values_back, way_back_law};
 use cell_types::{CellValue, Name};
@@ -35,10 +36,7 @@ use doc_model::{ColDef, DocAction, DocReader, DocTables};
 use formula_eval::{Reading, Steps};
 use known_reads::{KnownReads, ReadsFault, noted_law, refresh_recording, stale_law};
 use recalc::laws::{may_lose_law, stays_plain_law};
-use recalc::{
-    ColumnIndex, KeptTable, brings_formula, cell_told, keep_lost, keep_values, keep_values_after,
-    watched_cells,
-};
+use recalc::{ColumnIndex, KeptTable, brings_formula, cell_told, keep_lost, watched_cells};
 use std::alloc::{AllocError, Global};
 use std::marker::{Brand, Model};
 use std::mem;
@@ -84,17 +82,20 @@ pub enum ChangeFault {
 }
 
 impl<D: DocTables> Doc<D> {
-    /// Evaluates the cells of a document.
+    /// Evaluates the cells of a document, and records what they read by the same attempts.
     ///
     /// Errors: out of memory.
-    /// Memory: a value for each formula cell, and a stack as deep as the chains of cells.
+    /// Memory: a value for each formula cell, what the graph takes of its reads, an index of each
+    /// data column by which lookups are made, and a stack as deep as the chains of cells.
     pub fn start(alloc: Global, tables: D) -> Result<Doc<D>, AllocError>
         requires { IsWhole (D.document tables) }
         ensures { IfOk result (λ doc. doc ≡ tables) }
     {
-        let kept = keep_values(alloc, &tables)?;
-        let reads = KnownReads::new(alloc);
-        let indexes = Vec::new(alloc);
+        let Start {
+            kept,
+            reads,
+            indexes,
+        } = start_alone::<D, Brand>(alloc, &tables, Blank::new(1))?;
         Ok(Doc {
             tables,
             kept,
@@ -113,8 +114,13 @@ impl<D: DocTables> Doc<D> {
         &self.tables
     }
 
-    // Does a valid action, and evaluates the whole document after it.
-    fn put_whole(&mut self, alloc: Global, action: &DocAction) -> Result<Trace<D>, AllocError>
+    // Does a valid action, and evaluates the whole document after it, in a count of attempts.
+    fn put_whole<L: Ledger>(
+        &mut self,
+        alloc: Global,
+        action: &DocAction,
+        steps: &mut Steps<L>,
+    ) -> Result<Trace<D>, AllocError>
         requires { valid (D.document self.old) action.now ≡ true }
         ensures ok { OnOk result
             (D.document self.new ≡ apply (D.document self.old) action.now) }
@@ -126,23 +132,25 @@ impl<D: DocTables> Doc<D> {
             (λ trace. D.undone trace.back (D.document self.new) ≡ D.document self.old) }
         ensures err { OnErr result (D.document self.new ≡ D.document self.old) }
         ensures whole { IsWhole (D.document self.new) }
-        ensures spent { IfOk result (λ trace. (old new : ℕ)
-            → HasSpent (D.document self.old) action.now trace.before old new) }
+        ensures spent { IfOk result (λ trace. HasSpent (D.document self.old) action.now trace.before
+            steps.old steps.new) }
     {
         kept_law();
         stays_plain_law();
         may_lose_law();
         let is_plain = self.kept.is_none();
         let stays_plain = is_plain && !brings_formula(action);
+        // Reads that were too many may be fewer where formulas changed.
+        let is_wide = self.reads.is_wide() && !is_of_schema(action);
         let mut cells = watched_cells(alloc, self, action, is_plain)?;
         let back = self.tables.put(action)?;
-        give_up(&mut self.indexes);
-        let Ok(fresh) = keep_values_after(alloc, &self.tables, stays_plain) else {
+        let Ok(start) = start_of(alloc, &self.tables, stays_plain, is_wide, steps) else {
             self.tables.take_back(back);
             return Err(AllocError);
         };
-        let kept = mem::replace(&mut self.kept, fresh);
-        note_whole(&mut self.reads, action);
+        let kept = mem::replace(&mut self.kept, start.kept);
+        self.reads = start.reads;
+        self.indexes = start.indexes;
         keep_lost(self, action, &mut cells);
         Ok(Trace {
             cells,
@@ -178,7 +186,7 @@ impl<D: DocTables> Doc<D> {
         narrow_law();
         leads_over_law();
         let Some(kept) = &self.kept else {
-            return self.put_whole(alloc, action);
+            return self.put_whole(alloc, action, steps);
         };
         let mut indexes = take_indexes(alloc, &mut self.indexes);
         let reads = &mut self.reads;
@@ -186,7 +194,7 @@ impl<D: DocTables> Doc<D> {
         let found = find_affected(alloc, &mut self.tables, kept, reads, known, action);
         let affected = match found {
             Ok(affected) => affected,
-            Err(ReadsFault::TooMany) => return self.put_whole(alloc, action),
+            Err(ReadsFault::TooMany) => return self.put_whole(alloc, action, steps),
             Err(ReadsFault::NoMemory) => return Err(AllocError),
         };
         let mut cells = narrow_cells(alloc, self, self.reads.graph(), &affected.found, action)?;
@@ -242,7 +250,7 @@ impl<D: DocTables> Doc<D> {
         kept_law();
         narrow_law();
         let Some(kept) = &self.kept else {
-            return self.put_whole(alloc, action);
+            return self.put_whole(alloc, action, steps);
         };
         let mut indexes = take_indexes(alloc, &mut self.indexes);
         let tables = &mut self.tables;
@@ -251,7 +259,7 @@ impl<D: DocTables> Doc<D> {
         let found = find_moved(alloc, tables, kept, reads, known, action, table, rows);
         let moved = match found {
             Ok(moved) => moved,
-            Err(ReadsFault::TooMany) => return self.put_whole(alloc, action),
+            Err(ReadsFault::TooMany) => return self.put_whole(alloc, action, steps),
             Err(ReadsFault::NoMemory) => return Err(AllocError),
         };
         let mut cells = narrow_cells(alloc, self, self.reads.graph(), &moved.found, action)?;
@@ -304,14 +312,14 @@ impl<D: DocTables> Doc<D> {
         kept_law();
         may_lose_law();
         let Some(kept) = &self.kept else {
-            return self.put_whole(alloc, action);
+            return self.put_whole(alloc, action, steps);
         };
         let mut indexes = take_indexes(alloc, &mut self.indexes);
         let known = &mut indexes;
         let found = find_altered(alloc, &self.tables, kept, &mut self.reads, known, action);
         let altered = match found {
             Ok(altered) => altered,
-            Err(ReadsFault::TooMany) => return self.put_whole(alloc, action),
+            Err(ReadsFault::TooMany) => return self.put_whole(alloc, action, steps),
             Err(ReadsFault::NoMemory) => return Err(AllocError),
         };
         let mut cells = watched_cells(alloc, self, action, false)?;
@@ -336,9 +344,9 @@ impl<D: DocTables> Doc<D> {
     }
 
     /// Does an action that is valid, and evaluates the document after it. It counts its attempts at
-    /// formula cells, but for those that record what stale cells read: unless it evaluates the
-    /// whole document (`Trace::is_whole`), they are at most as many as it takes to evaluate what
-    /// the action may affect.
+    /// formula cells, but for those that record what stale cells read: they are at most as many as
+    /// it takes to evaluate what the action may affect, or all cells, where it evaluates a whole
+    /// document that had formulas (`Trace::is_whole`).
     ///
     /// Errors: out of memory; the document is then as it was.
     /// Memory: the store's, and a copy of the cells that may be lost: those of formula columns, and
@@ -373,7 +381,7 @@ impl<D: DocTables> Doc<D> {
             steps.old steps.new) }
     {
         if self.kept.is_none() || self.reads.is_wide() {
-            return self.put_whole(alloc, action);
+            return self.put_whole(alloc, action, steps);
         }
         if is_update(action) {
             return self.put_update(alloc, action, steps);
@@ -464,7 +472,14 @@ impl<D: DocTables> Doc<D> {
     pub fn refresh_all(&mut self, alloc: Global) -> Result<(), AllocError>
         ensures { D.document self.new ≡ D.document self.old }
     {
-        self.kept = keep_values(alloc, &self.tables)?;
+        let Start {
+            kept,
+            reads,
+            indexes,
+        } = start_alone::<D, Brand>(alloc, &self.tables, Blank::new(1))?;
+        self.kept = kept;
+        self.reads = reads;
+        self.indexes = indexes;
         Ok(())
     }
 

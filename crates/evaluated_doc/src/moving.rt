@@ -1,6 +1,6 @@
 //! What rows that come or go affect.
 
-ghost use Rattle.std.specs.Prelude.{◌≡◌, ◌+◌, ◌≤◌, true, List, None, Some, IfOk, MatchOption, OnErr, OnOk};
+ghost use Rattle.std.specs.Prelude.{◌≡◌, ◌+◌, ◌≤◌, true, false, List, None, Some, IfOk, MatchOption, OnErr, OnOk};
 ghost use Rattle.std.specs.Option.{option_map};
 ghost use Rattle.cell_types.specs.declared.cell.CellId.{CellId};
 ghost use Rattle.doc_model.specs.Document.{Document};
@@ -18,7 +18,7 @@ ghost use Rattle.affected_values.specs.Carried.{HasCellsWith, moved_rows, moved_
 ghost use Rattle.affected_values.specs.Indexing.{AreLeft};
 ghost use Rattle.known_reads.specs.Beside.{KnowsOthers};
 ghost use Rattle.evaluated_doc.specs.Moved.{IsMoved, IsMoving, LeadsFromRows};
-ghost use Rattle.evaluated_doc.specs.WayBack.{HasBefore};
+ghost use Rattle.evaluated_doc.specs.WayBack.{HasBefore, is_whole};
 
 use crate::finding::found_by_records;
 use crate::indexing::leave;
@@ -172,6 +172,7 @@ pub(crate) fn refresh_moved<D: DocTables, L: Ledger>(
     ensures way { IfOk result (λ before. (s : Document)
         → IsMoving s (D.document tables.now) table.now rows.now kept.old.items reads.old moved
         → HasBefore s (D.document tables.now) before) }
+    ensures part { IfOk result (λ before. is_whole before ≡ false) }
     ensures err { OnErr result ((s : Document)
         → IsMoving s (D.document tables.now) table.now rows.now kept.old.items reads.old moved
         → IsEvaluated s kept.new.items × KnowsOthers s reads.new) }

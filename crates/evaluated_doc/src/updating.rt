@@ -42,25 +42,14 @@ pub(crate) fn is_update(action: &DocAction) -> bool
     matches!(action, DocAction::BulkUpdate { .. })
 }
 
-// Whether an action may change which formulas there are: it is on no records.
-fn is_of_schema(action: &DocAction) -> bool {
+/// Whether an action may change which formulas there are: it is on no records.
+///
+/// Memory: none.
+pub(crate) fn is_of_schema(action: &DocAction) -> bool {
     !matches!(
         action,
         DocAction::BulkAdd { .. } | DocAction::BulkUpdate { .. } | DocAction::BulkRemove { .. }
     )
-}
-
-/// Notes all cells as stale after an action over which the whole document was evaluated. Reads that
-/// were too many may be fewer where formulas changed.
-///
-/// Memory: none.
-pub(crate) fn note_whole(reads: &mut KnownReads, action: &DocAction)
-    ensures { reads.new.are_all_stale ≡ true }
-{
-    reads.note_all();
-    if is_of_schema(action) {
-        reads.try_again();
-    }
 }
 
 // The found cells by name.

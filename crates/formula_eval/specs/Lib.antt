@@ -16,4 +16,3 @@ pub mod Scanned
 pub mod Halted
 pub mod Attempted
 pub mod Laws
-pub mod Unkept

@@ -36,10 +36,9 @@ mod reading;
 mod scanning;
 mod steps;
 mod sums;
-mod unkept;
 
 pub use attempting::{MAX_RESULT_ITEMS, attempt, attempt_noting};
-pub use keeper::{LookupNotes, NoteKeeper};
+pub use keeper::NoteKeeper;
 pub use laws::{alike_law, named_law, obeys_law, reads_law, text_law};
 pub use note::{Note, NoteList};
 pub use outcome::{Attempt, Tried};

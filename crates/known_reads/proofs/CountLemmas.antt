@@ -9,7 +9,7 @@ use Rattle.recalc.specs.declared.kept.KeptTable.{KeptTable}
 use Rattle.recalc.specs.Cells.{same_cell}
 use Rattle.recalc.specs.Evaluated.{sheet_of}
 use Rattle.recalc.specs.Kept.{held_at}
-use Rattle.recalc.specs.Sheet.{IsIn, Sheet, Values}
+use Rattle.recalc.specs.Sheet.{Sheet, Values}
 use Rattle.recalc.specs.Stack.{AreOpen, IsOpen, count, is_open, on}
 use Rattle.recalc.specs.Turn.{StaysKnown}
 use Rattle.recalc.proofs.Moves.{count_less, on_in}

@@ -5,3 +5,4 @@ pub mod MovedLemmas
 pub mod RecordedLemmas
 pub mod CountLemmas
 pub mod BoundLemmas
+pub mod StartedLemmas

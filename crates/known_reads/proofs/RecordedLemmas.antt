@@ -124,6 +124,14 @@ noted_stale old new was mid is to cell kept stale s = record {
   stale = λ d h. stale d (or_first (is_stale old d) (on (cell ∷ []) d) h);
 }
 
+-- so where it is stale of all
+pub noted_all : (old new : Beside) (was mid : Graph) → was ≡ old.graph → new.graph ≡ mid → (cell : CellId) → IsKept was mid → new.are_all_stale ≡ true → (s : Sheet) → IsNotedOf old new s cell
+noted_all old new was mid is to cell kept all s = record {
+  here = λ h. absurd (true≢false (sym (ap (λ b. b || on new.stale cell) all) ∙ h));
+  others = subst (λ (g : Graph). KeepsReads s g new.graph) is (subst (λ (g : Graph). KeepsReads s was g) (sym to) (reads_kept s was mid kept));
+  stale = λ d h. ap (λ b. b || on new.stale d) all;
+}
+
 -- so where the graph is the same
 pub noted_same : (old new : Beside) (cell : CellId) → new.graph ≡ old.graph → ((c : CellId) → (is_stale old c || on (cell ∷ []) c) ≡ true → is_stale new c ≡ true) → (s : Sheet) → IsNotedOf old new s cell
 noted_same old new cell same stale s = record {

@@ -3,3 +3,4 @@ pub mod Beside
 pub mod Known
 pub mod Moved
 pub mod Recorded
+pub mod Walked

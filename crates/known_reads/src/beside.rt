@@ -2,6 +2,7 @@
 
 ghost use Rattle.std.specs.Prelude.{◌≡◌, ◌≤◌, ◌+◌, ◌||◌, [], ◌∷◌, true, false, length, OnOk};
 ghost use Rattle.cell_types.specs.declared.cell.CellId.{CellId};
+ghost use Rattle.doc_model.specs.Document.{Document};
 ghost use Rattle.doc_model.specs.DocumentLaws.{IsWhole};
 ghost use Rattle.recalc.specs.Evaluated.{sheet_of};
 ghost use Rattle.recalc.specs.Indexes.{AreIndexes};
@@ -9,7 +10,7 @@ ghost use Rattle.recalc.specs.Kept.{IsEvaluated};
 ghost use Rattle.recalc.specs.Sheet.{Sheet};
 ghost use Rattle.recalc.specs.Stack.{on};
 ghost use Rattle.affected_cells.specs.Noted.{notes};
-ghost use Rattle.affected_search.specs.ExactNotes.{HasNotes};
+ghost use Rattle.affected_search.specs.ExactNotes.{HasNoReads, HasNotes};
 ghost use Rattle.affected_search.specs.Noted.{HoldsNotes};
 ghost use Rattle.known_reads.specs.Beside.{KnowsOthers, is_stale};
 ghost use Rattle.known_reads.specs.Recorded.{IsNotedOf, KnowsBut, KnowsButFormulas};
@@ -69,6 +70,21 @@ impl KnownReads {
             stale: Vec::new(alloc),
             are_all_stale: true,
             is_wide: false,
+        }
+    }
+
+    /// Nothing is recorded, and no cell is stale, so that cells can be recorded as they get their
+    /// values; all are stale where their reads are known to be too many, and none is recorded.
+    ///
+    /// Memory: none.
+    pub(crate) fn blank(alloc: Global, is_wide: bool) -> Self
+        ensures { HasNoReads result.graph }
+    {
+        KnownReads {
+            graph: BoundedGraph::new(alloc, MAX_READS),
+            stale: Vec::new(alloc),
+            are_all_stale: is_wide,
+            is_wide,
         }
     }
 
@@ -218,17 +234,53 @@ impl KnownReads {
         }
     }
 
-    /// Records what the run that gave a cell its value noted; notes the cell as stale, where this
-    /// cannot be recorded for want of room or memory.
+    /// Notes a cell as stale; all cells, where there is no memory for it.
+    pub(crate) fn add_stale(&mut self, cell: CellId)
+        ensures graph { self.new.graph ≡ self.old.graph }
+        ensures stale { (c : CellId) → (is_stale self.old c || on (cell ∷ []) c) ≡ true
+            → is_stale self.new c ≡ true }
+    {
+        if self.are_all_stale {
+            drop(cell);
+            return;
+        }
+        if self.stale.push(cell).is_err() {
+            self.are_all_stale = true;
+        }
+    }
+
+    /// Records what the run that gave a cell its value noted, unless all cells are stale. Notes all
+    /// as stale, where there is no room for it, and the cell, where there is no memory.
     ///
-    /// Memory: what the graph takes.
+    /// Memory: what the graph takes, or a stale cell.
     pub(crate) fn keep_notes(&mut self, cell: CellId, given: &NoteRuns)
         ensures { (s : Sheet) → notes s cell ≡ given.now
             → IsNotedOf self.old self.new s cell }
     {
+        if self.are_all_stale {
+            drop(cell);
+            return;
+        }
         match self.graph.set(&cell, given) {
             Ok(()) => drop(cell),
-            Err(_) => self.note_cell(cell),
+            Err(ReadsFault::NoMemory) => self.add_stale(cell),
+            Err(ReadsFault::TooMany) => {
+                drop(cell);
+                self.are_all_stale = true;
+            }
+        }
+    }
+
+    /// Gives the graph up where it has no room for the reads of all cells: they are too many until
+    /// formulas change.
+    ///
+    /// Memory: none.
+    pub(crate) fn give_up_where_full(&mut self, alloc: Global)
+        ensures { (s : Document) → KnowsOthers s self.old → KnowsOthers s self.new }
+    {
+        if self.are_all_stale && self.graph.is_full() {
+            self.give_up(alloc);
+            self.is_wide = true;
         }
     }
 

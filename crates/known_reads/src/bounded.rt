@@ -1,6 +1,6 @@
 //! A graph in which so many reads are recorded.
 
-ghost use Rattle.std.specs.Prelude.{◌≡◌, ◌<◌, true, false, OnErr, OnOk};
+ghost use Rattle.std.specs.Prelude.{◌≡◌, ◌<◌, OnErr, OnOk};
 ghost use Rattle.std.specs.Option.{option_copied};
 ghost use Rattle.dep_graph.specs.Graph.{IsDropped, IsKept, IsSet};
 ghost use Rattle.recalc.specs.Sheet.{row_of};
@@ -88,6 +88,11 @@ impl BoundedGraph {
         self.reads == 0
     }
 
+    // Whether there is no room for more reads.
+    pub(crate) fn is_full(&self) -> bool {
+        self.reads >= self.most
+    }
+
     // Records what a formula reads by one attempt, in a count of steps of its own. Hands out its
     // notes.
     pub(crate) fn record_once<R: CellReader, L: Ledger>(
@@ -108,7 +113,7 @@ impl BoundedGraph {
             self.old self.new cell.now) }
         ensures err { OnErr result (IsKept self.old self.new) }
     {
-        if self.reads >= self.most {
+        if self.is_full() {
             return Err(ReadsFault::TooMany);
         }
         let mut steps = Steps::<L>::new(blank);
@@ -140,7 +145,7 @@ impl BoundedGraph {
         ensures ok { OnOk result (IsSet self.old self.new cell.now notes.now) }
         ensures err { OnErr result (IsKept self.old self.new) }
     {
-        if self.reads >= self.most {
+        if self.is_full() {
             return Err(ReadsFault::TooMany);
         }
         let before = self.graph.reads_count(cell);

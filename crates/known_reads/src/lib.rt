@@ -1,5 +1,5 @@
-//! What formula cells of an evaluated document read, recorded in a graph, and cells evaluated anew
-//! with what they read.
+//! What formula cells of an evaluated document read, recorded in a graph, and cells evaluated with
+//! what they read: all of them, or some anew.
 //!
 //! Stands on `affected_search` (a cell's reads recorded by one attempt) and `dep_graph`, `recalc`
 //! (evaluated cells), `affected_values` (values taken out and put back), `affected_cells`,
@@ -16,18 +16,21 @@
 //! over it finds affected cells alone; where reads are too many it gives the graph up, and all
 //! cells are stale. A change and its way back note stale cells without memory, and forget what was
 //! recorded of cells that are no formula cells any more.
+//! `evaluate_recording` finds the value of each formula cell of a document, and the attempt that
+//! finds it records what the cell reads, where this is not too much: so only circular cells are
+//! stale then. It makes two attempts a cell at most.
 //! `refresh_recording` evaluates some cells anew where the values of all others are known, and the
-//! attempt that finds a value records what the cell reads: so only circular cells, and those for
-//! which there is no room, are stale then. It makes two attempts a cell at most, and no more than
-//! one for each cell and one for each of them that its reads name (`attempt_bound`). Where memory
-//! runs out each value is as it was.
+//! attempt that finds a value records what the cell reads: so only circular cells are stale then,
+//! or all, where the graph has no room. It makes two attempts a cell at most, and no more than one
+//! for each cell and one for each of them that its reads name (`attempt_bound`). Where memory runs
+//! out each value is as it was.
 //! Over an update, in both directions, the graph is right of all others but the found ones
 //! (`reads_same_law`, `stale_law`); over rows that come or go, and back, also but the cells of the
 //! rows (`reads_over_law`, `reads_back_law`, `noted_law`).
 //! Not promised: how many attempts `make_right` makes; which indexes are made; how many reads are
 //! too many.
 //! Read first: specs/Known.antt and specs/Beside.antt, then beside.rt, recording.rt and bounded.rt;
-//! specs/Recorded.antt and specs/Attempts.antt, then refreshing.rt and settling.rt.
+//! specs/Recorded.antt and specs/Attempts.antt, then settling.rt, starting.rt and refreshing.rt.
 #![tactic(auto)]
 
 mod attempting;
@@ -37,6 +40,7 @@ mod laws;
 mod recording;
 mod refreshing;
 mod settling;
+mod starting;
 mod walking;
 
 pub use beside::KnownReads;
@@ -44,3 +48,4 @@ pub use bounded::{BoundedGraph, ReadsFault};
 pub use laws::{noted_law, reads_back_law, reads_over_law, reads_same_law, stale_law};
 pub use recording::record_cells;
 pub use refreshing::refresh_recording;
+pub use starting::{Evaluated, evaluate_recording};

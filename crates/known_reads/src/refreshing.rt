@@ -91,8 +91,8 @@ fn settle_taken<D: DocTables, L: Ledger>(
 /// Evaluates these cells anew, where the values of all other formula cells are known and right, and
 /// records what they read by the same attempts. What was known of them is handed out, so that it
 /// can be put back. A cell is noted as stale where it is circular, since its run may not have been
-/// whole, and where what it reads is not recorded for want of room or memory. Makes the indexes of
-/// the data columns by which the cells look rows up, where they have none.
+/// whole, and where what it reads is not recorded for want of memory; all are for want of room.
+/// Makes the indexes of the data columns by which the cells look rows up, where they have none.
 ///
 /// Errors: out of memory; each value is then as it was, all cells are stale, and the indexes are to
 /// be given up.

@@ -1,11 +1,10 @@
 //! Cells evaluated with a stack in memory, each recorded by the attempt that finds its value.
 
 ghost use Rattle.std.specs.Prelude.{◌≡◌, ◌+◌, ◌<◌, ◌≤◌, ◌++◌, ◌∷◌, [], cond, true, false, Some, OnErr, OnOk, vec_len};
-ghost use Rattle.std.specs.Option.{is_some};
 ghost use Rattle.cell_types.specs.declared.cell.CellId.{CellId};
 ghost use Rattle.doc_model.specs.DocumentLaws.{IsWhole};
 ghost use Rattle.recalc.specs.Cells.{same_cell};
-ghost use Rattle.recalc.specs.Evaluated.{formula_at, sheet_of};
+ghost use Rattle.recalc.specs.Evaluated.{sheet_of};
 ghost use Rattle.recalc.specs.Indexes.{AreIndexes};
 ghost use Rattle.recalc.specs.Kept.{IsFurther, IsKeptOf, IsSettled, held_at};
 ghost use Rattle.recalc.specs.Remembered.{IsRemembered};
@@ -125,7 +124,7 @@ fn turn<D: DocTables, L: Ledger>(
         Found::Need(cell) => {
             if is_on(&*stack, &top, &cell) {
                 put_value(tables, kept, &top, CellValue::Err(ErrKind::Circular));
-                reads.note_cell(top);
+                reads.add_stale(top);
                 return Ok(());
             }
             stack.push(top)?;
@@ -137,7 +136,7 @@ fn turn<D: DocTables, L: Ledger>(
 
 /// Makes the value of a cell known, where it is a formula cell, and records what it reads, and each
 /// cell that it needs and whose value was not known. A cell whose reads cannot be recorded is noted
-/// as stale.
+/// as stale, or all cells are.
 ///
 /// Errors: out of memory; what was known is then known still, and what is known is right.
 /// Memory: a stack as deep as the chain of cells that it needs, the values, and what the graph

@@ -1,6 +1,6 @@
 //! The reads of all formula cells recorded: table by table, column by column, row by row.
 
-ghost use Rattle.std.specs.Prelude.{◌≡◌, Some, OnOk};
+ghost use Rattle.std.specs.Prelude.{Some, OnOk};
 ghost use Rattle.doc_model.specs.DocumentLaws.{IsWhole};
 ghost use Rattle.doc_readers.specs.Parts.{grid_at};
 ghost use Rattle.recalc.specs.Evaluated.{cells_of_column, cells_of_columns, sheet_of};

@@ -36,7 +36,7 @@ use Rattle.recalc.specs.Current.{IsCurrent, has_formula, has_formulas}
 use Rattle.recalc.specs.Evaluated.{filled, filled_by, value_of}
 use Rattle.recalc.specs.InOrder.{in_order}
 use Rattle.recalc.specs.Lost.{all_cells, differs, is_lost}
-use Rattle.recalc.specs.MayLose.{MayLoseLaw, may_lose, may_lose_all, may_lose_column, may_lose_row, rows_to_lose}
+use Rattle.recalc.specs.MayLose.{MayLoseLaw, may_lose, may_lose_all, may_lose_column, may_lose_row}
 use Rattle.recalc.specs.Watched.{is_computed}
 use Rattle.recalc.proofs.FilledLemmas.{filled_table, find_filled}
 use Rattle.recalc.proofs.WatchedCells.{cell_kept, each_cells, filled_data, filter_watched, grid_filled, told_data}

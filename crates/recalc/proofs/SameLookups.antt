@@ -1,5 +1,5 @@
 -- Lookups by data columns find the same rows, whatever is known of formula cells.
-use Rattle.std.proofs.Common.{ℕ, Bool, true, false, cond, List, [], ◌∷◌, ◌&&◌, Option, Some, None, IfSome, pos, ◌≡◌, refl, sym, ap, ◌∙◌}
+use Rattle.std.proofs.Common.{ℕ, true, false, cond, List, [], ◌∷◌, ◌&&◌, Option, Some, None, IfSome, pos, ◌≡◌, refl, sym, ap, ◌∙◌}
 use Rattle.std.proofs.lemmas.Bool.{false≢true}
 use Rattle.std.specs.List.{list_all}
 use Rattle.std.specs.Option.{is_some}
@@ -9,10 +9,10 @@ use Rattle.cell_types.specs.declared.value.ErrKind.TheVariants as err
 use Rattle.formula_parse.specs.Lexemes.{is_id}
 use Rattle.formula_eval.specs.Lookup.{is_key_column, key_met, kept_row, matched, matched_in, meets, met_by, row_met, scan}
 use Rattle.formula_eval.specs.Reading.{told_out}
-use Rattle.formula_eval.specs.Run.{Out, gives, raises, both}
+use Rattle.formula_eval.specs.Run.{gives, raises, both}
 use Rattle.recalc.specs.declared.indexes.ColumnIndex.{ColumnIndex}
 use Rattle.recalc.specs.Cells.{cell_of}
-use Rattle.recalc.specs.Indexes.{AreIndexes, IsIndex, index_at}
+use Rattle.recalc.specs.Indexes.{AreIndexes, index_at}
 use Rattle.recalc.specs.Remembered.{AreFound}
 use Rattle.recalc.specs.Sheet.{Sheet, Values, over, told_by}
 use Rattle.recalc.proofs.NarrowedRows.{found_index}

@@ -1,43 +1,16 @@
 -- The turns of whole evaluation.
-use Rattle.std.proofs.Common.{ℕ, ◌<◌, true, false, cond, not, ◌&&◌, List, [], ◌∷◌, ◌++◌, ◌≡◌, refl, sym, ap, ◌∙◌, subst, Option, Some, None, Result, Ok, Err as Fails, OnErr, OnOk}
+use Rattle.std.proofs.Common.{◌<◌, true, false, cond, not, ◌&&◌, List, [], ◌∷◌, ◌++◌, ◌≡◌, refl, sym, ap, ◌∙◌, subst, Option, Some, None, Result, Ok, Err as Fails, OnOk}
 use Rattle.std.proofs.lemmas.Bool.{true≢false}
 use Rattle.std.specs.Option.{is_some}
 use Rattle.cell_types.specs.declared.cell.CellId.{CellId}
 use Rattle.cell_types.specs.declared.value.CellValue.{CellValue}
 use Rattle.cell_types.specs.declared.value.CellValue.TheVariants.{Err}
 use Rattle.cell_types.specs.declared.value.ErrKind.TheVariants.{Circular}
-use Rattle.cell_types.specs.declared.column_type.ColType.{ColType}
-use Rattle.cell_types.specs.declared.value.RowRef.{RowRef}
-use Rattle.formula_eval.specs.declared.outcome.Tried.{Tried}
-use Rattle.formula_eval.specs.declared.outcome.Tried.TheVariants.{Value as Given, Need as Lacks}
-use Rattle.formula_eval.specs.Attempted.{IsTried}
-use Rattle.recalc.specs.declared.settling.Next.{Next}
-use Rattle.recalc.specs.declared.settling.Next.TheVariants.{Value, Need}
-use Rattle.formula_parse.specs.FormulaOf.{formula_of}
-use Rattle.formula_parse.specs.Tree.{Tree}
-use Rattle.formula_eval.specs.OfText.{evaluated_some, evaluated_text}
-use Rattle.recalc.specs.Sheet.{Sheet, Values, over, row_of, run_of, fit_in, evaluated}
+use Rattle.recalc.specs.Sheet.{Sheet, Values, evaluated}
 use Rattle.recalc.specs.Cells.{same_cell}
 use Rattle.recalc.specs.Stack.{IsChain, IsSheet, IsSound, Waits, IsOpen, AreOpen, IsWorking, on, is_fresh, work}
-use Rattle.recalc.specs.Turn.{IsFound, Follows, IsTurn, IsSettling, StaysKnown}
-use Rattle.recalc.proofs.Turn.{attempt_value, attempt_waits, attempt_open}
+use Rattle.recalc.specs.Turn.{IsTurn, IsSettling, StaysKnown}
 use Rattle.recalc.proofs.Moves.{top_open, put_working, put_handled, put_work, push_on, push_working, push_handled, push_work, circular_top}
-
--- an attempt over what is known tells of the cell
-pub attempt_tells : (s : Sheet) (sheet : IsSheet s) (k : Values) → IsSound s k → (c : CellId) (f : List ℕ) (ty : ColType) → s.formula c ≡ Some f → s.kind c.table c.column ≡ Some ty
-    → (a : Tried) → IsTried a (run_of (over s k) c f) → (n : Next) → Follows n ty a → IsFound s k c n
-attempt_tells s sheet k sound c f ty e kind (Given v) h (Value w) g = attempt_value s sheet k sound c f v e h ∙ ap (λ o. fit_in o v) kind ∙ sym g
-attempt_tells s sheet k sound c f ty e kind (Given v) h (Need d) g = absurd g
-attempt_tells s sheet k sound c f ty e kind (Lacks d) h (Value w) g = absurd g
-attempt_tells s sheet k sound c f ty e kind (Lacks d) h (Need b) g = subst (λ x. Waits s c x × IsOpen s k x) (sym g) (attempt_waits s sheet k sound c f d e h, attempt_open s sheet k sound c f d h)
-
--- an attempt at the tree of a text is one at the text
-pub of_tree : (s : Sheet) (k : Values) (c : CellId) (f : List ℕ) (a : Tried) (o : Option Tree) → o ≡ formula_of f → IsTried a (evaluated_some (over s k) (row_of c) o) → IsTried a (run_of (over s k) c f)
-unfolding evaluated_text
-of_tree s k c f a o is h = subst (λ x. IsTried a (evaluated_some (over s k) (row_of c) x)) is h
-
-pub of_tree_at : (s : Sheet) (k : Values) (c : CellId) (f : List ℕ) (a : Tried) (at : RowRef) (o : Option Tree) → at ≡ row_of c → o ≡ formula_of f → IsTried a (evaluated_some (over s k) at o) → IsTried a (run_of (over s k) c f)
-of_tree_at s k c f a at o here is h = of_tree s k c f a o is (subst (λ x. IsTried a (evaluated_some (over s k) x o)) here h)
 
 module _ (s : Sheet) (sheet : IsSheet s) (k : Values) (stack front : List CellId) (top : CellId) (is : stack ≡ front ++ top ∷ []) (w : IsWorking s k stack) where
   pub turn_open : IsOpen s k top
@@ -69,10 +42,6 @@ on_ok P Q (Fails e) h p = tt
 pub put_stays : (k j : Values) (c : CellId) (v : CellValue) → ((d : CellId) → j d ≡ cond (same_cell c d) (Some v) (k d)) → StaysKnown k j
 put_stays k j c v puts d h = ap is_some (puts d) ∙ elim (same_cell c d) as (λ b. is_some (cond b (Some v) (k d)) ≡ true) [ true ↦ refl | false ↦ h ]
 
-pub on_err : {A E : Type 0} {P : Type 0} (r : Result A E) → P → OnErr r P
-on_err (Ok x) p = tt
-on_err (Fails e) p = p
-
 fresh_none : (k : Values) (c : CellId) → is_fresh k [] c ≡ false → is_some (k c) ≡ true
 fresh_none k c e = parts (k c) e
   where
@@ -96,11 +65,3 @@ module _ (s : Sheet) (first : Values) (cell : CellId) where
 
   pub settling_stays : (j : Values) (stack : List CellId) → stack ≡ [] → IsSettling s first cell j stack → StaysKnown first j
   settling_stays j stack e w c h = fresh_none j c (subst (λ l. is_fresh j l c ≡ false) e (w.stays c (ap (λ b. not b && true) h)))
-
--- a cell whose value is found in one attempt
-pub settled_at_once : (s : Sheet) → IsSheet s → (k : Values) (cell : CellId) → IsSound s k → IsOpen s k cell → (v : CellValue) (j : Values) → evaluated s cell ≡ v
-    → ((c : CellId) → j c ≡ cond (same_cell cell c) (Some v) (k c)) → IsSound s j × StaysKnown k j × (is_some (j cell) ≡ true)
-settled_at_once s sheet k cell sound opened v j e puts =
-    let begun = settling_start s k cell sheet sound opened (cell ∷ []) refl in
-    let done = settling_turn s k cell k j (cell ∷ []) [] begun (turn_value s sheet k (cell ∷ []) [] cell refl begun.working v j e puts) in
-    (done.working.sound, settling_stays s k cell j [] refl done, settling_done s k cell j [] refl done)

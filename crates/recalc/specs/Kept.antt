@@ -1,9 +1,7 @@
 -- Values of formula cells as they are kept: by table and column in the order of the document, and
 -- of a formula column one for each row, where it is known, beside its formula and its type. A data
 -- column keeps its type alone.
-use Rattle.std.specs.Prelude.{ℕ, Bool, true, cond, nat_eq, ◌≡◌, List, [], map, length, Option, Some, None}
-use Rattle.std.specs.List.{AllByRecursion}
-use Rattle.std.specs.Option.{is_some}
+use Rattle.std.specs.Prelude.{ℕ, Bool, cond, nat_eq, ◌≡◌, List, [], map, length, Option, Some, None}
 use Rattle.cell_types.specs.declared.cell.CellId.{CellId}
 use Rattle.cell_types.specs.declared.column_type.ColType.{ColType}
 use Rattle.cell_types.specs.declared.value.CellValue.{CellValue}
@@ -137,10 +135,6 @@ pub record IsSettled (s : Document) (ks : List KeptTable) : Type 0 where
 pub record IsFurther (s : Document) (old new : List KeptTable) : Type 0 where
   pub settled : IsSettled s new
   pub stays : StaysKnown (held_at s old) (held_at s new)
-
--- the values of these cells are known
-abbrev pub AreKnown : Values → List CellId → Type 0
-AreKnown k cells = AllByRecursion (λ c. is_some (k c) ≡ true) cells
 
 -- kept of this document, with the value of each formula cell
 pub record IsEvaluated (s : Document) (ks : List KeptTable) : Type 0 where

@@ -5,7 +5,6 @@ ghost use Rattle.std.specs.List.{find, list_all};
 ghost use Rattle.std.specs.Option.{option_copied};
 ghost use Rattle.doc_model.specs.Rows.{IsAscending};
 ghost use Rattle.formula_eval.specs.Lookup.{matched, scan};
-ghost use Rattle.formula_eval.specs.Reader.{Reader};
 ghost use Rattle.formula_parse.specs.Lexemes.{is_id};
 ghost use Rattle.recalc.specs.Evaluated.{sheet_of};
 ghost use Rattle.recalc.specs.Indexes.{AreCandidates, AreIndexes, IsRowAlone, chosen, is_plain};

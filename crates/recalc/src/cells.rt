@@ -1,14 +1,15 @@
 //! Cells with what they hold, and those of them that an action changed.
 
-ghost use Rattle.std.specs.Prelude.{◌≡◌, ◌++◌, [], ◌∷◌, not, filter, IfOk, OnOk};
+ghost use Rattle.std.specs.Prelude.{◌≡◌, ◌++◌, filter, IfOk, OnOk};
 ghost use Rattle.doc_model.specs.Column.{column_id};
 ghost use Rattle.doc_model.specs.Grid.{cell};
 ghost use Rattle.doc_model.specs.Same.{same_value};
 ghost use Rattle.doc_readers.specs.Parts.{grid_at};
 ghost use Rattle.recalc.specs.Cells.{cell_of};
 ghost use Rattle.recalc.specs.Lost.{cells_at, column_after, is_lost, table_after};
+ghost use Rattle.recalc.specs.Sheet.{row_of};
 
-use cell_types::{CellId, CellOld, CellValue, Name, Same};
+use cell_types::{CellId, CellOld, CellValue, Name, RowRef, Same};
 use doc_model::{DocAction, DocReader};
 use doc_readers::cell_in;
 use std::alloc::AllocError;
@@ -21,6 +22,16 @@ pub fn cell_id(table: &Name, column: &Name, row: u32) -> Result<CellId, AllocErr
         table: table.clone()?,
         column: column.clone()?,
         row,
+    })
+}
+
+/// The row in which a cell stands.
+pub fn row_of(cell: &CellId) -> Result<RowRef, AllocError>
+    ensures { IfOk result (λ at. at ≡ row_of cell.now) }
+{
+    Ok(RowRef {
+        table: cell.table.clone()?,
+        row: cell.row,
     })
 }
 

@@ -8,12 +8,11 @@ ghost use Rattle.cell_types.specs.declared.cell.CellId.{CellId};
 ghost use Rattle.doc_model.specs.ByIds.{find_id};
 ghost use Rattle.doc_model.specs.DocumentLaws.{IsWhole};
 ghost use Rattle.doc_model.specs.Rows.{IsAscending, has};
-ghost use Rattle.recalc.specs.Evaluated.{formula_at, sheet_of};
+ghost use Rattle.recalc.specs.Evaluated.{formula_at};
 ghost use Rattle.recalc.specs.Kept.{IsKeptOf, column_at, held_at, held_in, kept_column_id, kept_table_id};
 ghost use Rattle.recalc.specs.Put.{HasPlace, HasSpot, IsPutInColumn, IsPutInTable, IsPutInTables};
 ghost use Rattle.recalc.specs.Cells.{same_cell};
 ghost use Rattle.recalc.specs.Seen.{joined};
-ghost use Rattle.recalc.specs.Stack.{IsOpen};
 
 use crate::kept::{KeptColumn, KeptTable};
 use cell_types::{CellId, CellValue, Name};
@@ -193,26 +192,4 @@ pub fn exchange_value<D: DocTables>(
         unreachable!();
     };
     put_in_tables(kept, table, column, row, value)
-}
-
-/// Puts the value of a formula cell in its place, where none is known.
-///
-/// Memory: none.
-pub(crate) fn put_value<D: DocTables>(
-    tables: &D,
-    kept: &mut Vec<KeptTable>,
-    cell: &CellId,
-    value: CellValue,
-)
-    requires whole { IsWhole (D.document tables.now) }
-    requires of_document { IsKeptOf (D.document tables.now) kept.old.items }
-    requires opened { IsOpen (sheet_of (D.document tables.now))
-        (held_at (D.document tables.now) kept.old.items) cell.now }
-    ensures of_document { IsKeptOf (D.document tables.now) kept.new.items }
-    ensures put { (c : CellId) → held_at (D.document tables.now) kept.new.items c
-        ≡ cond (same_cell cell.now c) (Some value)
-        (held_at (D.document tables.now) kept.old.items c) }
-{
-    let before = exchange_value(tables, kept, cell, Some(value));
-    drop(before);
 }

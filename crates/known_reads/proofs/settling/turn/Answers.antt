@@ -65,8 +65,8 @@ returns-in-Value-clause-stays g c =
 pub returns-then-is_on-clause-recording : goal.returns-then-is_on-clause-recording
 returns-then-is_on-clause-recording g c =
     let s = g.D.DocReader.document c.args.tables.now in
-    recording_put s (held_at s c.args.kept.now.items) (held_at s c.put_value-then-is_on.new.kept.items) c.args.reads.now c.note_cell.new.self c.in-Some.top (Err Circular) c.put_value-then-is_on.ensures.put
-    (noted_same c.args.reads.now c.note_cell.new.self c.in-Some.top c.note_cell.ensures.graph c.note_cell.ensures.stale (sheet_of s))
+    recording_put s (held_at s c.args.kept.now.items) (held_at s c.put_value-then-is_on.new.kept.items) c.args.reads.now c.add_stale.new.self c.in-Some.top (Err Circular) c.put_value-then-is_on.ensures.put
+    (noted_same c.args.reads.now c.add_stale.new.self c.in-Some.top c.add_stale.ensures.graph c.add_stale.ensures.stale (sheet_of s))
 
 pub returns-in-Value-clause-recording : goal.returns-in-Value-clause-recording
 returns-in-Value-clause-recording g c =

@@ -4,8 +4,8 @@ use Rattle.recalc.specs.Evaluated.{sheet_of}
 use Rattle.recalc.proofs.Progress.{cells_of_table, each_next}
 use Rattle.recalc.proofs.WalkLemmas.{table_past, table_read}
 use Rattle.affected_search.proofs.ExactNotes.{none_exact}
-use Rattle.known_reads.specs.Known.{EachIsRead}
-use Rattle.known_reads.proofs.WalkedLemmas.{all_hold, each_stays, nothing_there, read_table}
+use Rattle.known_reads.specs.Known.{EachIsRead, IsRead}
+use Rattle.known_reads.proofs.WalkedLemmas.{each_stays, nothing_there, of_cells, of_table}
 use Rattle.known_reads.proofs.walking.record_all.Goals as goal
 
 pub returns-in_err-record_table-clause-keeps : goal.returns-in_err-record_table-clause-keeps
@@ -28,11 +28,11 @@ loop-table-preserved g c =
       read = each_next (λ t. EachIsRead s c.loop-table.graph (cells_of_table t)) (λ t. EachIsRead s c.record_table.new.graph (cells_of_table t))
           s c.loop-table.index _ t.0
           (λ t. each_stays s c.loop-table.graph c.record_table.new.graph c.record_table.ensures.keeps (cells_of_table t)) refl t.1
-          (read_table s c.record_table.new.graph c.requires.whole c.loop-table.index t.0 c.in-Some.table.now t.1 t.2 c.in_ok-record_table.ensures.ok) c.loop-table.invariant.read;
+          (of_table (IsRead s c.record_table.new.graph) s c.requires.whole c.loop-table.index t.0 c.in-Some.table.now t.1 t.2 c.in_ok-record_table.ensures.ok) c.loop-table.invariant.read;
     }
 
 pub returns-clause-ok : goal.returns-clause-ok
 returns-clause-ok g c =
     let s = g.D.DocReader.document c.args.tables.now in
-    all_hold s c.loop-table.graph c.loop-table.index (nothing_there s c.loop-table.index (table_past s c.loop-table.index c.in_default.ensures.told)) c.loop-table.invariant.read
+    of_cells (IsRead s c.loop-table.graph) s c.loop-table.index (nothing_there s c.loop-table.index (table_past s c.loop-table.index c.in_default.ensures.told)) c.loop-table.invariant.read
     (λ d plain. c.loop-table.invariant.keeps d (none_exact (sheet_of s) c.args.graph.now c.requires.none d plain))

@@ -5,7 +5,7 @@ use Rattle.recalc.specs.Cells.{cell_of}
 use Rattle.recalc.proofs.Progress.{EachOf, each_more}
 use Rattle.known_reads.specs.Known.{IsRead}
 use Rattle.known_reads.proofs.KnownLemmas.{read_stays}
-use Rattle.known_reads.proofs.WalkedLemmas.{read_column}
+use Rattle.known_reads.proofs.WalkedLemmas.{of_column}
 use Rattle.known_reads.proofs.walking.record_column.Goals as goal
 
 pub returns-in_err-record_where-clause-keeps : goal.returns-in_err-record_where-clause-keeps
@@ -30,6 +30,6 @@ pub returns-clause-ok : goal.returns-clause-ok
 returns-clause-ok g c =
     let s = g.D.DocReader.document c.args.tables.now in
     let all : length c.rows_in-row-items.result.now ≤ c.loop-row.row-index = omega arith in
-    read_column s c.loop-row.graph c.args.table.now (grid_at s c.args.table.now) c.args.column.now c.loop-row.row-index
+    of_column (IsRead s c.loop-row.graph) c.args.table.now (grid_at s c.args.table.now) c.args.column.now c.loop-row.row-index
     (subst (λ l. length l ≤ c.loop-row.row-index) c.rows_in-row-items.ensures.value all)
     (subst (λ l. EachOf (λ r. IsRead s c.loop-row.graph (cell_of c.args.table.now c.args.column.now.id r)) l c.loop-row.row-index) c.rows_in-row-items.ensures.value c.loop-row.invariant.read)

@@ -4,8 +4,8 @@ use Rattle.doc_readers.specs.Parts.{grid_at}
 use Rattle.doc_readers.proofs.ColumnLemmas.{column_past, column_read}
 use Rattle.recalc.specs.Evaluated.{cells_of_column}
 use Rattle.recalc.proofs.Progress.{each_all, each_next}
-use Rattle.known_reads.specs.Known.{EachIsRead}
-use Rattle.known_reads.proofs.WalkedLemmas.{each_stays, nothing_there, read_columns}
+use Rattle.known_reads.specs.Known.{EachIsRead, IsRead}
+use Rattle.known_reads.proofs.WalkedLemmas.{each_stays, nothing_there, of_columns}
 use Rattle.known_reads.proofs.walking.record_table.Goals as goal
 
 pub returns-in_err-record_column-clause-keeps : goal.returns-in_err-record_column-clause-keeps
@@ -35,6 +35,6 @@ pub returns-clause-ok : goal.returns-clause-ok
 returns-clause-ok g c =
     let s = g.D.DocReader.document c.args.tables.now in
     let t = c.args.table.now in
-    read_columns s c.loop-column.graph t (grid_at s t) (grid_at s t).columns
+    of_columns (IsRead s c.loop-column.graph) t (grid_at s t) (grid_at s t).columns
     (each_all (λ d. EachIsRead s c.loop-column.graph (cells_of_column t (grid_at s t) d)) (grid_at s t).columns c.loop-column.index
     (nothing_there (grid_at s t).columns c.loop-column.index (column_past s t c.loop-column.index c.in_default.ensures.told)) c.loop-column.invariant.read)

@@ -77,4 +77,4 @@ returns-clause-spent g c =
       others = c.find_altered-found.ensures.others;
     } in
     subst (λ d. HasSpent (g.D.DocReader.document d) a c.in-Ok-done.before c.args.steps.now c.refresh_altered-done.new.steps) c.self.view_is
-    (spent_any s a c.in-Ok-done.before c.args.steps.now c.refresh_altered-done.new.steps (c.refresh_altered-done.ensures.spent s altering))
+    (spent_any s a c.in-Ok-done.before c.args.steps.now c.refresh_altered-done.new.steps c.in-Ok-done.ensures.part (c.refresh_altered-done.ensures.spent s altering))

@@ -157,4 +157,4 @@ returns-clause-spent g c =
       others = c.find_moved-found.ensures.others;
     } in
     subst (λ d. HasSpent (g.D.DocReader.document d) a c.in-Ok-done.before c.args.steps.now c.refresh_moved-done.new.steps) c.self.view_is
-    (spent_any s a c.in-Ok-done.before c.args.steps.now c.refresh_moved-done.new.steps (c.refresh_moved-done.ensures.spent s moving))
+    (spent_any s a c.in-Ok-done.before c.args.steps.now c.refresh_moved-done.new.steps c.in-Ok-done.ensures.part (c.refresh_moved-done.ensures.spent s moving))

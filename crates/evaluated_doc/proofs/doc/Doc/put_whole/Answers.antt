@@ -11,7 +11,10 @@ use Rattle.recalc.specs.Lost.{all_cells, lost}
 use Rattle.recalc.specs.MayLose.{may_lose}
 use Rattle.recalc.proofs.MayLoseCells.{plain_kept}
 use Rattle.known_reads.specs.Beside.{KnowsOthers}
-use Rattle.evaluated_doc.proofs.UpdateLemmas.{lost_watched, none_known}
+use Rattle.evaluated_doc.specs.declared.trace.Before.TheVariants.{Whole}
+use Rattle.evaluated_doc.specs.Spent.{HasSpent}
+use Rattle.evaluated_doc.proofs.StartLemmas.{whole_spent}
+use Rattle.evaluated_doc.proofs.UpdateLemmas.{lost_watched}
 use Rattle.evaluated_doc.proofs.doc.Doc.put_whole.Goals as goal
 
 pub watched_cells-requires : goal.watched_cells-requires
@@ -22,8 +25,8 @@ watched_cells-requires g c none =
 pub invariant_of-self-in_default : goal.invariant_of-self-in_default
 invariant_of-self-in_default g c =
     let s = g.D.DocReader.document c.self.inside.tables in
-    subst (λ d. IsWhole d × IsCurrent d (option_map (λ (v : Vec KeptTable Global). v.items) c.self.inside.kept) × KnowsOthers d c.self.inside.reads × AreIndexes (sheet_of d) c.give_up.new.indexes.items)
-    (sym (c.take_back.ensures ∙ c.in_ok-back.ensures.back)) (c.self.invariant.0, c.self.invariant.1, c.self.invariant.2, c.give_up.ensures (sheet_of s))
+    subst (λ d. IsWhole d × IsCurrent d (option_map (λ (v : Vec KeptTable Global). v.items) c.self.inside.kept) × KnowsOthers d c.self.inside.reads × AreIndexes (sheet_of d) c.self.inside.indexes.items)
+    (sym (c.take_back.ensures ∙ c.in_ok-back.ensures.back)) (c.self.invariant.0, c.self.invariant.1, c.self.invariant.2, c.self.invariant.3)
 
 pub invariant_of-self-2 : goal.invariant_of-self-2
 invariant_of-self-2 g c =
@@ -32,9 +35,9 @@ invariant_of-self-2 g c =
     let a = c.args.action.now in
     let ok : valid s a ≡ true = subst (λ d. valid (g.D.DocReader.document d) a ≡ true) (sym c.self.view_is) c.requires in (
       subst IsWhole (sym c.in_ok-back.ensures.done) (c.kept_law.ensures s a c.self.invariant.0 ok),
-      subst (λ (o : Option (Vec KeptTable Global)). IsCurrent next (option_map (λ (v : Vec KeptTable Global). v.items) o)) (sym c.replace-kept.ensures.after) c.in-Ok.ensures,
-      none_known next c.note_whole.new.reads c.note_whole.ensures,
-      c.give_up.ensures (sheet_of next),
+      subst (λ (o : Option (Vec KeptTable Global)). IsCurrent next (option_map (λ (v : Vec KeptTable Global). v.items) o)) (sym c.replace-kept.ensures.after) c.in-Ok.ensures.current,
+      c.in-Ok.ensures.reads,
+      c.in-Ok.ensures.indexed,
     )
 
 pub returns-clause-cells : goal.returns-clause-cells
@@ -45,3 +48,20 @@ returns-clause-cells g c =
     subst (λ d. c.keep_lost.new.cells.items ≡ lost (g.D.DocReader.document d) (g.D.DocReader.document c.put.new.self) a) c.self.view_is
     (lost_watched c.may_lose_law.ensures s (g.D.DocReader.document c.put.new.self) a ok c.in_ok-back.ensures.done c.self.invariant.0 c.in_ok-cells.cells.items c.keep_lost.new.cells.items
     (subst (λ d. c.in_ok-cells.cells.items ≡ filter (may_lose (filled (g.D.DocReader.document d)) a) (all_cells (filled (g.D.DocReader.document d)))) (sym c.self.view_is) c.in_ok-cells.ensures) c.keep_lost.ensures)
+
+pub returns-clause-spent : goal.returns-clause-spent
+returns-clause-spent g c =
+    let s = g.D.DocReader.document c.self.inside.tables in
+    let next = g.D.DocReader.document c.put.new.self in
+    let a = c.args.action.now in
+    let ok : valid s a ≡ true = subst (λ d. valid (g.D.DocReader.document d) a ≡ true) (sym c.self.view_is) c.requires in
+    subst (λ d. HasSpent (g.D.DocReader.document d) a (Whole c.replace-kept.result) c.args.steps.now c.start_of.new.steps) c.self.view_is
+    (subst (λ o. HasSpent s a (Whole o) c.args.steps.now c.start_of.new.steps) (sym c.replace-kept.ensures.value)
+    (whole_spent s next a c.self.inside.kept c.args.steps.now c.start_of.new.steps c.self.invariant.1 ok c.in_ok-back.ensures.done c.in-Ok.ensures.named))
+
+pub returns-clause-whole : goal.returns-clause-whole
+returns-clause-whole g c =
+    let s = g.D.DocReader.document c.self.inside.tables in
+    let a = c.args.action.now in
+    let ok : valid s a ≡ true = subst (λ d. valid (g.D.DocReader.document d) a ≡ true) (sym c.self.view_is) c.requires in
+    subst IsWhole (sym c.in_ok-back.ensures.done) (c.kept_law.ensures s a c.self.invariant.0 ok)

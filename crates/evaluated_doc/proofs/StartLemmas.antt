@@ -1,0 +1,59 @@
+-- The first evaluation of a document that had no formulas, and any other of the whole.
+use Rattle.std.proofs.Common.{ℕ, ◌+◌, ◌≤◌, true, false, cond, not, ◌&&◌, ◌||◌, List, ◌≡◌, refl, ap, subst, Option, Some, None, Vec}
+use Rattle.std.proofs.lemmas.Bool.{false≢true}
+use Rattle.std.specs.Global.{Global}
+use Rattle.std.specs.Option.{is_some, option_map}
+use Rattle.cell_types.specs.declared.cell.CellId.{CellId}
+use Rattle.doc_model.specs.declared.action.DocAction.{DocAction}
+use Rattle.doc_model.specs.declared.column.ColDef.{ColDef}
+use Rattle.doc_model.specs.Apply.{apply}
+use Rattle.doc_model.specs.ByIds.{find_id}
+use Rattle.doc_model.specs.Column.{column_id}
+use Rattle.doc_model.specs.Document.{Document, Table, table_id}
+use Rattle.doc_model.specs.Rows.{has}
+use Rattle.doc_model.specs.Valid.{valid}
+use Rattle.doc_model.proofs.ByIdsLaws.{found_all}
+use Rattle.recalc.specs.declared.kept.KeptTable.{KeptTable}
+use Rattle.recalc.specs.Current.{IsCurrent, has_formula, has_formulas}
+use Rattle.recalc.specs.Evaluated.{formula_at, formula_cells, formula_in, sheet_of}
+use Rattle.recalc.specs.Sheet.{IsIn}
+use Rattle.recalc.proofs.PlainLemmas.{any_none}
+use Rattle.recalc.proofs.SheetLemmas.{is_sheet}
+use Rattle.affected_cells.specs.Affected.{is_modified}
+use Rattle.affected_cells.specs.Bound.{attempt_bound}
+use Rattle.known_reads.specs.Attempts.{HasFormulas}
+use Rattle.evaluated_doc.specs.declared.trace.Before.TheVariants.{Whole}
+use Rattle.evaluated_doc.specs.Spent.{HasSpent}
+use Rattle.evaluated_doc.proofs.SpentLemmas.{fresh_affected, spent}
+
+-- a document without formulas has no formula cells
+plain_cell : (s : Document) → has_formulas s ≡ false → (c : CellId) → formula_at s c ≡ None
+plain_cell s plain c =
+    elim (find_id table_id c.table s) as (λ (o : Option Table). find_id table_id c.table s ≡ o
+    → elim o as (λ _. Option (List ℕ)) [ None ↦ None | Some t ↦ elim (find_id column_id c.column t.grid.columns) as (λ _. Option (List ℕ)) [ None ↦ None | Some d ↦ formula_in t.grid c.row d ] ] ≡ None) [
+      | None ↦ λ e. refl
+      | Some t ↦ λ e. in_table t (found_all table_id (λ (t : Table). has_formula t.grid.columns ≡ false) c.table s t (any_none (λ (t : Table). has_formula t.grid.columns) s plain) e)
+    ] refl
+  where
+    in_table : (t : Table) → has_formula t.grid.columns ≡ false → elim (find_id column_id c.column t.grid.columns) as (λ _. Option (List ℕ)) [ None ↦ None | Some d ↦ formula_in t.grid c.row d ] ≡ None
+    in_table t h =
+        elim (find_id column_id c.column t.grid.columns) as (λ (o : Option ColDef). find_id column_id c.column t.grid.columns ≡ o → elim o as (λ _. Option (List ℕ)) [ None ↦ None | Some d ↦ formula_in t.grid c.row d ] ≡ None) [
+          | None ↦ λ e. refl
+          | Some d ↦ λ e. ap (λ b. cond (b && has t.grid.rows c.row) (Some d.info.formula) None)
+              (found_all column_id (λ (d : ColDef). d.info.is_formula ≡ false) c.column t.grid.columns d (any_none (λ (d : ColDef). d.info.is_formula) t.grid.columns h) e)
+        ] refl
+
+-- each formula cell is listed
+listed : (s : Document) → HasFormulas s (formula_cells s) (formula_cells s)
+listed s c here there = by (formula_at s c) refl there
+  where
+    by : (o : Option (List ℕ)) → formula_at s c ≡ o → is_some o ≡ true → IsIn c (formula_cells s)
+    by None e h = absurd (false≢true h)
+    by (Some f) e h = (is_sheet s).listed c f e
+
+-- where there were no formulas, each formula cell is one that the action may affect
+pub whole_spent : (s now : Document) (a : DocAction) (kept : Option (Vec KeptTable Global)) (old new : ℕ) → IsCurrent s (option_map (λ (v : Vec KeptTable Global). v.items) kept) → valid s a ≡ true → now ≡ apply s a
+    → ((all : List CellId) → HasFormulas now (formula_cells now) all → new ≤ old + attempt_bound (sheet_of now) all) → HasSpent s a (Whole kept) old new
+whole_spent s now a None old new plain ok done within =
+    spent s now a (formula_cells now) old new ok done (λ ok c here there. fresh_affected s a c there (ap (λ o. not (is_some o) || is_modified a c) (plain_cell s plain c))) within
+whole_spent s now a (Some kept) old new current ok done within = subst (λ d. new ≤ old + attempt_bound (sheet_of d) (formula_cells d)) done (within (formula_cells now) (listed now))

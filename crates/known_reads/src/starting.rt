@@ -1,0 +1,212 @@
+//! All formula cells of a document evaluated, each recorded by the attempt that finds its value:
+//! table by table, column by column, row by row.
+
+ghost use Rattle.std.specs.Prelude.{◌≡◌, ◌+◌, ◌*◌, ◌≤◌, List, length, map, IfOk, OnOk};
+ghost use Rattle.cell_types.specs.declared.cell.CellId.{CellId};
+ghost use Rattle.doc_model.specs.DocumentLaws.{IsWhole};
+ghost use Rattle.doc_readers.specs.Parts.{grid_at};
+ghost use Rattle.recalc.specs.Evaluated.{cells_of_column, cells_of_columns, formula_cells, sheet_of};
+ghost use Rattle.recalc.specs.Indexes.{AreIndexes};
+ghost use Rattle.recalc.specs.Kept.{IsEvaluated, IsSettled, blank_table, table_part};
+ghost use Rattle.recalc.specs.Remembered.{IsRemembered};
+ghost use Rattle.affected_cells.specs.Bound.{attempt_bound};
+ghost use Rattle.affected_search.specs.ExactNotes.{HasNoReads};
+ghost use Rattle.known_reads.specs.Attempts.{HasFormulas};
+ghost use Rattle.known_reads.specs.Beside.{KnowsOthers};
+ghost use Rattle.known_reads.specs.Walked.{AreHeld, IsWalked};
+
+use crate::beside::KnownReads;
+use crate::settling::settle_cell;
+use cell_types::Name;
+use doc_model::{ColDef, DocTables};
+use doc_readers::rows_in;
+use formula_eval::Steps;
+use recalc::{ColumnIndex, KeptTable, LastLookup, blank_tables, cell_id};
+use std::alloc::{AllocError, Global};
+use std::sync::ledger::Ledger;
+
+/// The values of the formula cells of a document, with what they read, and the indexes of the data
+/// columns by which they look rows up.
+#[derive(Drop)]
+pub struct Evaluated {
+    pub kept: Vec<KeptTable>,
+    pub reads: KnownReads,
+    pub indexes: Vec<ColumnIndex>,
+}
+
+// Evaluates the cells of a column whose values are not known, where it is a formula column.
+fn settle_column<D: DocTables, L: Ledger>(
+    alloc: Global,
+    tables: &D,
+    kept: &mut Vec<KeptTable>,
+    indexes: &mut Vec<ColumnIndex>,
+    last: &mut Option<LastLookup>,
+    reads: &mut KnownReads,
+    table: &Name,
+    column: &ColDef,
+    steps: &mut Steps<L>,
+) -> Result<(), AllocError>
+    requires whole { IsWhole (D.document tables.now) }
+    requires indexed { AreIndexes (sheet_of (D.document tables.now)) indexes.old.items }
+    requires remembered { IsRemembered (sheet_of (D.document tables.now)) last.old }
+    requires settled { IsSettled (D.document tables.now) kept.old.items }
+    ensures walked { OnOk result (IsWalked (D.document tables.now) kept.old.items reads.old
+        steps.old kept.new.items reads.new steps.new) }
+    ensures known { OnOk result (AreHeld (D.document tables.now) kept.new.items
+        (cells_of_column table.now (grid_at (D.document tables.now) table.now) column.now)) }
+    ensures indexed { OnOk result
+        (AreIndexes (sheet_of (D.document tables.now)) indexes.new.items) }
+    ensures remembered { OnOk result
+        (IsRemembered (sheet_of (D.document tables.now)) last.new) }
+{
+    if !column.info.is_formula {
+        return Ok(());
+    }
+    // The ids are copied once.
+    let mut cell = cell_id(table, &column.id, 0)?;
+    for row in rows_in(tables, table) {
+        cell.row = *row;
+        settle_cell(alloc, tables, kept, indexes, last, reads, &cell, steps)?;
+    }
+    Ok(())
+}
+
+// Evaluates the cells of a table whose values are not known.
+fn settle_table<D: DocTables, L: Ledger>(
+    alloc: Global,
+    tables: &D,
+    kept: &mut Vec<KeptTable>,
+    indexes: &mut Vec<ColumnIndex>,
+    last: &mut Option<LastLookup>,
+    reads: &mut KnownReads,
+    table: &Name,
+    steps: &mut Steps<L>,
+) -> Result<(), AllocError>
+    requires whole { IsWhole (D.document tables.now) }
+    requires indexed { AreIndexes (sheet_of (D.document tables.now)) indexes.old.items }
+    requires remembered { IsRemembered (sheet_of (D.document tables.now)) last.old }
+    requires settled { IsSettled (D.document tables.now) kept.old.items }
+    ensures walked { OnOk result (IsWalked (D.document tables.now) kept.old.items reads.old
+        steps.old kept.new.items reads.new steps.new) }
+    ensures known { OnOk result (AreHeld (D.document tables.now) kept.new.items
+        (cells_of_columns table.now (grid_at (D.document tables.now) table.now)
+        (grid_at (D.document tables.now) table.now).columns)) }
+    ensures indexed { OnOk result
+        (AreIndexes (sheet_of (D.document tables.now)) indexes.new.items) }
+    ensures remembered { OnOk result
+        (IsRemembered (sheet_of (D.document tables.now)) last.new) }
+{
+    let mut index = 0;
+    while let Some(column) = tables.column(table, index) {
+        settle_column(
+            alloc, tables, kept, indexes, last, reads, table, column, steps,
+        )?;
+        index += 1;
+    }
+    Ok(())
+}
+
+// Evaluates all cells whose values are not known, from a lookup that is remembered.
+fn settle_tables<D: DocTables, L: Ledger>(
+    alloc: Global,
+    tables: &D,
+    kept: &mut Vec<KeptTable>,
+    indexes: &mut Vec<ColumnIndex>,
+    last: &mut Option<LastLookup>,
+    reads: &mut KnownReads,
+    steps: &mut Steps<L>,
+) -> Result<(), AllocError>
+    requires whole { IsWhole (D.document tables.now) }
+    requires indexed { AreIndexes (sheet_of (D.document tables.now)) indexes.old.items }
+    requires remembered { IsRemembered (sheet_of (D.document tables.now)) last.old }
+    requires settled { IsSettled (D.document tables.now) kept.old.items }
+    ensures walked { OnOk result (IsWalked (D.document tables.now) kept.old.items reads.old
+        steps.old kept.new.items reads.new steps.new) }
+    ensures evaluated { OnOk result (IsEvaluated (D.document tables.now) kept.new.items) }
+    ensures indexed { OnOk result
+        (AreIndexes (sheet_of (D.document tables.now)) indexes.new.items) }
+{
+    let mut index = 0;
+    while let Some(table) = tables.table(index) {
+        settle_table(alloc, tables, kept, indexes, last, reads, table, steps)?;
+        index += 1;
+    }
+    Ok(())
+}
+
+// Evaluates all cells where none is known.
+fn settle_all<D: DocTables, L: Ledger>(
+    alloc: Global,
+    tables: &D,
+    evaluated: &mut Evaluated,
+    steps: &mut Steps<L>,
+) -> Result<(), AllocError>
+    requires whole { IsWhole (D.document tables.now) }
+    requires indexed { AreIndexes (sheet_of (D.document tables.now)) evaluated.old.indexes.items }
+    requires blank { map table_part evaluated.old.kept.items
+        ≡ map blank_table (D.document tables.now) }
+    requires none { HasNoReads evaluated.old.reads.graph }
+    ensures evaluated { OnOk result
+        (IsEvaluated (D.document tables.now) evaluated.new.kept.items) }
+    ensures reads { OnOk result (KnowsOthers (D.document tables.now) evaluated.new.reads) }
+    ensures indexed { OnOk result
+        (AreIndexes (sheet_of (D.document tables.now)) evaluated.new.indexes.items) }
+    ensures attempts { OnOk result
+        (steps.new ≤ steps.old + 2 * length (formula_cells (D.document tables.now))) }
+    ensures named { OnOk result ((all : List CellId)
+        → HasFormulas (D.document tables.now) (formula_cells (D.document tables.now)) all
+        → steps.new ≤ steps.old + attempt_bound (sheet_of (D.document tables.now)) all) }
+{
+    let mut last = None;
+    let done = settle_tables(
+        alloc,
+        tables,
+        &mut evaluated.kept,
+        &mut evaluated.indexes,
+        &mut last,
+        &mut evaluated.reads,
+        steps,
+    );
+    drop(last);
+    done?;
+    evaluated.reads.give_up_where_full(alloc);
+    Ok(())
+}
+
+/// Evaluates the formula cells of a document, and records what they read by the same attempts, of
+/// which it makes two a cell at most, and no more than one for each cell and one for each that its
+/// reads name. Where their reads are known to be too many, it records none. A circular cell is
+/// stale, and all are where the reads are too many.
+///
+/// Errors: out of memory.
+/// Memory: the values, a stack as deep as the chains of cells, what the graph takes, and an index
+/// of each data column by which lookups are made.
+/// Cost: linear in the formula cells and what they read; none for cells of data columns. A lookup
+/// whose keys are `id` and data columns reads the rows under the value of one key that is not
+/// CONTAINS, from the first on that was made by the columns; any other reads its whole table.
+pub fn evaluate_recording<D: DocTables, L: Ledger>(
+    alloc: Global,
+    tables: &D,
+    is_wide: bool,
+    steps: &mut Steps<L>,
+) -> Result<Evaluated, AllocError>
+    requires { IsWhole (D.document tables.now) }
+    ensures evaluated { IfOk result (λ x. IsEvaluated (D.document tables.now) x.kept.items) }
+    ensures reads { IfOk result (λ x. KnowsOthers (D.document tables.now) x.reads) }
+    ensures indexed { IfOk result
+        (λ x. AreIndexes (sheet_of (D.document tables.now)) x.indexes.items) }
+    ensures attempts { OnOk result
+        (steps.new ≤ steps.old + 2 * length (formula_cells (D.document tables.now))) }
+    ensures named { OnOk result ((all : List CellId)
+        → HasFormulas (D.document tables.now) (formula_cells (D.document tables.now)) all
+        → steps.new ≤ steps.old + attempt_bound (sheet_of (D.document tables.now)) all) }
+{
+    let kept = blank_tables(alloc, tables)?;
+    let mut evaluated = Evaluated {
+        kept,
+        reads: KnownReads::blank(alloc, is_wide),
+        indexes: Vec::new(alloc),
+    };
+    settle_all(alloc, tables, &mut evaluated, steps)?;
+    Ok(evaluated)
+}

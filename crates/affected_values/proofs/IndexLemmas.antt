@@ -6,7 +6,7 @@ use Rattle.std.specs.List.{list_any}
 use Rattle.std.specs.Str.{bytes_eq}
 use Rattle.cell_types.specs.declared.cell.CellId.{CellId}
 use Rattle.cell_types.specs.declared.cell.Read.{Read}
-use Rattle.cell_types.specs.declared.cell.Read.TheVariants.{Key, Rows}
+use Rattle.cell_types.specs.declared.cell.Read.TheVariants.{Cell, Key, Rows}
 use Rattle.cell_types.specs.declared.column_type.ColType.{ColType}
 use Rattle.doc_model.specs.declared.action.DocAction.{DocAction}
 use Rattle.doc_model.specs.declared.action.DocAction.TheVariants.{BulkAdd, BulkUpdate, BulkRemove, AddTable, RemoveTable, RenameTable, AddColumn, RemoveColumn, RenameColumn, ModifyColumn}
@@ -27,7 +27,7 @@ use Rattle.affected_cells.specs.TouchedRight.{IsSameCell, IsTouchedRight}
 use Rattle.affected_cells.proofs.KeptLaws.{update_law}
 use Rattle.affected_cells.proofs.RowsLaw.{rows_law}
 use Rattle.affected_cells.proofs.Tests.{flipped}
-use Rattle.affected_values.specs.Indexing.{leaves_column}
+use Rattle.affected_values.specs.Indexing.{leaves_column, table_of}
 
 -- ---- rows under buckets, in two sheets in which their cells are the same
 
@@ -50,21 +50,50 @@ module _ (s t : Sheet) (u c : List ℕ) (ty : ColType) (index : List (ℕ × Vec
 
 -- ---- an index that a change leaves alone
 
-module _ (s t : Sheet) (fresh : CellId → Bool) (touched : Read → Bool) (right : IsTouchedRight s t fresh touched) where
-  pub plain_same : (d : CellId) → IsSameCell s t fresh touched d → s.formula d ≡ None → (t.formula d ≡ None) × (s.base d ≡ t.base d)
-  plain_same d (inl x) e = (x.1, x.2)
-  plain_same d (inr x) e = let no : ◌≡◌ {A = Option (List ℕ)} None (Some x.0) = sym e ∙ x.1 in absurd (cc)
+-- a cell without a formula in the one sheet has none in the other, and holds the same
+abbrev IsSameData : Sheet → Sheet → CellId → Type 0
+IsSameData s t d = s.formula d ≡ None → (t.formula d ≡ None) × (s.base d ≡ t.base d)
 
+-- what is not touched tells the same of data in both sheets
+pub record TellsSame (s t : Sheet) (touched : Read → Bool) : Type 0 where
+  pub cell : (d : CellId) → touched (Cell d) ≡ false → (s.kind d.table d.column ≡ t.kind d.table d.column) × IsSameData s t d × IsSameData t s d
+  pub key : (u k : List ℕ) → touched (Key u k) ≡ false → (s.kind u k ≡ t.kind u k) × ((r : ℕ) → IsSameData s t (cell_of u k r) × IsSameData t s (cell_of u k r))
+  pub rows : (u : List ℕ) → touched (Rows u) ≡ false → s.rows u ≡ t.rows u
+
+pub turned : (s t : Sheet) (touched : Read → Bool) → TellsSame s t touched → TellsSame t s touched
+turned s t touched same = record {
+  cell = λ d free. let x = same.cell d free in (sym x.0, x.2, x.1);
+  key = λ u k free. let x = same.key u k free in (sym x.0, λ r. let y = x.1 r in (y.1, y.0));
+  rows = λ u free. sym (same.rows u free);
+}
+
+module _ (s t : Sheet) (fresh : CellId → Bool) (touched : Read → Bool) (right : IsTouchedRight s t fresh touched) where
+  there : (d : CellId) → IsSameCell s t fresh touched d → IsSameData s t d
+  there d (inl x) e = (x.1, x.2)
+  there d (inr x) e = let no : ◌≡◌ {A = Option (List ℕ)} None (Some x.0) = sym e ∙ x.1 in absurd (cc)
+
+  back : (d : CellId) → IsSameCell s t fresh touched d → IsSameData t s d
+  back d (inl x) e = (x.0, sym x.2)
+  back d (inr x) e = let no : ◌≡◌ {A = Option (List ℕ)} None (Some x.0) = sym e ∙ x.2 in absurd (cc)
+
+  pub tells_same : TellsSame s t touched
+  tells_same = record {
+    cell = λ d free. let x = right.cell d free in (x.0, there d x.1, back d x.1);
+    key = λ u k free. let x = right.key u k free in (x.0, λ r. (there (cell_of u k r) (x.1 r), back (cell_of u k r) (x.1 r)));
+    rows = right.rows;
+  }
+
+module _ (s t : Sheet) (touched : Read → Bool) (same : TellsSame s t touched) where
   index_same : (u c : List ℕ) (index : List (ℕ × Vec ℕ Global)) → touched (Key u c) ≡ false → touched (Rows u) ≡ false → IsIndex s u c index → IsIndex t u c index
   index_same u c index key rows h =
-      let free = right.key u c key in
-      let plain : (r : ℕ) → (t.formula (cell_of u c r) ≡ None) × (s.base (cell_of u c r) ≡ t.base (cell_of u c r)) = λ r. plain_same (cell_of u c r) (free.1 r) (h.no_formula r) in
+      let free = same.key u c key in
+      let plain : (r : ℕ) → (t.formula (cell_of u c r) ≡ None) × (s.base (cell_of u c r) ≡ t.base (cell_of u c r)) = λ r. (free.1 r).0 (h.no_formula r) in
       record {
         ty = h.ty;
         kind = sym free.0 ∙ h.kind;
         no_formula = λ r. (plain r).0;
         rows = h.rows;
-        listed = sym (right.rows u rows) ∙ h.listed;
+        listed = sym (same.rows u rows) ∙ h.listed;
         filled = under_same s t u c h.ty index h.rows (λ r _. (plain r).1) h.filled;
       }
 
@@ -92,17 +121,35 @@ other_table : (b : Bool) → not b ≡ true → (b || false) ≡ false
 other_table false h = refl
 other_table true h = absurd (false≢true h)
 
+not_both : (a b : Bool) → not a ≡ true → not (a && b) ≡ true
+not_both true b h = absurd (false≢true h)
+not_both false b h = refl
+
+some_name : (u t : List ℕ) → Some u ≡ Some t → u ≡ t
+some_name u t e = cc
+
+no_name : (t : List ℕ) → None ≡ Some t → ⊥
+no_name t e = cc
+
 module _ (s : Document) where
+  abbrev next : DocAction → Document
+  next a = apply s a
+
+  pub update_same : (t rows : List ℕ) (ks : List CellColumn) → valid s (BulkUpdate t rows ks) ≡ true → TellsSame (sheet_of s) (sheet_of (next (BulkUpdate t rows ks))) (λ q. list_any (λ (m : Touch). touched_by m q) (map (λ (k : CellColumn). cells_written t k.id rows) ks))
+  update_same t rows ks ok = tells_same (sheet_of s) (sheet_of (next (BulkUpdate t rows ks))) _ _ (update_law s t rows ks ok)
+
   pub index_left : (a : DocAction) → valid s a ≡ true → (i : ColumnIndex) → leaves_column a i.table i.column ≡ true
       → IsIndex (sheet_of s) i.table i.column i.index → IsIndex (sheet_of (apply s a)) i.table i.column i.index
   index_left (BulkUpdate t rows ks) ok i h is =
-      index_same (sheet_of s) (sheet_of (apply s (BulkUpdate t rows ks))) _ _ (update_law s t rows ks ok) i.table i.column i.index (not_written t rows i.table i.column ks h) (no_rows_moved t rows i.table ks) is
+      index_same (sheet_of s) (sheet_of (next (BulkUpdate t rows ks))) _ (update_same t rows ks ok) i.table i.column i.index (not_written t rows i.table i.column ks h) (no_rows_moved t rows i.table ks) is
   index_left (BulkAdd t rows ks) ok i h is =
       let free = other_table (bytes_eq i.table t) h in
-      index_same (sheet_of s) (sheet_of (apply s (BulkAdd t rows ks))) _ _ ((rows_law s t rows).added ks ok) i.table i.column i.index free free is
+      let n = sheet_of (next (BulkAdd t rows ks)) in
+      index_same (sheet_of s) n _ (tells_same (sheet_of s) n _ _ ((rows_law s t rows).added ks ok)) i.table i.column i.index free free is
   index_left (BulkRemove t rows) ok i h is =
       let free = other_table (bytes_eq i.table t) h in
-      index_same (sheet_of s) (sheet_of (apply s (BulkRemove t rows))) _ _ ((rows_law s t rows).removed ok) i.table i.column i.index free free is
+      let n = sheet_of (next (BulkRemove t rows)) in
+      index_same (sheet_of s) n _ (tells_same (sheet_of s) n _ _ ((rows_law s t rows).removed ok)) i.table i.column i.index free free is
   index_left (AddTable t row ds) ok i h is = absurd (false≢true h)
   index_left (RemoveTable t) ok i h is = absurd (false≢true h)
   index_left (RenameTable t new) ok i h is = absurd (false≢true h)
@@ -110,3 +157,26 @@ module _ (s : Document) where
   index_left (RemoveColumn t c) ok i h is = absurd (false≢true h)
   index_left (RenameColumn t c new) ok i h is = absurd (false≢true h)
   index_left (ModifyColumn t c info) ok i h is = absurd (false≢true h)
+
+  -- an index of another table, before the action
+  pub index_back : (a : DocAction) (t : List ℕ) → valid s a ≡ true → table_of a ≡ Some t → (i : ColumnIndex) → not (bytes_eq i.table t) ≡ true
+      → IsIndex (sheet_of (apply s a)) i.table i.column i.index → IsIndex (sheet_of s) i.table i.column i.index
+  index_back (BulkUpdate u rows ks) t ok e i h is =
+      let n = sheet_of (next (BulkUpdate u rows ks)) in
+      let other : not (bytes_eq i.table u && has_id given_id ks i.column) ≡ true = not_both (bytes_eq i.table u) (has_id given_id ks i.column) (ap (λ x. not (bytes_eq i.table x)) (some_name u t e) ∙ h) in
+      index_same n (sheet_of s) _ (turned (sheet_of s) n _ (update_same u rows ks ok)) i.table i.column i.index (not_written u rows i.table i.column ks other) (no_rows_moved u rows i.table ks) is
+  index_back (BulkAdd u rows ks) t ok e i h is =
+      let free = other_table (bytes_eq i.table u) (ap (λ x. not (bytes_eq i.table x)) (some_name u t e) ∙ h) in
+      let n = sheet_of (next (BulkAdd u rows ks)) in
+      index_same n (sheet_of s) _ (turned (sheet_of s) n _ (tells_same (sheet_of s) n _ _ ((rows_law s u rows).added ks ok))) i.table i.column i.index free free is
+  index_back (BulkRemove u rows) t ok e i h is =
+      let free = other_table (bytes_eq i.table u) (ap (λ x. not (bytes_eq i.table x)) (some_name u t e) ∙ h) in
+      let n = sheet_of (next (BulkRemove u rows)) in
+      index_same n (sheet_of s) _ (turned (sheet_of s) n _ (tells_same (sheet_of s) n _ _ ((rows_law s u rows).removed ok))) i.table i.column i.index free free is
+  index_back (AddTable u row ds) t ok e i h is = absurd (no_name t e)
+  index_back (RemoveTable u) t ok e i h is = absurd (no_name t e)
+  index_back (RenameTable u new) t ok e i h is = absurd (no_name t e)
+  index_back (AddColumn u d) t ok e i h is = absurd (no_name t e)
+  index_back (RemoveColumn u c) t ok e i h is = absurd (no_name t e)
+  index_back (RenameColumn u c new) t ok e i h is = absurd (no_name t e)
+  index_back (ModifyColumn u c info) t ok e i h is = absurd (no_name t e)

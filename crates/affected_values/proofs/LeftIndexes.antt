@@ -40,8 +40,8 @@ use Rattle.affected_cells.specs.Touched.{Touch, cells_written, touched_by}
 use Rattle.affected_cells.specs.TouchedRight.{IsTouchedRight}
 use Rattle.affected_cells.proofs.KeptLaws.{update_law}
 use Rattle.affected_cells.proofs.RowsLaw.{rows_law}
-use Rattle.affected_values.specs.Indexing.{AreLeft, IsIndexBut, IsLeft, leaves_column, rows_of}
-use Rattle.affected_values.proofs.IndexLemmas.{index_left, plain_same, under_same}
+use Rattle.affected_values.specs.Indexing.{IsIndexBut, IsLeft, LeftBackLaw, LeftOverLaw, leaves_column, rows_of}
+use Rattle.affected_values.proofs.IndexLemmas.{TellsSame, index_back, index_left, tells_same, turned, under_same, update_same}
 
 -- ---- what stands in lists of rows
 
@@ -319,7 +319,7 @@ module _ (s : Sheet) (u c : List ℕ) (ty : ColType) (rows gone : List ℕ) wher
 
 -- ---- over an action
 
-module _ (s t : Sheet) (fresh : CellId → Bool) (touched : Read → Bool) (right : IsTouchedRight s t fresh touched) (gone u c : List ℕ) (index : List (ℕ × Vec ℕ Global))
+module _ (s t : Sheet) (touched : Read → Bool) (alike : TellsSame s t touched) (gone u c : List ℕ) (index : List (ℕ × Vec ℕ Global))
     (free : (r : ℕ) → has gone r ≡ false → touched (Cell (cell_of u c r)) ≡ false)
     (after : (rows : List ℕ) → s.rows u ≡ Some rows → (next : List ℕ) × (t.rows u ≡ Some next) × ((r : ℕ) → has gone r ≡ false → has next r ≡ has rows r)) where
   but_after : IsIndexBut s gone u c index → IsIndexBut t gone u c index
@@ -328,7 +328,7 @@ module _ (s t : Sheet) (fresh : CellId → Bool) (touched : Read → Bool) (righ
       let moved = after is.rows is.listed in
       record {
         ty = is.ty;
-        kind = sym (right.cell (cell_of u c other.0) (free other.0 other.1)).0 ∙ is.kind;
+        kind = sym (alike.cell (cell_of u c other.0) (free other.0 other.1)).0 ∙ is.kind;
         no_formula = λ r h. (plain r h).0;
         rows = moved.0;
         listed = moved.1;
@@ -336,7 +336,7 @@ module _ (s t : Sheet) (fresh : CellId → Bool) (touched : Read → Bool) (righ
       }
     where
       plain : (r : ℕ) → has gone r ≡ false → (t.formula (cell_of u c r) ≡ None) × (s.base (cell_of u c r) ≡ t.base (cell_of u c r))
-      plain r h = plain_same s t fresh touched right (cell_of u c r) (right.cell (cell_of u c r) (free r h)).1 (is.no_formula r h)
+      plain r h = (alike.cell (cell_of u c r) (free r h)).1 (is.no_formula r h)
 
       outside : (r : ℕ) → has (without gone is.rows) r ≡ true → has gone r ≡ false
       outside r h = by (has gone r) (has is.rows r) (sym (has-filter (λ z. not (has gone z)) is.rows r) ∙ h)
@@ -375,6 +375,17 @@ module _ (gone id : List ℕ) (f : Grid ColDef → Grid ColDef) (keeps : (g : Gr
       by true (Some x) h = ((f x.grid).rows, refl, λ r e. keeps x.grid r e ∙ ap (λ l. has l r) (some_same x.grid.rows rows h))
       by false (Some x) h = (x.grid.rows, refl, λ r e. ap (λ l. has l r) (some_same x.grid.rows rows h))
 
+  rows_before : (s : Document) (u next : List ℕ) → rows_at (with_table id (on_grid f) s) u ≡ Some next
+      → (rows : List ℕ) × (rows_at s u ≡ Some rows) × ((r : ℕ) → has gone r ≡ false → has rows r ≡ has next r)
+  unfolding told
+  rows_before s u next h = by (bytes_eq id u) (find_id table_id u s) (sym (ap told (find-with_id table_id id (on_grid f) (λ y. refl) s u)) ∙ h)
+    where
+      by : (b : Bool) (o : Option Table) → told (cond b (option_map (on_grid f) o) o) ≡ Some next → (rows : List ℕ) × (told o ≡ Some rows) × ((r : ℕ) → has gone r ≡ false → has rows r ≡ has next r)
+      by true None h = absurd (none_some next h)
+      by false None h = absurd (none_some next h)
+      by true (Some x) h = (x.grid.rows, refl, λ r e. sym (keeps x.grid r e) ∙ ap (λ l. has l r) (some_same (f x.grid).rows next h))
+      by false (Some x) h = (x.grid.rows, refl, λ r e. ap (λ l. has l r) (some_same x.grid.rows next h))
+
 not_among : (a b : Bool) → b ≡ false → ((a && b) || false) ≡ false
 not_among true true h = h
 not_among true false h = refl
@@ -392,39 +403,73 @@ no_cell_written t rows u c r (k ∷ ks) h =
     by true false d h = refl
     by false b d h = refl
 
-module _ (s : Document) (u c : List ℕ) (index : List (ℕ × Vec ℕ Global)) where
-  abbrev Over : DocAction → List ℕ → Type 0
-  Over a rows = IsIndexBut (sheet_of s) rows u c index → IsIndexBut (sheet_of (apply s a)) rows u c index
+-- an action on records changes the grid of one table, and no rows but its own
+record IsOfRows (s : Document) (a : DocAction) (id gone : List ℕ) : Type 0 where
+  f : Grid ColDef → Grid ColDef
+  done : apply s a ≡ with_table id (on_grid f) s
+  keeps : (g : Grid ColDef) (r : ℕ) → has gone r ≡ false → has (f g).rows r ≡ has g.rows r
+  touched : Read → Bool
+  alike : TellsSame (sheet_of s) (sheet_of (apply s a)) touched
+  free : (u c : List ℕ) (r : ℕ) → has gone r ≡ false → touched (Cell (cell_of u c r)) ≡ false
 
-  abbrev HasRowsAfter : DocAction → List ℕ → Type 0
-  HasRowsAfter a gone = (rows : List ℕ) → rows_at s u ≡ Some rows → (next : List ℕ) × (rows_at (apply s a) u ≡ Some next) × ((r : ℕ) → has gone r ≡ false → has next r ≡ has rows r)
+module _ (s : Document) where
+  done_so : (a : DocAction) (id : List ℕ) (f : Grid ColDef → Grid ColDef) → valid s a ≡ true → effect s a ≡ with_table id (on_grid f) s → apply s a ≡ with_table id (on_grid f) s
+  done_so a id f ok e = cond_true (valid s a) (effect s a) s ok ∙ e
 
-  changed : (a : DocAction) (gone id : List ℕ) (f : Grid ColDef → Grid ColDef) → valid s a ≡ true → effect s a ≡ with_table id (on_grid f) s
-      → ((g : Grid ColDef) (r : ℕ) → has gone r ≡ false → has (f g).rows r ≡ has g.rows r) → HasRowsAfter a gone
-  changed a gone id f ok e keeps rows h =
-      let x = rows_after gone id f keeps s u rows h in
-      (x.0, ap (λ d. rows_at d u) (cond_true (valid s a) (effect s a) s ok ∙ e) ∙ x.1, x.2)
+  of_rows : (a : DocAction) (rows : List ℕ) → valid s a ≡ true → rows_of a ≡ Some rows → (id : List ℕ) × IsOfRows s a id rows
+  of_rows (BulkUpdate t rs ks) rows ok e = (
+    t,
+    subst (IsOfRows s (BulkUpdate t rs ks) t) (some_same rs rows e) (record {
+      f = update_rows column_id rs ks;
+      done = done_so (BulkUpdate t rs ks) t (update_rows column_id rs ks) ok refl;
+      keeps = λ g r _. refl;
+      touched = λ q. list_any (λ (m : Touch). touched_by m q) (map (λ (k : CellColumn). cells_written t k.id rs) ks);
+      alike = update_same s t rs ks ok;
+      free = λ u c r h. no_cell_written t rs u c r ks h;
+    }),
+  )
+  of_rows (BulkAdd t rs ks) rows ok e = (
+    t,
+    subst (IsOfRows s (BulkAdd t rs ks) t) (some_same rs rows e) (record {
+      f = add_rows column_id start_of rs ks;
+      done = done_so (BulkAdd t rs ks) t (add_rows column_id start_of rs ks) ok refl;
+      keeps = λ g r h. has-insert_rows rs g.rows r ∙ ap (λ b. b || has g.rows r) h;
+      touched = _;
+      alike = tells_same (sheet_of s) (sheet_of (apply s (BulkAdd t rs ks))) _ _ ((rows_law s t rs).added ks ok);
+      free = λ u c r h. not_among (bytes_eq u t) (has rs r) h;
+    }),
+  )
+  of_rows (BulkRemove t rs) rows ok e = (
+    t,
+    subst (IsOfRows s (BulkRemove t rs) t) (some_same rs rows e) (record {
+      f = remove_rows column_id rs;
+      done = done_so (BulkRemove t rs) t (remove_rows column_id rs) ok refl;
+      keeps = λ g r h. has-filter (λ z. not (has rs z)) g.rows r ∙ ap (λ b. not b && has g.rows r) h;
+      touched = _;
+      alike = tells_same (sheet_of s) (sheet_of (apply s (BulkRemove t rs))) _ _ ((rows_law s t rs).removed ok);
+      free = λ u c r h. not_among (bytes_eq u t) (has rs r) h;
+    }),
+  )
+  of_rows (AddTable t n ds) rows ok e = absurd (none_some rows e)
+  of_rows (RemoveTable t) rows ok e = absurd (none_some rows e)
+  of_rows (RenameTable t new) rows ok e = absurd (none_some rows e)
+  of_rows (AddColumn t d) rows ok e = absurd (none_some rows e)
+  of_rows (RemoveColumn t d) rows ok e = absurd (none_some rows e)
+  of_rows (RenameColumn t d new) rows ok e = absurd (none_some rows e)
+  of_rows (ModifyColumn t d info) rows ok e = absurd (none_some rows e)
 
-  pub but_over : (a : DocAction) (rows : List ℕ) → valid s a ≡ true → rows_of a ≡ Some rows → Over a rows
-  but_over (BulkUpdate t rs ks) rows ok e =
-      subst (Over (BulkUpdate t rs ks)) (some_same rs rows e)
-      (but_after (sheet_of s) (sheet_of (apply s (BulkUpdate t rs ks))) _ _ (update_law s t rs ks ok) rs u c index (λ r h. no_cell_written t rs u c r ks h)
-      (changed (BulkUpdate t rs ks) rs t (update_rows column_id rs ks) ok refl (λ g r _. refl)))
-  but_over (BulkAdd t rs ks) rows ok e =
-      subst (Over (BulkAdd t rs ks)) (some_same rs rows e)
-      (but_after (sheet_of s) (sheet_of (apply s (BulkAdd t rs ks))) _ _ ((rows_law s t rs).added ks ok) rs u c index (λ r h. not_among (bytes_eq u t) (has rs r) h)
-      (changed (BulkAdd t rs ks) rs t (add_rows column_id start_of rs ks) ok refl (λ g r h. has-insert_rows rs g.rows r ∙ ap (λ b. b || has g.rows r) h)))
-  but_over (BulkRemove t rs) rows ok e =
-      subst (Over (BulkRemove t rs)) (some_same rs rows e)
-      (but_after (sheet_of s) (sheet_of (apply s (BulkRemove t rs))) _ _ ((rows_law s t rs).removed ok) rs u c index (λ r h. not_among (bytes_eq u t) (has rs r) h)
-      (changed (BulkRemove t rs) rs t (remove_rows column_id rs) ok refl (λ g r h. has-filter (λ z. not (has rs z)) g.rows r ∙ ap (λ b. not b && has g.rows r) h)))
-  but_over (AddTable t n ds) rows ok e = absurd (none_some rows e)
-  but_over (RemoveTable t) rows ok e = absurd (none_some rows e)
-  but_over (RenameTable t new) rows ok e = absurd (none_some rows e)
-  but_over (AddColumn t d) rows ok e = absurd (none_some rows e)
-  but_over (RemoveColumn t d) rows ok e = absurd (none_some rows e)
-  but_over (RenameColumn t d new) rows ok e = absurd (none_some rows e)
-  but_over (ModifyColumn t d info) rows ok e = absurd (none_some rows e)
+  module _ (u c : List ℕ) (index : List (ℕ × Vec ℕ Global)) (a : DocAction) (rows : List ℕ) (ok : valid s a ≡ true) (e : rows_of a ≡ Some rows) where
+    but_over : IsIndexBut (sheet_of s) rows u c index → IsIndexBut (sheet_of (apply s a)) rows u c index
+    but_over =
+        let x = of_rows a rows ok e in
+        but_after (sheet_of s) (sheet_of (apply s a)) x.1.touched x.1.alike rows u c index (x.1.free u c)
+        (λ rs h. let y = rows_after rows x.0 x.1.f x.1.keeps s u rs h in (y.0, ap (λ d. rows_at d u) x.1.done ∙ y.1, y.2))
+
+    but_back : IsIndexBut (sheet_of (apply s a)) rows u c index → IsIndexBut (sheet_of s) rows u c index
+    but_back =
+        let x = of_rows a rows ok e in
+        but_after (sheet_of (apply s a)) (sheet_of s) x.1.touched (turned (sheet_of s) (sheet_of (apply s a)) x.1.touched x.1.alike) rows u c index (x.1.free u c)
+        (λ rs h. rows_before rows x.0 x.1.f x.1.keeps s u rs (sym (ap (λ d. rows_at d u) x.1.done) ∙ h))
 
 -- ---- indexes that are left, over an action
 
@@ -447,9 +492,19 @@ module _ (a : DocAction) (i : ColumnIndex) where
     one_after : IsLeft (sheet_of s) a i → IsLeft (sheet_of (apply s a)) a i
     one_after h = by_column (leaves_column a i.table i.column) refl h
 
-pub left_after : (s : Document) (a : DocAction) → valid s a ≡ true → (indexes : List ColumnIndex) → AreLeft s a indexes → AreLeft (apply s a) a indexes
+pub left_after : LeftOverLaw
 left_after s a ok [] all = tt
 left_after s a ok (i ∷ indexes) all = (one_after a i s ok all.0, left_after s a ok indexes all.1)
+
+-- ---- and back
+
+pub left_back : LeftBackLaw
+left_back s a t rows ok of is [] all = tt
+left_back s a t rows ok of is (i ∷ indexes) all = (by (not (bytes_eq i.table t)) refl all.0, left_back s a t rows ok of is indexes all.1)
+  where
+    by : (b : Bool) → not (bytes_eq i.table t) ≡ b → Left (BulkRemove t rows) i (sheet_of (apply s a)) b → Left (BulkRemove t rows) i (sheet_of s) b
+    by true e h = index_back s a t ok of i e h
+    by false e h = but_back s i.table i.column i.index a rows ok is h
 
 pub last_index : (s : Sheet) (indexes : List ColumnIndex) (i : ColumnIndex) → AreIndexes s (indexes ++ i ∷ []) → IsIndex s i.table i.column i.index
 last_index s [] i all = all.0

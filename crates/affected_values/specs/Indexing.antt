@@ -35,6 +35,13 @@ rows_of (BulkUpdate t rows ks) = Some rows
 rows_of (BulkRemove t rows) = Some rows
 rows_of _ = None
 
+-- their table
+abbrev pub table_of : DocAction → Option (List ℕ)
+table_of (BulkAdd t rows ks) = Some t
+table_of (BulkUpdate t rows ks) = Some t
+table_of (BulkRemove t rows) = Some t
+table_of _ = None
+
 -- a column of the document, without formulas
 pub record IsDataColumn (s : Document) (t c : List ℕ) (d : ColDef) : Type 0 where
   pub there : Some d ≡ find_id column_id d.id (grid_at s t).columns
@@ -64,10 +71,13 @@ IsLeft s a i = elim (leaves_column a i.table i.column) [
 abbrev pub AreLeft : Document → DocAction → List ColumnIndex → Type 0
 AreLeft s a indexes = AllByRecursion (IsLeft (sheet_of s) a) indexes
 
--- the document is that after a valid action, before which these indexes were left
-pub record AreLeftBefore (next : Document) (a : DocAction) (indexes : List ColumnIndex) :
-    Type 0 where
-  pub before : Document
-  pub ok : valid before a ≡ true
-  pub done : next ≡ apply before a
-  pub left : AreLeft before a indexes
+-- what was left before an action is left after it
+abbrev pub LeftOverLaw : Type 0
+LeftOverLaw = (s : Document) (a : DocAction) → valid s a ≡ true → (indexes : List ColumnIndex)
+    → AreLeft s a indexes → AreLeft (apply s a) a indexes
+
+-- what was left after an action, for its rows to go, is left so before it
+abbrev pub LeftBackLaw : Type 0
+LeftBackLaw = (s : Document) (a : DocAction) (t rows : List ℕ) → valid s a ≡ true
+    → table_of a ≡ Some t → rows_of a ≡ Some rows → (indexes : List ColumnIndex)
+    → AreLeft (apply s a) (BulkRemove t rows) indexes → AreLeft s (BulkRemove t rows) indexes

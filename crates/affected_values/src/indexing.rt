@@ -7,7 +7,7 @@ ghost use Rattle.doc_model.specs.Column.{column_id};
 ghost use Rattle.doc_readers.specs.Parts.{grid_at};
 ghost use Rattle.recalc.specs.Evaluated.{sheet_of};
 ghost use Rattle.recalc.specs.Indexes.{AreIndexes, IsIndex};
-ghost use Rattle.affected_values.specs.Indexing.{AreLeft, AreLeftBefore, IsDataColumn, IsIndexBut, IsLeft, leaves_column, rows_of};
+ghost use Rattle.affected_values.specs.Indexing.{AreLeft, IsDataColumn, IsIndexBut, IsLeft, leaves_column, rows_of};
 
 use cell_types::Name;
 use doc_model::{ColDef, DocAction, DocTables};
@@ -227,7 +227,7 @@ pub fn leave_indexes<D: DocTables>(
     }
 }
 
-/// Puts the rows of an action on records into the indexes that were left before it, now that it is
+/// Puts the rows of an action on records into the indexes that were left for it, now that it is
 /// done. An index is given up where an error stands in a cell, or where memory is wanting.
 ///
 /// Memory: a place for each index, and what a row takes under a bucket. Cost: as of
@@ -238,7 +238,7 @@ pub fn enter_indexes<D: DocTables>(
     left: Vec<ColumnIndex>,
     action: &DocAction,
 ) -> Vec<ColumnIndex>
-    requires { AreLeftBefore (D.document tables.now) action.now left.items }
+    requires { AreLeft (D.document tables.now) action.now left.items }
     ensures { AreIndexes (sheet_of (D.document tables.now)) result.items }
 {
     match enter_each(alloc, tables, left, action) {

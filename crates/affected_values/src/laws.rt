@@ -1,6 +1,7 @@
 //! Laws of values that are kept over an action.
 
 ghost use Rattle.affected_values.specs.Altered.{AlteredLaw};
+ghost use Rattle.affected_values.specs.Indexing.{LeftBackLaw, LeftOverLaw};
 ghost use Rattle.affected_values.specs.RowsOver.{LeadsOverRowsLaw, RightLaidLaw, RowsBackLaw, RowsLeftLaw};
 ghost use Rattle.affected_values.specs.SamePlaces.{LeftRightLaw, SamePlacesLaw};
 ghost use Rattle.affected_values.specs.WaysBack.{LeadsOverLaw, WayBackLaw};
@@ -50,4 +51,14 @@ pub fn rows_left_law()
 /// it alters is new, or its column is modified.
 pub fn altered_law()
     ensures { AlteredLaw }
+{}
+
+/// What is left of indexes before an action on records is left after it.
+pub fn left_over_law()
+    ensures { LeftOverLaw }
+{}
+
+/// What is left of indexes after an action on records, for its rows to go, is left so before it.
+pub fn left_back_law()
+    ensures { LeftBackLaw }
 {}

@@ -16,7 +16,8 @@
 //! right then (`right_laid_law`), and `lay_back` leads back (`leads_over_rows_law`,
 //! `rows_back_law`, `rows_left_law`). `push_row_cells` tells the formula cells of such rows.
 //! Over an action on records indexes of data columns are kept up: `leave_indexes` takes its rows
-//! out before it, `enter_indexes` puts them in after it.
+//! out before it, `enter_indexes` puts them in after it (`left_over_law`); so they are on the way
+//! back, as if the rows went (`left_back_law`).
 //! Over an action on no records `carry_values` copies the values that are kept beside the tables
 //! and columns as they are then; of each formula cell that the action does not alter the value
 //! stands in its place. `push_altered_cells` tells the formula cells that it alters; by
@@ -41,8 +42,8 @@ pub use altered_cells::push_altered_cells;
 pub use carrying::carry_values;
 pub use indexing::{enter_indexes, leave_indexes};
 pub use laws::{
-    altered_law, leads_over_law, leads_over_rows_law, left_right_law, right_laid_law,
-    rows_back_law, rows_left_law, same_places_law, way_back_law,
+    altered_law, leads_over_law, leads_over_rows_law, left_back_law, left_over_law, left_right_law,
+    right_laid_law, rows_back_law, rows_left_law, same_places_law, way_back_law,
 };
 pub use naming::named_cells;
 pub use relaying::{LaidAside, lay_anew, lay_back};

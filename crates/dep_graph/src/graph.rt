@@ -1,6 +1,6 @@
 //! The graph of reads.
 
-ghost use Rattle.std.specs.Prelude.{◌≡◌, [], ℕ, true, IfSome, OnOk, OnErr, Some, slice_get};
+ghost use Rattle.std.specs.Prelude.{◌≡◌, [], ℕ, true, false, IfOk, IfSome, OnOk, OnErr, Some, slice_get};
 ghost use Rattle.std.specs.Option.{option_copied};
 ghost use Rattle.doc_model.specs.Rows.{has, IsAscending};
 ghost use Rattle.std.specs.List.{list_any};
@@ -61,12 +61,13 @@ impl DepGraph {
         }
     }
 
-    /// Records what a run noted as read, in the place of what the cell read before. Where that is
-    /// the same, it is a comparison alone.
+    /// Records what a run noted as read, in the place of what the cell read before, and tells
+    /// whether that is something else. Where it is the same, it is a comparison alone.
     ///
     /// Errors: out of memory; each cell then reads what it read.
-    pub fn set(&mut self, reader: &CellId, notes: &NoteList) -> Result<(), AllocError>
+    pub fn set(&mut self, reader: &CellId, notes: &NoteList) -> Result<bool, AllocError>
         ensures ok { OnOk result (IsSet self.old self.new reader.now notes.now) }
+        ensures same { IfOk result (λ is_other. is_other ≡ false → IsKept self.old self.new) }
         ensures err { OnErr result (IsKept self.old self.new) }
     {
         let cell = cell_number(&mut self.names, reader)?;
@@ -77,8 +78,9 @@ impl DepGraph {
     /// The same, where notes stand together.
     ///
     /// Errors: out of memory; each cell then reads what it read.
-    pub fn set_runs(&mut self, reader: &CellId, runs: &NoteRuns) -> Result<(), AllocError>
+    pub fn set_runs(&mut self, reader: &CellId, runs: &NoteRuns) -> Result<bool, AllocError>
         ensures ok { OnOk result (IsSet self.old self.new reader.now runs.now) }
+        ensures same { IfOk result (λ is_other. is_other ≡ false → IsKept self.old self.new) }
         ensures err { OnErr result (IsKept self.old self.new) }
     {
         let cell = cell_number(&mut self.names, reader)?;

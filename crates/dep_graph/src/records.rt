@@ -1,6 +1,6 @@
 //! The reads of each cell, recorded in one map, and the cells of each read in another.
 
-ghost use Rattle.std.specs.Prelude.{◌≡◌, [], true, IfOk, IsSome, OnOk, OnErr};
+ghost use Rattle.std.specs.Prelude.{◌≡◌, [], true, false, IfOk, IsSome, OnOk, OnErr};
 ghost use Rattle.std.specs.Map.{lookup};
 ghost use Rattle.dep_graph.specs.Numbers.{is_cell};
 ghost use Rattle.dep_graph.specs.Readers.{items_of, links};
@@ -47,7 +47,7 @@ fn set_of(alloc: Global, reads: &[ReadNumber]) -> Result<HashSet<ReadNumber>, Al
     Ok(set)
 }
 
-/// Records the reads of a cell in the place of those before.
+/// Records the reads of a cell in the place of those before, and tells whether these are others.
 ///
 /// Errors: out of memory; all is then recorded as before. Cost: where the reads are those before,
 /// a comparison alone.
@@ -57,14 +57,16 @@ pub(crate) fn record(
     alloc: Global,
     cell: CellNumber,
     new: Vec<ReadNumber>,
-) -> Result<(), AllocError>
+) -> Result<bool, AllocError>
     requires { IsInverse reads.old.entries readers.old }
     ensures ok { OnOk result (IsRecorded reads.old.entries reads.new.entries cell new.items) }
+    ensures same { IfOk result (λ are_others. are_others ≡ false
+        → HasSameReads reads.old.entries reads.new.entries) }
     ensures err { OnErr result (HasSameReads reads.old.entries reads.new.entries) }
     ensures inverse { IsInverse reads.new.entries readers.new }
 {
     if recorded(&*reads, cell) == new.as_slice() {
-        return Ok(());
+        return Ok(false);
     }
     let kept = set_of(alloc, new.as_slice())?;
     reads.reserve(1)?;
@@ -79,7 +81,7 @@ pub(crate) fn record(
         unreachable!()
     };
     unlink(readers, cell, items_of(&before), &kept);
-    Ok(())
+    Ok(true)
 }
 
 /// Forgets the reads of a cell.

@@ -7,7 +7,6 @@ use Rattle.cell_types.specs.declared.value.CellValue.{CellValue}
 use Rattle.doc_model.specs.declared.action.DocAction.{DocAction}
 use Rattle.doc_model.specs.declared.action.DocAction.TheVariants.{AddColumn, AddTable, BulkAdd, BulkRemove, BulkUpdate, ModifyColumn, RemoveColumn, RemoveTable, RenameColumn, RenameTable}
 use Rattle.doc_model.specs.Document.{Document}
-use Rattle.doc_model.specs.DocumentLaws.{IsWhole}
 use Rattle.recalc.specs.declared.kept.KeptTable.{KeptTable}
 use Rattle.recalc.specs.Evaluated.{formula_at, sheet_of, value_of}
 use Rattle.recalc.specs.Kept.{IsEvaluated, held_at}
@@ -16,11 +15,10 @@ use Rattle.recalc.specs.Stack.{on}
 use Rattle.affected_cells.specs.Affected.{is_modified}
 use Rattle.affected_cells.specs.Noted.{notes}
 use Rattle.affected_search.specs.Sheets.{is_found}
-use Rattle.affected_values.specs.Altered.{AlteredLaw, HasAltered, IsAlteredRight, IsCarried, is_altered}
+use Rattle.affected_values.specs.Altered.{AlteredLaw, HasAltered, IsAlteredFrom, IsCarried, is_altered}
 use Rattle.affected_values.specs.Taken.{IsRightBut}
 use Rattle.affected_values.proofs.HeldNone.{held_none}
-use Rattle.known_reads.specs.Beside.{Beside, IsNoted, KnowsOthers}
-use Rattle.known_reads.specs.Moved.{NotedLaw, ReadsSameAfter}
+use Rattle.known_reads.specs.Beside.{Beside}
 use Rattle.known_reads.specs.Recorded.{KnowsBut}
 use Rattle.known_reads.proofs.BesideLemmas.{read_same}
 use Rattle.evaluated_doc.specs.declared.altering.Altered.{Altered}
@@ -58,17 +56,22 @@ none_there d a cells has c altered other = by (formula_at d c) refl
     by None e = refl
     by (Some f) e = absurd (true≢false (sym (has c altered (ap is_some e)) ∙ other))
 
+-- but for the cells that are altered each cell has the formula that it had
+pub formula_same : AlteredLaw → (s now : Document) (a : DocAction) → IsAlteredFrom s now a → (cells : List CellId) → HasAltered s a cells → HasAltered now a cells → (c : CellId) → on cells c ≡ false → formula_at now c ≡ formula_at s c
+formula_same law s now a from cells before after c other = by (is_altered a c) refl
+  where
+    by : (b : Bool) → is_altered a c ≡ b → formula_at now c ≡ formula_at s c
+    by true e = none_there now a cells after c e other ∙ sym (none_there s a cells before c e other)
+    by false e = (law s now a from).stays c e
+
+-- what is altered is among more cells too
+pub altered_more : (s : Document) (a : DocAction) (old new : List CellId) → HasAltered s a old → ((c : CellId) → on old c ≡ true → on new c ≡ true) → HasAltered s a new
+altered_more s a old new has more c h there = more c (has c h there)
+
 module _ (law : AlteredLaw) (s now : Document) (a : DocAction) (kept : List KeptTable) (known : Beside) (x : Altered) (is : IsAltering s now a kept known x)
     (cells : List CellId) (found : HasFoundAltered s known.graph a cells) (after : HasAltered now a cells) where
-  abbrev altered_right : IsAlteredRight s now a
-  altered_right = law s now a is.altered
-
-  formula_same : (c : CellId) → on cells c ≡ false → formula_at now c ≡ formula_at s c
-  formula_same c other = by (is_altered a c) refl
-    where
-      by : (b : Bool) → is_altered a c ≡ b → formula_at now c ≡ formula_at s c
-      by true e = none_there now a cells after c e other ∙ sym (none_there s a cells found.altered c e other)
-      by false e = altered_right.stays c e
+  stays : (c : CellId) → on cells c ≡ false → formula_at now c ≡ formula_at s c
+  stays = formula_same law s now a is.altered cells found.altered after
 
   not_altered : (c : CellId) (f : List ℕ) → formula_at now c ≡ Some f → on cells c ≡ false → is_altered a c ≡ false
   not_altered c f e other = by (is_altered a c) refl
@@ -89,7 +92,7 @@ module _ (law : AlteredLaw) (s now : Document) (a : DocAction) (kept : List Kept
   same c f e other =
       subst (λ d. (evaluated (sheet_of d) c ≡ evaluated (sheet_of s) c) × (notes (sheet_of d) c ≡ notes (sheet_of s) c)) (sym is.altered.done)
       (found.found.keeps is.altered.ok c f (ap (λ d. formula_at d c) (sym is.altered.done) ∙ e)
-      (ap (λ o. not (is_some o) || is_modified a c) (sym (formula_same c other) ∙ e) ∙ not_modified a c (not_altered c f e other)) (not_found c other))
+      (ap (λ o. not (is_some o) || is_modified a c) (sym (stays c other) ∙ e) ∙ not_modified a c (not_altered c f e other)) (not_found c other))
 
   same_notes : (c : CellId) → is_some (formula_at now c) ≡ true → on cells c ≡ false → notes (sheet_of s) c ≡ notes (sheet_of now) c
   same_notes c there other = by (formula_at now c) refl there
@@ -98,20 +101,14 @@ module _ (law : AlteredLaw) (s now : Document) (a : DocAction) (kept : List Kept
       by None e h = absurd (false≢true h)
       by (Some f) e h = sym (same c f e other).1
 
-  pub reads_before : ReadsSameAfter now s cells
-  reads_before = record {
-    there = λ c other. ap is_some (formula_same c other);
-    same = λ c there other. sym (same_notes c (ap is_some (formula_same c other) ∙ there) other);
-  }
-
   -- the graph is right of each cell but these
   pub reads_but : KnowsBut now known cells
-  reads_but c fresh other = read_same s now known.graph c (ap is_some (sym (formula_same c other))) (λ there. same_notes c there other) (is.others c fresh)
+  reads_but c fresh other = read_same s now known.graph c (ap is_some (sym (stays c other))) (λ there. same_notes c there other) (is.others c fresh)
 
   held_was : (new : List KeptTable) → IsCarried s now a kept new → (c : CellId) (f : List ℕ) → formula_at now c ≡ Some f → on cells c ≡ false → held_at now new c ≡ Some (evaluated (sheet_of now) c)
   held_was new carried c f e other =
       carried.held c (ap is_some e) (not_altered c f e other)
-      ∙ kept_value s kept is.right c f (sym (formula_same c other) ∙ e)
+      ∙ kept_value s kept is.right c f (sym (stays c other) ∙ e)
       ∙ ap (λ v. Some v) (sym (same c f e other).0)
 
   -- the values that were carried are right of each cell but these
@@ -133,11 +130,5 @@ module _ (law : AlteredLaw) (s now : Document) (a : DocAction) (kept : List Kept
 pub with_more : (s : Document) (known : Beside) (a : DocAction) (old new : List CellId) → HasFoundAltered s known.graph a old → ((c : CellId) → on old c ≡ true → on new c ≡ true) → HasFoundAltered s known.graph a new
 with_more s known a old new has more = record {
   found = record { found = has.found.found; keeps = has.found.keeps; named = λ c h. more c (has.found.named c h) };
-  altered = λ c h there. more c (has.altered c h there);
+  altered = altered_more s a old new has.altered more;
 }
-
--- what holds of a document and what is kept beside it
-pub gone_back_to : NotedLaw → (s now d : Document) (stale : List CellId) (kept : List KeptTable) (old new : Beside) → IsEvaluated s kept → ReadsSameAfter now s stale → d ≡ s → IsWhole s → IsNoted old new stale → KnowsOthers now old
-    → IsWhole d × IsEvaluated d kept × KnowsOthers d new
-gone_back_to law s now d stale kept old new right reads is whole noted others =
-    subst (λ d. IsWhole d × IsEvaluated d kept × KnowsOthers d new) (sym is) (whole, right, law now s stale old new reads noted others)

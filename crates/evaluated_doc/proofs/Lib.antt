@@ -1,4 +1,5 @@
 mod AlteredLemmas
+mod GoneLemmas
 mod MovedLemmas
 pub mod SpentLemmas
 pub mod StartLemmas

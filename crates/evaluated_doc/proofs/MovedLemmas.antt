@@ -1,5 +1,6 @@
 -- Rows that come or go in a document of which values are kept.
 use Rattle.std.proofs.Common.{ℕ, Bool, true, false, cond, ◌||◌, List, [], ◌∷◌, ◌≡◌, refl, sym, ap, ◌∙◌, subst, Option, Some, None}
+use Rattle.std.specs.Option.{is_some}
 use Rattle.std.specs.Str.{bytes_eq}
 use Rattle.cell_types.specs.declared.cell.CellId.{CellId}
 use Rattle.doc_model.specs.declared.action.DocAction.{DocAction}
@@ -14,11 +15,11 @@ use Rattle.doc_model.specs.Records.{add_rows, remove_rows}
 use Rattle.doc_model.specs.Rows.{without}
 use Rattle.doc_model.specs.Schema.{no_grid}
 use Rattle.doc_readers.specs.Parts.{grid_at}
-use Rattle.doc_model.specs.DocumentLaws.{IsWhole}
 use Rattle.doc_model.specs.Valid.{valid}
 use Rattle.dep_graph.specs.Graph.{Graph}
 use Rattle.recalc.specs.declared.kept.KeptTable.{KeptTable}
-use Rattle.recalc.specs.Current.{IsCurrent, has_formula, has_formulas}
+use Rattle.recalc.specs.Current.{has_formula, has_formulas}
+use Rattle.recalc.specs.Evaluated.{formula_at}
 use Rattle.recalc.specs.Kept.{IsEvaluated}
 use Rattle.recalc.specs.MayLose.{is_record}
 use Rattle.recalc.specs.Stack.{on}
@@ -30,9 +31,11 @@ use Rattle.affected_values.specs.RowsOver.{LeadsOverRowsLaw, RightLaidLaw}
 use Rattle.affected_values.specs.Taken.{IsRightBut, LeadsBack}
 use Rattle.affected_values.proofs.LaidLemmas.{moved_alike}
 use Rattle.affected_values.proofs.RelaidLemmas.{IsAlikeBut}
-use Rattle.known_reads.specs.Beside.{Beside, IsNoted, KnowsOthers}
-use Rattle.known_reads.specs.Moved.{NotedLaw, ReadsBackLaw, ReadsOverLaw, ReadsSameAfter}
+use Rattle.known_reads.specs.declared.some_cells.SomeCells.{SomeCells}
+use Rattle.known_reads.specs.Beside.{Beside, KnowsOthers}
+use Rattle.known_reads.specs.Moved.{ReadsOverLaw, ReadsSameAfter, RowsStayLaw}
 use Rattle.known_reads.specs.Recorded.{KnowsBut}
+use Rattle.known_reads.specs.Watched.{AreRenewed}
 use Rattle.known_reads.proofs.BesideLemmas.{read_same}
 use Rattle.evaluated_doc.specs.declared.moving.Moved.{Moved}
 use Rattle.evaluated_doc.specs.Moved.{IsMoved, IsMoving, LeadsFromRows}
@@ -131,12 +134,11 @@ module _ (s next : Document) (a : DocAction) (t rows : List ℕ) (x : Moved) (ok
       (over s a t known.graph x.found cells moved ok is.keeps (λ c h. stays c (is.noted c h)) (has s columns_same) (subst (λ d. HasCellsOf d t (moved_rows a) cells) done (has next refl))) in
       read_same s next known.graph c (same.there c other) (λ there. same.same c there other) (others c fresh)
 
-  -- and back
-  pub reads_before : ReadsBackLaw → (graph : Graph) → moved_rows a ≡ rows → IsMoved graph a s t rows x → ReadsSameAfter next s x.stale.items
-  reads_before law graph these is =
-      let has : HasCellsWith (grid_at s t).columns t (moved_rows a) x.stale.items = subst (λ rs. HasCellsWith (grid_at s t).columns t rs x.stale.items) (sym these) is.moved in
-      subst (λ d. ReadsSameAfter d s x.stale.items) (sym done)
-      (law s a t graph x.found x.stale.items moved ok is.keeps is.stale (has s refl) (has (apply s a) (columns_moved s a t ok moved)))
+  -- but for the cells of the rows formula cells stay
+  pub formulas_stay : RowsStayLaw → (graph : Graph) → moved_rows a ≡ rows → IsMoved graph a s t rows x → (c : CellId) → on x.moved.items c ≡ false → is_some (formula_at next c) ≡ is_some (formula_at s c)
+  formulas_stay law graph these is c other =
+      let has : HasCellsWith (grid_at s t).columns t (moved_rows a) x.moved.items = subst (λ rs. HasCellsWith (grid_at s t).columns t rs x.moved.items) (sym these) is.moved in
+      ap (λ d. is_some (formula_at d c)) done ∙ ap is_some (law s a t x.moved.items moved ok (has s refl) (has (apply s a) (columns_moved s a t ok moved)) c other)
 
 -- ---- rows that were put
 
@@ -151,13 +153,13 @@ module _ (s now : Document) (t rows : List ℕ) (kept : List KeptTable) (known :
       law s now t known.graph x.found cells kept new aside is.moved is.found.keeps (λ c h. stays c (is.found.noted c h)) (subst (λ rs. HasCellsOf now t rs cells) (sym is.these) (has now refl)) is.right laid
 
   -- what leads back
-  pub leads_from : LeadsOverRowsLaw → ReadsBackLaw → (laid new : List KeptTable) (aside : LaidAside) (taken : List HeldValue) → IsLaidAnew s now t kept laid aside → IsEvaluated now new → LeadsBack now taken new laid
-      → LeadsFromRows s now taken aside x.stale.items
-  leads_from law back laid new aside taken at right leads = record {
+  pub leads_from : LeadsOverRowsLaw → RowsStayLaw → (laid new : List KeptTable) (aside : LaidAside) (taken : List HeldValue) (stale : SomeCells) → AreRenewed now known x.moved.items stale → IsLaidAnew s now t kept laid aside → IsEvaluated now new
+      → LeadsBack now taken new laid → LeadsFromRows s now taken aside stale
+  leads_from law stay laid new aside taken stale renewed at right leads = record {
     moved = subst (IsMovedFrom s now) (sym at.table) is.moved;
     has_aside = at.has_aside;
     leads = law s now t taken kept laid new aside is.moved is.right at right leads;
-    reads = reads_before s now is.moved.action t rows x is.moved.ok is.moved.moved is.moved.done back known.graph is.these is.found;
+    reads = renewed s is.others is.none (formulas_stay s now is.moved.action t rows x is.moved.ok is.moved.moved is.moved.done stay known.graph is.these is.found);
   }
 
 -- ---- the way back
@@ -171,9 +173,3 @@ has_same id (t ∷ s) [] h = absurd h
 
 pub plain_then : (s now : Document) (id : List ℕ) → IsMovedFrom s now id → has_formulas now ≡ false → has_formulas s ≡ false
 plain_then s now id m h = has_same id s now (moved_alike s now id m) ∙ h
-
--- what holds of a document and what is kept beside it
-pub gone_back_over : NotedLaw → (s now d : Document) (taken : List HeldValue) (aside : LaidAside) (stale : List CellId) (kept : Option (List KeptTable)) (old new : Beside) → LeadsFromRows s now taken aside stale → d ≡ s → IsWhole s
-    → IsCurrent s kept → IsNoted old new stale → KnowsOthers now old → IsWhole d × IsCurrent d kept × KnowsOthers d new
-gone_back_over law s now d taken aside stale kept old new led is whole current noted others =
-    subst (λ d. IsWhole d × IsCurrent d kept × KnowsOthers d new) (sym is) (whole, current, law now s stale old new led.reads noted others)

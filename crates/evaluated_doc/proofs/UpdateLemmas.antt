@@ -1,5 +1,5 @@
 -- An update of a document of which values are kept.
-use Rattle.std.proofs.Common.{ℕ, true, false, cond, filter, ◌||◌, List, [], ◌∷◌, ◌≡◌, refl, sym, ap, ◌∙◌, subst, Option, unwrap_or}
+use Rattle.std.proofs.Common.{ℕ, true, false, cond, filter, ◌||◌, List, [], ◌∷◌, ◌≡◌, refl, sym, ap, ◌∙◌, subst, unwrap_or}
 use Rattle.std.proofs.lemmas.Bool.{false≢true, true≢false}
 use Rattle.std.specs.Option.{is_some}
 use Rattle.cell_types.specs.declared.cell.CellId.{CellId}
@@ -14,7 +14,7 @@ use Rattle.doc_model.specs.Valid.{valid}
 use Rattle.dep_graph.specs.declared.numbers.CellNumber.{CellNumber}
 use Rattle.dep_graph.specs.Graph.{Graph}
 use Rattle.recalc.specs.declared.kept.KeptTable.{KeptTable}
-use Rattle.recalc.specs.Current.{IsCurrent, has_formula, has_formulas}
+use Rattle.recalc.specs.Current.{has_formula, has_formulas}
 use Rattle.recalc.specs.Evaluated.{filled, formula_at}
 use Rattle.recalc.specs.Kept.{IsEvaluated, IsKeptOf, held_at}
 use Rattle.recalc.specs.Lost.{all_cells, is_lost, lost}
@@ -28,8 +28,10 @@ use Rattle.affected_values.specs.SamePlaces.{HasSamePlaces}
 use Rattle.affected_values.specs.Taken.{IsRightBut, LeadsBack, taken_of}
 use Rattle.affected_values.specs.WaysBack.{LeadsOver, LeadsOverLaw, WayBackLaw}
 use Rattle.affected_values.proofs.SamePlaces.{left_right, same_places}
-use Rattle.known_reads.specs.Beside.{Beside, IsNoted, KnowsOthers, ReadsSameBut, StaleLaw}
+use Rattle.known_reads.specs.declared.some_cells.SomeCells.{SomeCells}
+use Rattle.known_reads.specs.Beside.{Beside, KnowsOthers, ReadsSameBut, is_stale}
 use Rattle.known_reads.specs.Recorded.{KnowsBut}
+use Rattle.known_reads.specs.Watched.{AreRenewed}
 use Rattle.known_reads.proofs.BesideLemmas.{read_same, reads_same}
 use Rattle.evaluated_doc.specs.Update.{HasFound, LeadsFrom, is_update}
 
@@ -95,15 +97,18 @@ module _ (s next : Document) (a : DocAction) (ok : valid s a ≡ true) (update :
   same_reads graph cells found =
       subst (λ d. ReadsSameBut s d cells) (sym next_so) (reads_same s t rows ks graph found.found cells valid_so (subst (λ a. KeepsOthers s graph a found.found) is found.keeps) found.named)
 
-  pub leads : LeadsOverLaw → (graph : Graph) (stale : List CellId) (taken : List HeldValue) (new old : List KeptTable) → HasFound s graph a stale → IsEvaluated s old → IsEvaluated next new
-      → LeadsBack next taken new old → LeadsFrom s next taken stale
-  leads law graph stale taken new old found before now back = record {
+  formula_stays : (c : CellId) → formula_at next c ≡ formula_at s c
+  formula_stays c = ap (λ d. formula_at d c) next_so ∙ ap (λ b. formula_at (cond b (after t rows ks s) s) c) valid_so ∙ same_formula t rows ks s c
+
+  pub leads : LeadsOverLaw → (known : Beside) (noted : List CellId) (stale : SomeCells) (taken : List HeldValue) (new old : List KeptTable) → AreRenewed next known noted stale → KnowsOthers s known → ((c : CellId) → is_stale known c ≡ false)
+      → IsEvaluated s old → IsEvaluated next new → LeadsBack next taken new old → LeadsFrom s next taken stale
+  leads law known noted stale taken new old renewed others none before now back = record {
     table = t;
     rows = rows;
     columns = ks;
     after = next_so;
     leads = subst (λ d. LeadsOver s d taken) (sym next_so) (law s t rows ks taken new old valid_so before (subst (λ d. IsEvaluated d new) next_so now) (subst (λ d. LeadsBack d taken new old) next_so back));
-    reads = same_reads graph stale found;
+    reads = renewed s others none (λ c other. ap is_some (formula_stays c));
   }
 
   -- the graph is right of each cell but the found ones after the update
@@ -113,7 +118,7 @@ module _ (s next : Document) (a : DocAction) (ok : valid s a ≡ true) (update :
       read_same s next known.graph c (same.there c) (λ there. same.same c (same.there c ∙ there) other) (others c fresh)
 
   there : (c : CellId) → is_some (formula_at s c) ≡ true → is_some (formula_at next c) ≡ true
-  there c h = ap (λ d. is_some (formula_at d c)) next_so ∙ ap (λ b. is_some (formula_at (cond b (after t rows ks s) s) c)) valid_so ∙ ap is_some (same_formula t rows ks s c) ∙ h
+  there c h = ap is_some (formula_stays c) ∙ h
 
   -- values that are as they were, of the document before
   pub restored : (new old : List KeptTable) → IsEvaluated s old → IsKeptOf next new → LeadsBack next [] new old → IsEvaluated s new
@@ -124,7 +129,7 @@ module _ (s next : Document) (a : DocAction) (ok : valid s a ≡ true) (update :
 
 -- ---- the way back
 
-module _ (s now : Document) (taken : List HeldValue) (stale : List CellId) (ks : List KeptTable) (led : LeadsFrom s now taken stale) where
+module _ (s now : Document) (taken : List HeldValue) (stale : SomeCells) (ks : List KeptTable) (led : LeadsFrom s now taken stale) where
   pub kept_before : IsEvaluated now ks → IsKeptOf s ks
   kept_before known = (same_places s led.table led.rows led.columns ks).back (subst (λ d. IsKeptOf d ks) led.after known.of_document)
 
@@ -134,18 +139,11 @@ module _ (s now : Document) (taken : List HeldValue) (stale : List CellId) (ks :
   values_before law back known kept put =
       law s led.table led.rows led.columns taken ks back (subst (λ d. LeadsOver s d taken) led.after led.leads) (subst (λ d. IsEvaluated d ks) led.after known) kept put
 
-module _ (s now : Document) (taken : List HeldValue) (stale : List CellId) (led : LeadsFrom s now taken stale) where
-  -- what holds of a document and what is kept beside it
-  pub gone_back : StaleLaw → (d : Document) (kept : Option (List KeptTable)) (old new : Beside) → d ≡ s → IsWhole s → IsCurrent d kept → IsNoted old new stale → KnowsOthers now old
-      → IsWhole d × IsCurrent d kept × KnowsOthers d new
-  gone_back law d kept old new is whole current noted others =
-      (subst IsWhole (sym is) whole, current, subst (λ d. KnowsOthers d new) (sym is) ((law s now stale old new led.reads noted).1 others))
-
 has_same : (id ids : List ℕ) (cs : List CellColumn) (s : Document) → has_formulas (after id ids cs s) ≡ has_formulas s
 has_same id ids cs [] = refl
 has_same id ids cs (u ∷ s) = λ i. has_formula (same_columns id ids cs u i) || has_same id ids cs s i
 
-pub plain_before : (s now : Document) (taken : List HeldValue) (stale : List CellId) → LeadsFrom s now taken stale → has_formulas now ≡ false → has_formulas s ≡ false
+pub plain_before : (s now : Document) (taken : List HeldValue) (stale : SomeCells) → LeadsFrom s now taken stale → has_formulas now ≡ false → has_formulas s ≡ false
 plain_before s now taken stale led plain =
     elim (valid s (BulkUpdate led.table led.rows led.columns)) as (λ b. has_formulas (cond b (after led.table led.rows led.columns s) s) ≡ false → has_formulas s ≡ false) [
       | true ↦ λ h. sym (has_same led.table led.rows led.columns s) ∙ h

@@ -1,5 +1,5 @@
 -- An action on no records in a document of which values are kept.
-use Rattle.std.specs.Prelude.{List}
+use Rattle.std.specs.Prelude.{false, List, ◌≡◌}
 use Rattle.cell_types.specs.declared.cell.CellId.{CellId}
 use Rattle.doc_model.specs.declared.action.DocAction.{DocAction}
 use Rattle.doc_model.specs.Document.{Document}
@@ -7,7 +7,7 @@ use Rattle.dep_graph.specs.Graph.{Graph}
 use Rattle.recalc.specs.declared.kept.KeptTable.{KeptTable}
 use Rattle.recalc.specs.Kept.{IsEvaluated}
 use Rattle.affected_values.specs.Altered.{HasAltered, IsAlteredFrom}
-use Rattle.known_reads.specs.Beside.{Beside, KnowsOthers}
+use Rattle.known_reads.specs.Beside.{Beside, KnowsOthers, is_stale}
 use Rattle.evaluated_doc.specs.declared.altering.Altered.{Altered}
 use Rattle.evaluated_doc.specs.Spent.{AreAffected}
 use Rattle.evaluated_doc.specs.Update.{HasFound}
@@ -19,17 +19,19 @@ pub record HasFoundAltered (s : Document) (graph : Graph) (a : DocAction) (cells
   pub found : HasFound s graph a cells
   pub altered : HasAltered s a cells
 
--- so it is of both lists; the first has no others but those that the action may affect
+-- so it is of the cells, with no others but those that the action may affect; and the formula cells
+-- that it alters alone
 pub record IsAltered (s : Document) (graph : Graph) (a : DocAction) (x : Altered) : Type 0 where
   pub cells : HasFoundAltered s graph a x.cells.items
   pub only : AreAffected s a x.cells.items
-  pub stale : HasFoundAltered s graph a x.stale.items
+  pub altered : HasAltered s a x.altered.items
 
 -- the second document is the first one after the action; of the first these values are kept beside
--- a graph, and of it this was found
+-- a graph that is right of each cell, and of it this was found
 pub record IsAltering (s now : Document) (a : DocAction) (kept : List KeptTable) (known : Beside)
     (x : Altered) : Type 0 where
   pub altered : IsAlteredFrom s now a
   pub found : IsAltered s known.graph a x
   pub right : IsEvaluated s kept
   pub others : KnowsOthers s known
+  pub none : (c : CellId) → is_stale known c ≡ false

@@ -1,4 +1,5 @@
 pub mod Altering
+pub mod Gone
 pub mod Moved
 pub mod Spent
 pub mod Update

@@ -1,5 +1,5 @@
 -- Rows that come or go in a document of which values are kept.
-use Rattle.std.specs.Prelude.{ℕ, true, List, ◌≡◌}
+use Rattle.std.specs.Prelude.{ℕ, true, false, List, ◌≡◌}
 use Rattle.cell_types.specs.declared.cell.CellId.{CellId}
 use Rattle.doc_model.specs.declared.action.DocAction.{DocAction}
 use Rattle.doc_model.specs.Document.{Document}
@@ -16,26 +16,25 @@ use Rattle.affected_values.specs.declared.taking.HeldValue.{HeldValue}
 use Rattle.affected_values.specs.Carried.{HasCellsWith, moved_rows}
 use Rattle.affected_values.specs.Relaid.{HasAside, IsMovedFrom}
 use Rattle.affected_values.specs.RowsOver.{LeadsOverRows}
-use Rattle.known_reads.specs.Beside.{Beside, KnowsOthers}
-use Rattle.known_reads.specs.Moved.{ReadsSameAfter}
+use Rattle.known_reads.specs.declared.some_cells.SomeCells.{SomeCells}
+use Rattle.known_reads.specs.Beside.{Beside, KnowsOthers, SameSourcesBut, is_stale}
 use Rattle.evaluated_doc.specs.declared.moving.Moved.{Moved}
 use Rattle.evaluated_doc.specs.Spent.{AreAffected}
 
 -- the found cells of a search, by which all others keep values and notes, also by name, and no
--- others but those that the action may affect, and with the cells of the formula columns of a table
--- in these rows; and the rows that the table has, which ascend
+-- others but those that the action may affect; the cells of the formula columns of a table in these
+-- rows; and the rows that the table has, which ascend
 pub record IsMoved (graph : Graph) (a : DocAction) (s : Document) (t rows : List ℕ) (x : Moved) :
     Type 0 where
   pub keeps : KeepsOthers s graph a x.found
   pub noted : (c : CellId) → is_found graph x.found c ≡ true → on x.noted.items c ≡ true
   pub only : AreAffected s a x.noted.items
-  pub stale : (c : CellId) → is_found graph x.found c ≡ true → on x.stale.items c ≡ true
-  pub moved : HasCellsWith (grid_at s t).columns t rows x.stale.items
+  pub moved : HasCellsWith (grid_at s t).columns t rows x.moved.items
   pub were : x.rows.items ≡ (grid_at s t).rows
   pub ascending : IsAscending x.rows.items
 
 -- these rows of this table came or went after the first document, of which these values are kept
--- beside a graph, and of which this was found
+-- beside a graph that is right of each cell, and of which this was found
 pub record IsMoving (s now : Document) (t rows : List ℕ) (kept : List KeptTable) (known : Beside)
     (x : Moved) : Type 0 where
   pub moved : IsMovedFrom s now t
@@ -43,12 +42,13 @@ pub record IsMoving (s now : Document) (t rows : List ℕ) (kept : List KeptTabl
   pub found : IsMoved known.graph moved.action s t rows x
   pub right : IsEvaluated s kept
   pub others : KnowsOthers s known
+  pub none : (c : CellId) → is_stale known c ≡ false
 
 -- rows led from the first document to the second; what was taken and what was laid aside lead back
--- over them, and each formula cell but these notes the same before
+-- over them, and each cell but the stale ones reads the same in both
 pub record LeadsFromRows (s now : Document) (taken : List HeldValue) (aside : LaidAside)
-    (stale : List CellId) : Type 0 where
+    (stale : SomeCells) : Type 0 where
   pub moved : IsMovedFrom s now aside.table
   pub has_aside : HasAside s aside
   pub leads : LeadsOverRows s now taken aside
-  pub reads : ReadsSameAfter now s stale
+  pub reads : SameSourcesBut now s stale

@@ -1,19 +1,23 @@
 -- An update of a document of which values are kept.
-use Rattle.std.specs.Prelude.{ℕ, Bool, true, false, List, [], length, vec_capacity, ◌≡◌, ◌≤◌}
+use Rattle.std.specs.Prelude.{ℕ, Bool, true, false, List, ◌≡◌}
 use Rattle.cell_types.specs.declared.cell.CellId.{CellId}
 use Rattle.doc_model.specs.declared.action.DocAction.{DocAction}
 use Rattle.doc_model.specs.declared.action.DocAction.TheVariants.{BulkUpdate}
 use Rattle.doc_model.specs.declared.column.CellColumn.{CellColumn}
 use Rattle.doc_model.specs.Apply.{apply}
 use Rattle.doc_model.specs.Document.{Document}
+use Rattle.doc_model.specs.Valid.{valid}
 use Rattle.dep_graph.specs.declared.numbers.CellNumber.{CellNumber}
 use Rattle.dep_graph.specs.Graph.{Graph}
+use Rattle.recalc.specs.declared.kept.KeptTable.{KeptTable}
+use Rattle.recalc.specs.Kept.{IsEvaluated}
 use Rattle.recalc.specs.Stack.{on}
 use Rattle.affected_search.specs.Actions.{KeepsOthers}
 use Rattle.affected_search.specs.Sheets.{is_found}
 use Rattle.affected_values.specs.declared.taking.HeldValue.{HeldValue}
 use Rattle.affected_values.specs.WaysBack.{LeadsOver}
-use Rattle.known_reads.specs.Beside.{ReadsSameBut}
+use Rattle.known_reads.specs.declared.some_cells.SomeCells.{SomeCells}
+use Rattle.known_reads.specs.Beside.{Beside, KnowsOthers, SameSourcesBut, is_stale}
 use Rattle.evaluated_doc.specs.declared.updating.Affected.{Affected}
 use Rattle.evaluated_doc.specs.Spent.{AreAffected}
 
@@ -29,23 +33,32 @@ pub record HasFound (s : Document) (graph : Graph) (a : DocAction) (cells : List
   pub keeps : KeepsOthers s graph a found
   pub named : (c : CellId) → is_found graph found c ≡ true → on cells c ≡ true
 
--- the found cells, two lists with them by name, of which the first has no others but those that the
--- action may affect, and room for what is taken of it
+-- the found cells, also by name, with no others but those that the action may affect
 pub record IsAffected (s : Document) (graph : Graph) (a : DocAction) (x : Affected) : Type 0 where
   pub found : KeepsOthers s graph a x.found
   pub cells : HasFound s graph a x.cells.items
   pub only : AreAffected s a x.cells.items
-  pub stale : HasFound s graph a x.stale.items
-  pub empty : x.room.items ≡ []
-  pub room : length x.cells.items ≤ vec_capacity x.room
+
+-- the second document is the first one after an update; of the first these values are kept beside a
+-- graph that is right of each cell, by which these cells were found
+pub record IsUpdating (s now : Document) (a : DocAction) (kept : List KeptTable) (known : Beside)
+    (cells : List CellId) : Type 0 where
+  pub ok : valid s a ≡ true
+  pub update : is_update a ≡ true
+  pub done : now ≡ apply s a
+  pub found : HasFound s known.graph a cells
+  pub only : AreAffected s a cells
+  pub right : IsEvaluated s kept
+  pub others : KnowsOthers s known
+  pub none : (c : CellId) → is_stale known c ≡ false
 
 -- an update led from the first document to the second; what was taken leads back over it, and each
--- formula cell but these notes the same in both
-pub record LeadsFrom (s now : Document) (taken : List HeldValue) (stale : List CellId) :
+-- cell but the stale ones reads the same in both
+pub record LeadsFrom (s now : Document) (taken : List HeldValue) (stale : SomeCells) :
     Type 0 where
   pub table : List ℕ
   pub rows : List ℕ
   pub columns : List CellColumn
   pub after : now ≡ apply s (BulkUpdate table rows columns)
   pub leads : LeadsOver s now taken
-  pub reads : ReadsSameBut s now stale
+  pub reads : SameSourcesBut now s stale

@@ -12,7 +12,7 @@ ghost use Rattle.recalc.specs.Stack.{on};
 ghost use Rattle.affected_cells.specs.Bound.{bound};
 ghost use Rattle.affected_search.specs.Sheets.{is_found};
 ghost use Rattle.affected_values.specs.Altered.{HasAltered, is_altered};
-ghost use Rattle.known_reads.specs.Beside.{KnowsOthers};
+ghost use Rattle.known_reads.specs.Beside.{KnowsOthers, is_stale};
 ghost use Rattle.evaluated_doc.specs.Altering.{IsAltered, IsAltering};
 ghost use Rattle.evaluated_doc.specs.WayBack.{HasBefore, is_whole};
 
@@ -23,18 +23,18 @@ use cell_types::CellId;
 use dep_graph::DepGraph;
 use doc_model::{DocAction, DocTables};
 use formula_eval::Steps;
-use known_reads::{KnownReads, ReadsFault, refresh_recording};
+use known_reads::{KnownReads, ReadsFault, Refreshed, refresh_recording};
 use recalc::{ColumnIndex, KeptTable};
 use std::alloc::{AllocError, Global};
 use std::mem;
 use std::sync::ledger::Ledger;
 
 /// What is found before an action on no records: the cells that it affects and those that it
-/// alters, by name, to be evaluated anew by the change, and to be noted as stale by its way back.
+/// alters, by name, to be evaluated anew; and those that it alters alone.
 #[derive(Drop)]
 pub(crate) struct Altered {
     pub(crate) cells: Vec<CellId>,
-    pub(crate) stale: Vec<CellId>,
+    pub(crate) altered: Vec<CellId>,
 }
 
 // The found cells by name, and those that the action alters.
@@ -53,6 +53,19 @@ fn named_with<D: DocTables>(
         → is_found graph.now found.now c ≡ false → is_altered action.now c ≡ true) }
 {
     let mut cells = named_cells(alloc, graph, found)?;
+    push_altered_cells(tables, action, &mut cells)?;
+    Ok(cells)
+}
+
+// The cells that an action alters.
+fn altered_cells<D: DocTables>(
+    alloc: Global,
+    tables: &D,
+    action: &DocAction,
+) -> Result<Vec<CellId>, AllocError>
+    ensures { IfOk result (λ v. HasAltered (D.document tables.now) action.now v.items) }
+{
+    let mut cells = Vec::new(alloc);
     push_altered_cells(tables, action, &mut cells)?;
     Ok(cells)
 }
@@ -78,6 +91,7 @@ pub(crate) fn find_altered<D: DocTables>(
     requires others { KnowsOthers (D.document tables.now) reads.old }
     requires schema { is_record action.now ≡ false }
     ensures others { KnowsOthers (D.document tables.now) reads.new }
+    ensures none { OnOk result ((c : CellId) → is_stale reads.new c ≡ false) }
     ensures found { IfOk result
         (λ x. IsAltered (D.document tables.now) reads.new.graph action.now x) }
 {
@@ -85,11 +99,11 @@ pub(crate) fn find_altered<D: DocTables>(
     reads.make_right(alloc, tables, kept, indexes)?;
     let found = affected_by_action(alloc, reads.graph(), tables, action)?;
     let cells = named_with(alloc, tables, reads.graph(), &found, action)?;
-    let stale = named_with(alloc, tables, reads.graph(), &found, action)?;
+    let altered = altered_cells(alloc, tables, action)?;
     // For this change and for its way back.
     let count = cells.len();
     reads.reserve(count.saturating_add(count))?;
-    Ok(Altered { cells, stale })
+    Ok(Altered { cells, altered })
 }
 
 /// Carries the values over an action on no records, and evaluates the found cells and those that it
@@ -129,30 +143,22 @@ pub(crate) fn refresh_altered<D: DocTables, L: Ledger>(
         → steps.new ≤ steps.old + bound s action.now }
 {
     altered_law();
-    let Altered { cells, stale } = altered;
+    let Altered { cells, altered } = altered;
     let mut cells = cells;
-    let mut stale = stale;
+    let mut altered = altered;
     push_altered_cells(tables, action, &mut cells)?;
-    push_altered_cells(tables, action, &mut stale)?;
-    let room = Vec::with_capacity(alloc, cells.len())?;
+    push_altered_cells(tables, action, &mut altered)?;
     let mut carried = carry_values(alloc, tables, kept, action)?;
     let mut made = Vec::new(alloc);
     let known = &mut made;
-    let taken = refresh_recording(
-        alloc,
-        tables,
-        &mut carried,
-        known,
-        reads,
-        cells,
-        room,
-        steps,
-    )?;
+    let values = &mut carried;
+    let done = refresh_recording(alloc, tables, values, known, reads, cells, altered, steps)?;
+    let Refreshed { taken, renewed } = done;
     drop(taken);
     *indexes = made;
     let before = mem::replace(kept, carried);
     Ok(Before::Altered {
         kept: before,
-        stale,
+        stale: renewed,
     })
 }

@@ -1,10 +1,8 @@
 //! A document with its formula cells evaluated.
 
-ghost use Rattle.std.specs.Prelude.{true, ◌≡◌, ◌<◌, ◌↔◌, false, Err, List, None, Some, IfOk, OnOk, OnErr, MatchOption};
+ghost use Rattle.std.specs.Prelude.{true, ◌≡◌, ◌<◌, ◌↔◌, false, Err, None, Some, IfOk, OnOk, OnErr, MatchOption};
 ghost use Rattle.std.specs.Option.{option_copied, option_map};
-ghost use Rattle.cell_types.specs.declared.cell.CellId.{CellId};
 ghost use Rattle.doc_model.specs.Apply.{apply};
-ghost use Rattle.doc_model.specs.Document.{Document};
 ghost use Rattle.doc_model.specs.DocumentLaws.{IsWhole};
 ghost use Rattle.doc_model.specs.Readers.{cell_at};
 ghost use Rattle.doc_model.specs.Valid.{valid};
@@ -17,24 +15,25 @@ ghost use Rattle.recalc.specs.MayLose.{is_record};
 ghost use Rattle.recalc.specs.Seen.{value_told};
 ghost use Rattle.affected_values.specs.Carried.{moved_rows, moved_table};
 ghost use Rattle.evaluated_doc.specs.Spent.{HasSpent};
-ghost use Rattle.evaluated_doc.specs.Update.{LeadsFrom, is_update};
+ghost use Rattle.evaluated_doc.specs.Update.{is_update};
 ghost use Rattle.evaluated_doc.specs.WayBack.{IsWayBack};
 ghost use Rattle.evaluated_doc.specs.declared.doc.ChangeFault.TheVariants.{Invalid};
 
 use crate::altering::{find_altered, refresh_altered};
-use crate::indexing::{give_up, take_indexes};
-use crate::moving::{find_moved, go_back_over, moved_by, refresh_moved};
+use crate::going_back::go_back_to;
+use crate::indexing::{enter_behind, gone_rows, leave_behind, take_indexes};
+use crate::moving::{find_moved, moved_by, refresh_moved};
 use crate::starting::{Start, start_alone, start_of};
 use crate::trace::{Before, Trace};
-use crate::updating::{find_affected, is_of_schema, is_update};
+use crate::updating::{find_affected, is_of_schema, is_update, refresh_updated};
 use affected_search::{narrow_cells, narrow_law};
-use affected_values::{HeldValue, enter_indexes, leads_over_law, put_values_back, way_back_law};
+use affected_values::{enter_indexes, left_over_law};
 use cell_types::{CellValue, Name};
 use doc_actions::is_valid;
 use doc_model::laws::kept_law;
 use doc_model::{ColDef, DocAction, DocReader, DocTables};
 use formula_eval::{Reading, Steps};
-use known_reads::{KnownReads, ReadsFault, noted_law, refresh_recording, stale_law};
+use known_reads::{KnownReads, ReadsFault};
 use recalc::laws::{may_lose_law, stays_plain_law};
 use recalc::{ColumnIndex, KeptTable, brings_formula, cell_told, keep_lost, watched_cells};
 use std::alloc::{AllocError, Global};
@@ -47,6 +46,7 @@ use std::sync::ledger::{Blank, Ledger};
 /// Where no column has a formula, nothing is kept.
 #[derive(Drop)]
 pub struct Doc<D: DocTables> {
+    alloc: Global,
     tables: D,
     kept: Option<Vec<KeptTable>>,
     reads: KnownReads,
@@ -97,6 +97,7 @@ impl<D: DocTables> Doc<D> {
             indexes,
         } = start_alone::<D, Brand>(alloc, &tables, Blank::new(1))?;
         Ok(Doc {
+            alloc,
             tables,
             kept,
             reads,
@@ -156,6 +157,7 @@ impl<D: DocTables> Doc<D> {
             cells,
             back,
             before: Before::Whole(kept),
+            gone: None,
         })
     }
 
@@ -184,7 +186,7 @@ impl<D: DocTables> Doc<D> {
     {
         kept_law();
         narrow_law();
-        leads_over_law();
+        left_over_law();
         let Some(kept) = &self.kept else {
             return self.put_whole(alloc, action, steps);
         };
@@ -203,12 +205,12 @@ impl<D: DocTables> Doc<D> {
         let Some(kept) = &mut self.kept else {
             unreachable!();
         };
-        let (named, room, stale) = (affected.cells, affected.room, affected.stale);
         let tables = &self.tables;
         let reads = &mut self.reads;
         let known = &mut indexes;
-        let done = refresh_recording(alloc, tables, kept, known, reads, named, room, steps);
-        let Ok(taken) = done else {
+        let named = affected.cells;
+        let done = refresh_updated(alloc, tables, kept, known, reads, named, steps);
+        let Ok(before) = done else {
             self.tables.take_back(undo);
             return Err(AllocError);
         };
@@ -217,7 +219,8 @@ impl<D: DocTables> Doc<D> {
         Ok(Trace {
             cells,
             back: undo,
-            before: Before::Update { taken, stale },
+            before,
+            gone: gone_rows(alloc, action),
         })
     }
 
@@ -249,6 +252,7 @@ impl<D: DocTables> Doc<D> {
     {
         kept_law();
         narrow_law();
+        left_over_law();
         let Some(kept) = &self.kept else {
             return self.put_whole(alloc, action, steps);
         };
@@ -282,6 +286,7 @@ impl<D: DocTables> Doc<D> {
             cells,
             back: undo,
             before,
+            gone: gone_rows(alloc, action),
         })
     }
 
@@ -340,6 +345,7 @@ impl<D: DocTables> Doc<D> {
             cells,
             back: undo,
             before,
+            gone: None,
         })
     }
 
@@ -483,67 +489,31 @@ impl<D: DocTables> Doc<D> {
         Ok(())
     }
 
-    /// Goes back to the document before the change that left the present one. The indexes are given
-    /// up.
+    /// Goes back to the document before the change that left the present one.
     ///
-    /// Memory: none.
+    /// Memory: none that is needed: an index is given up where it takes memory to keep it up.
+    /// Cost: after an action on records, that of the cells which it evaluated and of its rows.
     pub fn go_back(&mut self, trace: Trace<D>)
         requires { IsWayBack D.fits D.undone trace (D.document self.old) }
         ensures { D.document self.new ≡ D.undone trace.back (D.document self.old) }
     {
-        stale_law();
-        noted_law();
         let Trace {
             cells,
             back: undo,
             before,
+            gone,
         } = trace;
         drop(cells);
-        give_up(&mut self.indexes);
-        match before {
-            Before::Whole(kept) => {
-                self.tables.take_back(undo);
-                self.kept = kept;
-                self.reads.note_all();
-                // The change may have been of the schema.
-                self.reads.try_again();
-            }
-            Before::Update { taken, stale } => {
-                self.tables.take_back(undo);
-                put_back(&self.tables, &mut self.kept, taken);
-                self.reads.note_cells(stale);
-            }
-            Before::Rows {
-                taken,
-                aside,
-                stale,
-            } => {
-                go_back_over(&self.tables, &mut self.kept, taken, aside);
-                self.tables.take_back(undo);
-                let reads = &mut self.reads;
-                reads.note_cells(stale);
-            }
-            Before::Altered { kept, stale } => {
-                self.tables.take_back(undo);
-                self.kept = Some(kept);
-                let reads = &mut self.reads;
-                reads.note_cells(stale);
-            }
-        }
-    }
-}
-
-// Puts back the values of cells that a change evaluated anew.
-fn put_back<D: DocTables>(tables: &D, kept: &mut Option<Vec<KeptTable>>, taken: Vec<HeldValue>)
-    requires whole { IsWhole (D.document tables.now) }
-    requires before { (now : Document) × (stale : List CellId)
-        × IsCurrent now (option_map (λ v. v.items) kept.old)
-        × LeadsFrom (D.document tables.now) now taken.items stale }
-    ensures { IsCurrent (D.document tables.now) (option_map (λ v. v.items) kept.new) }
-{
-    way_back_law();
-    if let Some(kept) = kept {
-        put_values_back(tables, kept, taken);
+        let alloc = self.alloc;
+        let left = leave_behind(alloc, &self.tables, &mut self.indexes, &gone);
+        go_back_to(
+            &mut self.tables,
+            &mut self.kept,
+            &mut self.reads,
+            undo,
+            before,
+        );
+        self.indexes = enter_behind(alloc, &self.tables, left, &gone);
     }
 }
 

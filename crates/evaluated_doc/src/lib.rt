@@ -31,6 +31,7 @@
 mod altering;
 mod doc;
 mod finding;
+mod going_back;
 mod indexing;
 mod moving;
 mod starting;

@@ -1,6 +1,6 @@
 //! What rows that come or go affect.
 
-ghost use Rattle.std.specs.Prelude.{◌≡◌, ◌+◌, ◌≤◌, true, false, List, None, Some, IfOk, MatchOption, OnErr, OnOk};
+ghost use Rattle.std.specs.Prelude.{◌≡◌, ◌+◌, ◌≤◌, true, false, None, Some, IfOk, MatchOption, OnErr, OnOk};
 ghost use Rattle.std.specs.Option.{option_map};
 ghost use Rattle.cell_types.specs.declared.cell.CellId.{CellId};
 ghost use Rattle.doc_model.specs.Document.{Document};
@@ -11,12 +11,11 @@ ghost use Rattle.recalc.specs.Current.{IsCurrent};
 ghost use Rattle.recalc.specs.Evaluated.{sheet_of};
 ghost use Rattle.recalc.specs.Indexes.{AreIndexes};
 ghost use Rattle.recalc.specs.Kept.{IsEvaluated};
-ghost use Rattle.recalc.specs.Stack.{on};
 ghost use Rattle.affected_cells.specs.Bound.{bound};
-ghost use Rattle.affected_search.specs.Sheets.{is_found};
 ghost use Rattle.affected_values.specs.Carried.{HasCellsWith, moved_rows, moved_table};
 ghost use Rattle.affected_values.specs.Indexing.{AreLeft};
-ghost use Rattle.known_reads.specs.Beside.{KnowsOthers};
+ghost use Rattle.known_reads.specs.declared.some_cells.SomeCells.{SomeCells};
+ghost use Rattle.known_reads.specs.Beside.{KnowsOthers, is_stale};
 ghost use Rattle.evaluated_doc.specs.Moved.{IsMoved, IsMoving, LeadsFromRows};
 ghost use Rattle.evaluated_doc.specs.WayBack.{HasBefore, is_whole};
 
@@ -29,23 +28,23 @@ use affected_values::{
     put_values_back, right_laid_law, rows_back_law, rows_left_law,
 };
 use cell_types::{CellId, Name};
-use dep_graph::DepGraph;
 use doc_model::{DocAction, DocTables};
 use doc_readers::rows_in;
 use formula_eval::Steps;
-use known_reads::{KnownReads, ReadsFault, reads_back_law, reads_over_law, refresh_recording};
+use known_reads::{
+    KnownReads, ReadsFault, Refreshed, reads_over_law, refresh_recording, rows_stay_law,
+};
 use recalc::{ColumnIndex, KeptTable};
 use std::alloc::{AllocError, Global};
 use std::sync::ledger::Ledger;
 
 /// What is found before rows of a table come or go: the cells that this affects, also by name, to
-/// be evaluated anew by the change and, with those of the rows, to be noted as stale by its way
-/// back; and the rows that the table has.
+/// be evaluated anew; the formula cells of these rows; and the rows that the table has.
 #[derive(Drop)]
 pub(crate) struct Moved {
     pub(crate) found: AffectedCells,
     pub(crate) noted: Vec<CellId>,
-    pub(crate) stale: Vec<CellId>,
+    pub(crate) moved: Vec<CellId>,
     pub(crate) rows: Vec<u32>,
 }
 
@@ -64,22 +63,17 @@ pub(crate) fn moved_by(action: &DocAction) -> Option<(&Name, &[u32])>
     }
 }
 
-// The found cells by name, and those of the formula columns of a table in these rows.
-fn named_with<D: DocTables>(
+// The cells of the formula columns of a table in these rows.
+fn row_cells<D: DocTables>(
     alloc: Global,
     tables: &D,
-    graph: &DepGraph,
-    found: &AffectedCells,
     table: &Name,
     rows: &[u32],
 ) -> Result<Vec<CellId>, AllocError>
-    ensures named { IfOk result (λ v. (c : CellId) → is_found graph.now found.now c ≡ true
-        → on v.items c ≡ true) }
-    ensures rows { IfOk result
-        (λ v. HasCellsWith (grid_at (D.document tables.now) table.now).columns table.now rows.now
-        v.items) }
+    ensures { IfOk result (λ v. HasCellsWith (grid_at (D.document tables.now) table.now).columns
+        table.now rows.now v.items) }
 {
-    let mut cells = named_cells(alloc, graph, found)?;
+    let mut cells = Vec::new(alloc);
     push_row_cells(tables, table, rows, &mut cells)?;
     Ok(cells)
 }
@@ -121,6 +115,7 @@ pub(crate) fn find_moved<D: DocTables>(
     requires rows { moved_rows action.now ≡ rows.now }
     ensures same { D.document tables.new ≡ D.document tables.old }
     ensures others { KnowsOthers (D.document tables.old) reads.new }
+    ensures none { OnOk result ((c : CellId) → is_stale reads.new c ≡ false) }
     ensures found { IfOk result (λ x. IsMoved reads.new.graph action.now (D.document tables.old)
         table.now rows.now x) }
     ensures left { OnOk result (AreLeft (D.document tables.old) action.now indexes.new.items) }
@@ -129,7 +124,7 @@ pub(crate) fn find_moved<D: DocTables>(
     leave(alloc, &*tables, indexes, action);
     let found = found_by_records(alloc, tables, reads.graph(), action)?;
     let noted = named_cells(alloc, reads.graph(), &found)?;
-    let stale = named_with(alloc, &*tables, reads.graph(), &found, table, rows)?;
+    let moved = row_cells(alloc, &*tables, table, rows)?;
     // For this change and for its way back.
     let cells = columns_of(kept, table).saturating_mul(rows.len());
     let count = cells.saturating_add(noted.len());
@@ -138,7 +133,7 @@ pub(crate) fn find_moved<D: DocTables>(
     Ok(Moved {
         found,
         noted,
-        stale,
+        moved,
         rows,
     })
 }
@@ -185,23 +180,25 @@ pub(crate) fn refresh_moved<D: DocTables, L: Ledger>(
     leads_over_rows_law();
     rows_left_law();
     reads_over_law();
-    reads_back_law();
+    rows_stay_law();
     let Moved {
         noted,
-        stale,
+        moved,
         rows: were,
         ..
     } = moved;
     let mut cells = noted;
     push_row_cells(tables, table, rows, &mut cells)?;
-    let room = Vec::with_capacity(alloc, cells.len())?;
     let aside = lay_anew(alloc, tables, kept, table, were)?;
-    match refresh_recording(alloc, tables, kept, indexes, reads, cells, room, steps) {
-        Ok(taken) => Ok(Before::Rows {
-            taken,
-            aside,
-            stale,
-        }),
+    match refresh_recording(alloc, tables, kept, indexes, reads, cells, moved, steps) {
+        Ok(done) => {
+            let Refreshed { taken, renewed } = done;
+            Ok(Before::Rows {
+                taken,
+                aside,
+                stale: renewed,
+            })
+        }
         Err(_) => {
             lay_back(tables, kept, aside);
             Err(AllocError)
@@ -220,10 +217,10 @@ pub(crate) fn go_back_over<D: DocTables>(
     aside: LaidAside,
 )
     requires whole { IsWhole (D.document tables.now) }
-    requires before { (s : Document) × (stale : List CellId)
+    requires before { (s : Document) × (stale : SomeCells)
         × IsCurrent (D.document tables.now) (option_map (λ v. v.items) kept.old)
         × LeadsFromRows s (D.document tables.now) taken.items aside stale }
-    ensures { (s : Document) (stale : List CellId)
+    ensures { (s : Document) (stale : SomeCells)
         → LeadsFromRows s (D.document tables.now) taken.items aside stale
         → IsCurrent s (option_map (λ v. v.items) kept.new) }
 {

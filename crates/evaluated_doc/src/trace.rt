@@ -3,9 +3,11 @@
 ghost use Rattle.std.specs.Prelude.{◌≡◌};
 ghost use Rattle.evaluated_doc.specs.WayBack.{is_whole};
 
+use crate::indexing::GoneRows;
 use affected_values::{HeldValue, LaidAside};
-use cell_types::{CellId, CellOld};
+use cell_types::CellOld;
 use doc_model::DocTables;
+use known_reads::SomeCells;
 use recalc::KeptTable;
 use std::marker::Model;
 
@@ -14,23 +16,22 @@ use std::marker::Model;
 pub enum Before {
     /// All values before a change after which all cells were evaluated, and noted as stale.
     Whole(Option<Vec<KeptTable>>),
-    /// The values before an update of those cells that it evaluated anew, and the cells that may
-    /// read something else before it.
+    /// The values before an update of those cells that it evaluated anew, and the cells that read
+    /// something else before it.
     Update {
         taken: Vec<HeldValue>,
-        stale: Vec<CellId>,
+        stale: SomeCells,
     },
     /// The same of rows that came or went, and the values that were laid aside.
     Rows {
         taken: Vec<HeldValue>,
         aside: LaidAside,
-        stale: Vec<CellId>,
+        stale: SomeCells,
     },
-    /// All values before an action on no records, and the cells that may read something else
-    /// before it.
+    /// All values before an action on no records, and the cells that read something else before it.
     Altered {
         kept: Vec<KeptTable>,
-        stale: Vec<CellId>,
+        stale: SomeCells,
     },
 }
 
@@ -40,6 +41,8 @@ pub struct Trace<D: DocTables> {
     pub(crate) cells: Vec<CellOld>,
     pub(crate) back: D::Back,
     pub(crate) before: Before,
+    // The rows of an action on records, for which indexes are left on the way back.
+    pub(crate) gone: Option<GoneRows>,
 }
 
 impl<D: DocTables> Model for Trace<D> {
@@ -51,7 +54,12 @@ impl<D: DocTables> Model for Trace<D> {
 
     ghost coded = { Prim.hlevel (codes, formula.the_row.coded) };
 
-    ghost view = { λ t. record { cells = t.cells.items; back = t.back; before = t.before } };
+    ghost view = { λ t. record {
+      cells = t.cells.items;
+      back = t.back;
+      before = t.before;
+      gone = t.gone;
+    } };
 }
 
 impl<D: DocTables> Trace<D> {

@@ -1,36 +1,38 @@
 //! What an update affects.
 
-ghost use Rattle.std.specs.Prelude.{◌≡◌, true, IfOk, OnOk};
+ghost use Rattle.std.specs.Prelude.{◌≡◌, ◌+◌, ◌≤◌, true, false, IfOk, OnErr, OnOk};
+ghost use Rattle.cell_types.specs.declared.cell.CellId.{CellId};
+ghost use Rattle.doc_model.specs.declared.action.DocAction.{DocAction};
+ghost use Rattle.doc_model.specs.Document.{Document};
 ghost use Rattle.doc_model.specs.DocumentLaws.{IsWhole};
 ghost use Rattle.doc_model.specs.Valid.{valid};
 ghost use Rattle.recalc.specs.Evaluated.{sheet_of};
 ghost use Rattle.recalc.specs.Indexes.{AreIndexes};
 ghost use Rattle.recalc.specs.Kept.{IsEvaluated};
-ghost use Rattle.affected_search.specs.Actions.{KeepsOthers};
-ghost use Rattle.affected_search.specs.ByAction.{FindsAffected};
+ghost use Rattle.affected_cells.specs.Bound.{bound};
 ghost use Rattle.affected_values.specs.Indexing.{AreLeft};
-ghost use Rattle.known_reads.specs.Beside.{KnowsOthers};
-ghost use Rattle.evaluated_doc.specs.Update.{IsAffected, is_update};
+ghost use Rattle.known_reads.specs.Beside.{KnowsOthers, is_stale};
+ghost use Rattle.evaluated_doc.specs.Update.{IsAffected, IsUpdating, is_update};
+ghost use Rattle.evaluated_doc.specs.WayBack.{HasBefore, is_whole};
 
 use crate::finding::found_by_records;
 use crate::indexing::leave;
+use crate::trace::Before;
 use affected_search::AffectedCells;
-use affected_values::{HeldValue, named_cells};
+use affected_values::{leads_over_law, named_cells};
 use cell_types::CellId;
-use dep_graph::DepGraph;
 use doc_model::{DocAction, DocTables};
-use known_reads::{KnownReads, ReadsFault};
+use formula_eval::Steps;
+use known_reads::{KnownReads, ReadsFault, Refreshed, refresh_recording};
 use recalc::{ColumnIndex, KeptTable};
 use std::alloc::{AllocError, Global};
+use std::sync::ledger::Ledger;
 
-/// Affected cells: as they were found; to be evaluated anew, with room for what is known of them;
-/// and to be noted as stale by the way back.
+/// Affected cells: as they were found, and by name, to be evaluated anew.
 #[derive(Drop)]
 pub(crate) struct Affected {
     pub(crate) found: AffectedCells,
     pub(crate) cells: Vec<CellId>,
-    pub(crate) room: Vec<HeldValue>,
-    pub(crate) stale: Vec<CellId>,
 }
 
 /// Whether an action is an update.
@@ -50,31 +52,6 @@ pub(crate) fn is_of_schema(action: &DocAction) -> bool {
         action,
         DocAction::BulkAdd { .. } | DocAction::BulkUpdate { .. } | DocAction::BulkRemove { .. }
     )
-}
-
-// The found cells by name.
-fn named<D: DocTables>(
-    alloc: Global,
-    tables: &D,
-    graph: &DepGraph,
-    action: &DocAction,
-    found: AffectedCells,
-) -> Result<Affected, AllocError>
-    requires others { KeepsOthers (D.document tables.now) graph.now action.now found }
-    requires only { FindsAffected (D.document tables.now) graph.now action.now found }
-    ensures { IfOk result (λ x. IsAffected (D.document tables.now) graph.now action.now x) }
-{
-    let _tables = tables;
-    let _action = action;
-    let cells = named_cells(alloc, graph, &found)?;
-    let room = Vec::with_capacity(alloc, cells.len())?;
-    let stale = named_cells(alloc, graph, &found)?;
-    Ok(Affected {
-        found,
-        cells,
-        room,
-        stale,
-    })
 }
 
 /// Makes the graph right, and finds by it what an update affects: of lookups those by values that
@@ -101,6 +78,7 @@ pub(crate) fn find_affected<D: DocTables>(
     requires update { is_update action.now ≡ true }
     ensures same { D.document tables.new ≡ D.document tables.old }
     ensures others { KnowsOthers (D.document tables.old) reads.new }
+    ensures none { OnOk result ((c : CellId) → is_stale reads.new c ≡ false) }
     ensures found { IfOk result
         (λ x. IsAffected (D.document tables.old) reads.new.graph action.now x) }
     ensures left { OnOk result (AreLeft (D.document tables.old) action.now indexes.new.items) }
@@ -108,8 +86,52 @@ pub(crate) fn find_affected<D: DocTables>(
     reads.make_right(alloc, &*tables, kept, indexes)?;
     leave(alloc, &*tables, indexes, action);
     let found = found_by_records(alloc, tables, reads.graph(), action)?;
+    let cells = named_cells(alloc, reads.graph(), &found)?;
     // For the circular cells of this change, and for its way back.
-    let count = found.cells().len();
+    let count = cells.len();
     reads.reserve(count.saturating_add(count))?;
-    Ok(named(alloc, &*tables, reads.graph(), action, found)?)
+    Ok(Affected { found, cells })
+}
+
+/// Evaluates what an update affects, where the values of all other cells are right.
+///
+/// Errors: out of memory; the values are then those before, all cells are stale, and the indexes
+/// are to be given up.
+/// Memory and cost: as to `refresh_recording`.
+pub(crate) fn refresh_updated<D: DocTables, L: Ledger>(
+    alloc: Global,
+    tables: &D,
+    kept: &mut Vec<KeptTable>,
+    indexes: &mut Vec<ColumnIndex>,
+    reads: &mut KnownReads,
+    cells: Vec<CellId>,
+    steps: &mut Steps<L>,
+) -> Result<Before, AllocError>
+    requires whole { IsWhole (D.document tables.now) }
+    requires indexed { AreIndexes (sheet_of (D.document tables.now)) indexes.old.items }
+    requires updating { (s : Document) × (a : DocAction) × IsUpdating s (D.document tables.now) a
+        kept.old.items reads.old cells.items }
+    ensures ok { OnOk result (IsEvaluated (D.document tables.now) kept.new.items) }
+    ensures reads { OnOk result (KnowsOthers (D.document tables.now) reads.new) }
+    ensures indexed { OnOk result
+        (AreIndexes (sheet_of (D.document tables.now)) indexes.new.items) }
+    ensures way { IfOk result (λ before. (s : Document) (a : DocAction)
+        → IsUpdating s (D.document tables.now) a kept.old.items reads.old cells.items
+        → HasBefore s (D.document tables.now) before) }
+    ensures part { IfOk result (λ before. is_whole before ≡ false) }
+    ensures err { OnErr result ((s : Document) (a : DocAction)
+        → IsUpdating s (D.document tables.now) a kept.old.items reads.old cells.items
+        → IsEvaluated s kept.new.items × KnowsOthers s reads.new) }
+    ensures spent { (s : Document) (a : DocAction)
+        → IsUpdating s (D.document tables.now) a kept.old.items reads.old cells.items
+        → steps.new ≤ steps.old + bound s a }
+{
+    leads_over_law();
+    let noted = Vec::new(alloc);
+    let done = refresh_recording(alloc, tables, kept, indexes, reads, cells, noted, steps)?;
+    let Refreshed { taken, renewed } = done;
+    Ok(Before::Update {
+        taken,
+        stale: renewed,
+    })
 }

@@ -7,6 +7,8 @@ use Rattle.doc_model.specs.declared.action.DocAction.TheVariants.{BulkUpdate}
 use Rattle.doc_model.specs.Apply.{apply}
 use Rattle.doc_model.specs.Document.{Document}
 use Rattle.dep_graph.specs.Graph.{Graph}
+use Rattle.dep_graph.specs.Records.{reads_under}
+use Rattle.dep_graph.specs.Sources.{AreNumbers, sources}
 use Rattle.recalc.specs.Evaluated.{formula_at, sheet_of}
 use Rattle.recalc.specs.Stack.{on}
 use Rattle.recalc.proofs.Moves.{on_append}
@@ -16,8 +18,9 @@ use Rattle.affected_cells.proofs.UpdateTouches.{after, same_formula}
 use Rattle.affected_search.specs.ExactNotes.{HasNotes, HasNotesOf}
 use Rattle.affected_search.proofs.ExactNotes.{same_exact}
 use Rattle.affected_search.specs.Sheets.{is_found}
-use Rattle.known_reads.specs.Beside.{Beside, IsNoted, KnowsOthers, ReadsSameLaw, StaleLaw, is_stale}
+use Rattle.known_reads.specs.Beside.{NotedLaw, ReadsSameLaw, is_stale}
 use Rattle.known_reads.specs.Known.{AreRead, IsRead}
+use Rattle.known_reads.specs.SomeCells.{is_one_of}
 
 -- ---- stale cells
 
@@ -56,32 +59,33 @@ all_known s graph stale read others c = by (on stale c) refl
 -- ---- over a change
 
 -- notes that are the same where there is a formula, in both or in neither
-pub read_same : (s t : Document) (graph : Graph) (c : CellId) → is_some (formula_at s c) ≡ is_some (formula_at t c) → (is_some (formula_at t c) ≡ true → notes (sheet_of s) c ≡ notes (sheet_of t) c) → IsRead s graph c → IsRead t graph c
-read_same s t graph c there same read = same_exact graph (sheet_of s) (sheet_of t) c there (by (formula_at s c) (formula_at t c) refl refl) read
+pub same_notes : (s t : Document) (c : CellId) → is_some (formula_at s c) ≡ is_some (formula_at t c) → (is_some (formula_at t c) ≡ true → notes (sheet_of s) c ≡ notes (sheet_of t) c) → notes (sheet_of s) c ≡ notes (sheet_of t) c
+same_notes s t c there same = by (formula_at s c) (formula_at t c) refl refl
   where
     by : (o p : Option (List ℕ)) → formula_at s c ≡ o → formula_at t c ≡ p → notes (sheet_of s) c ≡ notes (sheet_of t) c
     by o (Some f) e g = same (ap is_some g)
     by None None e g = ap (notes_by (sheet_of s) (all_values (sheet_of s)) c) e ∙ sym (ap (notes_by (sheet_of t) (all_values (sheet_of t)) c) g)
     by (Some f) None e g = absurd (true≢false (sym (ap is_some e) ∙ there ∙ ap is_some g))
 
+pub read_same : (s t : Document) (graph : Graph) (c : CellId) → is_some (formula_at s c) ≡ is_some (formula_at t c) → (is_some (formula_at t c) ≡ true → notes (sheet_of s) c ≡ notes (sheet_of t) c) → IsRead s graph c → IsRead t graph c
+read_same s t graph c there same read = same_exact graph (sheet_of s) (sheet_of t) c there (same_notes s t c there same) read
+
 fresh_parts : (a b n : Bool) → ((a || b) ≡ true → n ≡ true) → n ≡ false → (a ≡ false) × (b ≡ false)
 fresh_parts true b n more h = absurd (true≢false (sym (more refl) ∙ h))
 fresh_parts false true n more h = absurd (true≢false (sym (more refl) ∙ h))
 fresh_parts false false n more h = (refl, refl)
 
--- what is known of the one document is known of the other, but of cells that are noted
-pub known_same : (s t : Document) (cells : List CellId) (old new : Beside) → IsNoted old new cells
-    → ((c : CellId) → on cells c ≡ false → is_some (formula_at s c) ≡ is_some (formula_at t c)) → ((c : CellId) → is_some (formula_at t c) ≡ true → on cells c ≡ false → notes (sheet_of s) c ≡ notes (sheet_of t) c)
-    → KnowsOthers s old → KnowsOthers t new
-known_same s t cells old new is there same known c fresh =
-    let parts = fresh_parts (is_stale old c) (on cells c) (is_stale new c) (is.stale c) fresh in
-    subst (λ (g : Graph). IsRead t g c) (sym is.graph) (read_same s t old.graph c (there c parts.1) (λ h. same c h parts.1) (known c parts.0))
+-- what reads the same is known of the one document where it is of the other
+same_sources_read : (s t : Document) (graph : Graph) (c : CellId) → is_some (formula_at s c) ≡ is_some (formula_at t c) → sources (notes (sheet_of s) c) ≡ sources (notes (sheet_of t) c) → IsRead s graph c → IsRead t graph c
+same_sources_read s t graph c there same has = record {
+  number = λ h. has.number (there ∙ h);
+  reads = λ names k grown at. subst (λ xs. AreNumbers names xs (reads_under graph.reads k)) same (has.reads names k grown at);
+}
 
-pub stale : StaleLaw
-stale s t cells old new same is = (
-  known_same s t cells old new is (λ c other. same.there c) (λ c there other. same.same c (same.there c ∙ there) other),
-  known_same t s cells old new is (λ c other. sym (same.there c)) (λ c there other. sym (same.same c there other)),
-)
+pub noted : NotedLaw
+noted s t some old new same is known c fresh =
+    let parts = fresh_parts (is_stale old c) (is_one_of some c) (is_stale new c) (is.stale c) fresh in
+    subst (λ (g : Graph). IsRead t g c) (sym is.graph) (same_sources_read s t old.graph c (same.there c parts.1) (same.same c parts.1) (known c parts.0))
 
 -- ---- over an update
 

@@ -8,7 +8,7 @@ use Rattle.cell_types.specs.declared.cell.CellId.{CellId}
 use Rattle.cell_types.specs.declared.value.CellValue.{CellValue}
 use Rattle.recalc.specs.Cells.{same_cell}
 use Rattle.recalc.specs.Sheet.{IsIn, Sheet, Values}
-use Rattle.recalc.specs.Stack.{AreOpen, IsOpen, count, is_open, on, one}
+use Rattle.recalc.specs.Stack.{AreOpen, IsOpen, count, is_open, one}
 use Rattle.recalc.proofs.Turn.{same_itself}
 use Rattle.affected_cells.specs.Bound.{attempt_bound, names}
 use Rattle.recalc.specs.Turn.{StaysKnown}

@@ -6,3 +6,5 @@ pub mod RecordedLemmas
 pub mod CountLemmas
 pub mod BoundLemmas
 pub mod StartedLemmas
+pub mod SourceLemmas
+pub mod WatchedLemmas

@@ -22,13 +22,7 @@ use Rattle.affected_cells.proofs.RowsLaw.{rows_law}
 use Rattle.affected_search.specs.Actions.{KeepsOthers}
 use Rattle.affected_search.specs.Sheets.{is_found}
 use Rattle.affected_values.specs.Carried.{HasCellsOf, moved_rows, moved_table}
-use Rattle.known_reads.specs.Moved.{NotedLaw, ReadsBackLaw, ReadsOverLaw}
-use Rattle.known_reads.proofs.BesideLemmas.{known_same}
-
--- ---- stale cells
-
-pub noted : NotedLaw
-noted s t cells old new after is known = known_same s t cells old new is after.there after.same known
+use Rattle.known_reads.specs.Moved.{ReadsOverLaw, RowsStayLaw}
 
 -- ---- rows that come or go
 
@@ -73,16 +67,8 @@ not_modified (RemoveColumn u k) t h c = refl
 not_modified (RenameColumn u k n) t h c = refl
 not_modified (ModifyColumn u k i) t h c = absurd (none_some t h)
 
-module _ (s : Document) (a : DocAction) (t : List ℕ) (graph : Graph) (found : List CellNumber) (cells : List CellId)
-    (moved : moved_table a ≡ Some t) (ok : valid s a ≡ true) (keeps : KeepsOthers s graph a found)
-    (named : (c : CellId) → is_found graph found c ≡ true → on cells c ≡ true) (before : HasCellsOf s t (moved_rows a) cells) (after : HasCellsOf (apply s a) t (moved_rows a) cells) where
-  not_found : (c : CellId) → on cells c ≡ false → is_found graph found c ≡ false
-  not_found c other = by (is_found graph found c) refl
-    where
-      by : (b : Bool) → is_found graph found c ≡ b → b ≡ false
-      by true e = absurd (true≢false (sym (named c e) ∙ other))
-      by false e = refl
-
+module _ (s : Document) (a : DocAction) (t : List ℕ) (cells : List CellId)
+    (moved : moved_table a ≡ Some t) (ok : valid s a ≡ true) (before : HasCellsOf s t (moved_rows a) cells) (after : HasCellsOf (apply s a) t (moved_rows a) cells) where
   -- a cell of the rows that is not among them has no formula
   none_there : (x : Document) → HasCellsOf x t (moved_rows a) cells → (c : CellId) → (bytes_eq c.table t && has (moved_rows a) c.row) ≡ true → on cells c ≡ false → formula_at x c ≡ None
   none_there x has_cells c e other = by (formula_at x c) refl
@@ -91,29 +77,33 @@ module _ (s : Document) (a : DocAction) (t : List ℕ) (graph : Graph) (found : 
       by None g = refl
       by (Some f) g = absurd (true≢false (sym (has_cells c e (ap is_some g)) ∙ other))
 
-  pub formula_same : (c : CellId) → on cells c ≡ false → formula_at (apply s a) c ≡ formula_at s c
+  formula_same : (c : CellId) → on cells c ≡ false → formula_at (apply s a) c ≡ formula_at s c
   formula_same c other = by (bytes_eq c.table t && has (moved_rows a) c.row) refl
     where
       by : (b : Bool) → (bytes_eq c.table t && has (moved_rows a) c.row) ≡ b → formula_at (apply s a) c ≡ formula_at s c
       by true e = none_there (apply s a) after c e other ∙ sym (none_there s before c e other)
       by false e = formula_apart s a t moved ok c e
 
-  pub same_notes : (c : CellId) → is_some (formula_at (apply s a) c) ≡ true → on cells c ≡ false → notes (sheet_of s) c ≡ notes (sheet_of (apply s a)) c
-  same_notes c there other = by (formula_at (apply s a) c) refl there
-    where
-      by : (o : Option (List ℕ)) → formula_at (apply s a) c ≡ o → is_some o ≡ true → notes (sheet_of s) c ≡ notes (sheet_of (apply s a)) c
-      by None e h = absurd (false≢true h)
-      by (Some f) e h = sym (keeps ok c f e (ap (λ o. not (is_some o) || is_modified a c) (sym (formula_same c other) ∙ e) ∙ not_modified a t moved c) (not_found c other)).1
+  module _ (graph : Graph) (found : List CellNumber) (keeps : KeepsOthers s graph a found) (named : (c : CellId) → is_found graph found c ≡ true → on cells c ≡ true) where
+    not_found : (c : CellId) → on cells c ≡ false → is_found graph found c ≡ false
+    not_found c other = by (is_found graph found c) refl
+      where
+        by : (b : Bool) → is_found graph found c ≡ b → b ≡ false
+        by true e = absurd (true≢false (sym (named c e) ∙ other))
+        by false e = refl
+
+    same_notes : (c : CellId) → is_some (formula_at (apply s a) c) ≡ true → on cells c ≡ false → notes (sheet_of s) c ≡ notes (sheet_of (apply s a)) c
+    same_notes c there other = by (formula_at (apply s a) c) refl there
+      where
+        by : (o : Option (List ℕ)) → formula_at (apply s a) c ≡ o → is_some o ≡ true → notes (sheet_of s) c ≡ notes (sheet_of (apply s a)) c
+        by None e h = absurd (false≢true h)
+        by (Some f) e h = sym (keeps ok c f e (ap (λ o. not (is_some o) || is_modified a c) (sym (formula_same c other) ∙ e) ∙ not_modified a t moved c) (not_found c other)).1
+
+pub rows_stay : RowsStayLaw
+rows_stay s a t cells moved ok before after = formula_same s a t cells moved ok before after
 
 pub reads_over : ReadsOverLaw
 reads_over s a t graph found cells moved ok keeps named before after = record {
-  there = λ c other. ap is_some (sym (formula_same s a t graph found cells moved ok keeps named before after c other));
-  same = λ c there other. same_notes s a t graph found cells moved ok keeps named before after c there other;
-}
-
-pub reads_back : ReadsBackLaw
-reads_back s a t graph found cells moved ok keeps named before after = record {
-  there = λ c other. ap is_some (formula_same s a t graph found cells moved ok keeps named before after c other);
-  same = λ c there other.
-      sym (same_notes s a t graph found cells moved ok keeps named before after c (ap is_some (formula_same s a t graph found cells moved ok keeps named before after c other) ∙ there) other);
+  there = λ c other. ap is_some (sym (formula_same s a t cells moved ok before after c other));
+  same = λ c there other. same_notes s a t cells moved ok before after graph found keeps named c there other;
 }

@@ -38,7 +38,9 @@ use Rattle.known_reads.specs.declared.attempting.Found.TheVariants.{Value, Need}
 use Rattle.known_reads.specs.Beside.{Beside, KnowsOthers, is_stale}
 use Rattle.known_reads.specs.Known.{KeepsReads}
 use Rattle.known_reads.specs.Recorded.{IsFitted, IsNotedOf, IsRecording, IsTold, KnowsBut, KnowsButFormulas}
+use Rattle.known_reads.specs.Watched.{IsWatched}
 use Rattle.known_reads.proofs.KnownLemmas.{reads_kept}
+use Rattle.known_reads.proofs.WatchedLemmas.{watched_next, watched_none}
 
 -- ---- what an attempt tells
 
@@ -110,34 +112,37 @@ or_first false b e = absurd (false≢true e)
 
 -- a cell that is set to what its run noted
 pub noted_set : (old new : Beside) (was : Graph) → was ≡ old.graph → (cell : CellId) (given : List Note) → IsSet was new.graph cell given → ((c : CellId) → is_stale new c ≡ is_stale old c)
-    → (s : Sheet) → notes s cell ≡ given → IsNotedOf old new s cell
-noted_set old new was is cell given set stale s same =
+    → ((s : Sheet) → IsWatched s old new) → (s : Sheet) → notes s cell ≡ given → IsNotedOf old new s cell
+noted_set old new was is cell given set stale watched s same =
     let recorded = set_notes_law was new.graph s cell given set same in
-    record { here = λ h. recorded.exact; others = subst (λ (g : Graph). KeepsReads s g new.graph) is recorded.keeps; stale = λ d h. stale d ∙ h }
+    record { here = λ h. recorded.exact; others = subst (λ (g : Graph). KeepsReads s g new.graph) is recorded.keeps; stale = λ d h. stale d ∙ h; watched = watched s }
 
 -- a cell of which the graph is stale, and has what it had
 pub noted_stale : (old new : Beside) (was mid : Graph) → was ≡ old.graph → new.graph ≡ mid → (cell : CellId) → IsKept was mid → ((c : CellId) → (is_stale old c || on (cell ∷ []) c) ≡ true → is_stale new c ≡ true)
-    → (s : Sheet) → IsNotedOf old new s cell
-noted_stale old new was mid is to cell kept stale s = record {
+    → ((s : Sheet) → IsWatched s old new) → (s : Sheet) → IsNotedOf old new s cell
+noted_stale old new was mid is to cell kept stale watched s = record {
   here = λ h. absurd (true≢false (sym (stale_cell new cell (λ c h. stale c (or_second (is_stale old c) (on (cell ∷ []) c) h))) ∙ h));
   others = subst (λ (g : Graph). KeepsReads s g new.graph) is (subst (λ (g : Graph). KeepsReads s was g) (sym to) (reads_kept s was mid kept));
   stale = λ d h. stale d (or_first (is_stale old d) (on (cell ∷ []) d) h);
+  watched = watched s;
 }
 
 -- so where it is stale of all
-pub noted_all : (old new : Beside) (was mid : Graph) → was ≡ old.graph → new.graph ≡ mid → (cell : CellId) → IsKept was mid → new.are_all_stale ≡ true → (s : Sheet) → IsNotedOf old new s cell
-noted_all old new was mid is to cell kept all s = record {
+pub noted_all : (old new : Beside) (was mid : Graph) → was ≡ old.graph → new.graph ≡ mid → (cell : CellId) → IsKept was mid → new.are_all_stale ≡ true → ((s : Sheet) → IsWatched s old new) → (s : Sheet) → IsNotedOf old new s cell
+noted_all old new was mid is to cell kept all watched s = record {
   here = λ h. absurd (true≢false (sym (ap (λ b. b || on new.stale cell) all) ∙ h));
   others = subst (λ (g : Graph). KeepsReads s g new.graph) is (subst (λ (g : Graph). KeepsReads s was g) (sym to) (reads_kept s was mid kept));
   stale = λ d h. ap (λ b. b || on new.stale d) all;
+  watched = watched s;
 }
 
 -- so where the graph is the same
-pub noted_same : (old new : Beside) (cell : CellId) → new.graph ≡ old.graph → ((c : CellId) → (is_stale old c || on (cell ∷ []) c) ≡ true → is_stale new c ≡ true) → (s : Sheet) → IsNotedOf old new s cell
-noted_same old new cell same stale s = record {
+pub noted_same : (old new : Beside) (cell : CellId) → new.graph ≡ old.graph → ((c : CellId) → (is_stale old c || on (cell ∷ []) c) ≡ true → is_stale new c ≡ true) → ((s : Sheet) → IsWatched s old new) → (s : Sheet) → IsNotedOf old new s cell
+noted_same old new cell same stale watched s = record {
   here = λ h. absurd (true≢false (sym (stale_cell new cell (λ c h. stale c (or_second (is_stale old c) (on (cell ∷ []) c) h))) ∙ h));
   others = subst (λ (g : Graph). KeepsReads s old.graph g) (sym same) (λ c h. h);
   stale = λ d h. stale d (or_first (is_stale old d) (on (cell ∷ []) d) h);
+  watched = watched s;
 }
 
 -- ---- one after the other
@@ -158,6 +163,7 @@ recording_none s k old = record {
   read = λ c none some fresh. absurd (true≢false (sym some ∙ none));
   others = λ c h. h;
   stale = λ c h. h;
+  watched = watched_none (sheet_of s) old;
 }
 
 pub recording_next : (s : Document) (k j i : Values) (old mid new : Beside) → IsRecording s k old j mid → IsRecording s j mid i new → IsRecording s k old i new
@@ -165,6 +171,7 @@ recording_next s k j i old mid new a b = record {
   read = λ c none some fresh. by c (is_some (j c)) refl none some fresh;
   others = λ c h. b.others c (a.others c h);
   stale = λ c h. b.stale c (a.stale c h);
+  watched = watched_next (sheet_of s) old mid new a.watched b.watched;
 }
   where
     by : (c : CellId) (p : Bool) → is_some (j c) ≡ p → is_some (k c) ≡ false → is_some (i c) ≡ true → is_stale new c ≡ false → HasNotesOf new.graph (sheet_of s) c
@@ -177,6 +184,7 @@ recording_put s k j old new cell v puts noted = record {
   read = λ c none some fresh. by c (same_cell cell c) refl none some fresh;
   others = noted.others;
   stale = noted.stale;
+  watched = noted.watched;
 }
   where
     by : (c : CellId) (p : Bool) → same_cell cell c ≡ p → is_some (k c) ≡ false → is_some (j c) ≡ true → is_stale new c ≡ false → HasNotesOf new.graph (sheet_of s) c

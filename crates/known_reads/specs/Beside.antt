@@ -9,20 +9,24 @@ use Rattle.doc_model.specs.Document.{Document}
 use Rattle.doc_model.specs.Valid.{valid}
 use Rattle.dep_graph.specs.declared.numbers.CellNumber.{CellNumber}
 use Rattle.dep_graph.specs.Graph.{Graph}
+use Rattle.dep_graph.specs.Sources.{sources}
 use Rattle.recalc.specs.Evaluated.{formula_at, sheet_of}
 use Rattle.recalc.specs.Stack.{on}
 use Rattle.affected_cells.specs.Noted.{notes}
 use Rattle.affected_search.specs.Actions.{KeepsOthers}
 use Rattle.affected_search.specs.Sheets.{is_found}
+use Rattle.known_reads.specs.declared.some_cells.SomeCells.{SomeCells}
 use Rattle.known_reads.specs.Known.{IsRead}
+use Rattle.known_reads.specs.SomeCells.{is_one_of}
 
 -- a graph, the cells of which it may not be right, whether these are all, and for how many more
--- there is room
+-- there is room; and the cells of which it was noted that they read something else
 pub record Beside : Type 0 where
   pub graph : Graph
   pub stale : List CellId
   pub are_all_stale : Bool
   pub room : ℕ
+  pub renewed : SomeCells
 
 -- whether the graph may not be right of the cell
 abbrev pub is_stale : Beside → CellId → Bool
@@ -38,16 +42,22 @@ pub record ReadsSameBut (s t : Document) (cells : List CellId) : Type 0 where
   pub same : (c : CellId) → is_some (formula_at s c) ≡ true → on cells c ≡ false
       → notes (sheet_of s) c ≡ notes (sheet_of t) c
 
--- the same graph, stale of what it was stale of, and of these cells
-pub record IsNoted (old new : Beside) (cells : List CellId) : Type 0 where
-  pub graph : new.graph ≡ old.graph
-  pub stale : (c : CellId) → (is_stale old c || on cells c) ≡ true → is_stale new c ≡ true
+-- but for some cells the documents have the same formula cells, and each reads the same in both
+pub record SameSourcesBut (s t : Document) (some : SomeCells) : Type 0 where
+  pub there : (c : CellId) → is_one_of some c ≡ false
+      → is_some (formula_at s c) ≡ is_some (formula_at t c)
+  pub same : (c : CellId) → is_one_of some c ≡ false
+      → sources (notes (sheet_of s) c) ≡ sources (notes (sheet_of t) c)
 
--- what notes the same is known of the one document where it was of the other, in both directions
-abbrev pub StaleLaw : Type 0
-StaleLaw = (s t : Document) (cells : List CellId) (old new : Beside) → ReadsSameBut s t cells
-    → IsNoted old new cells → (KnowsOthers s old → KnowsOthers t new)
-    × (KnowsOthers t old → KnowsOthers s new)
+-- the same graph, stale of what it was stale of, and of these cells
+pub record IsNoted (old new : Beside) (some : SomeCells) : Type 0 where
+  pub graph : new.graph ≡ old.graph
+  pub stale : (c : CellId) → (is_stale old c || is_one_of some c) ≡ true → is_stale new c ≡ true
+
+-- where the graph is right of the first document, it is of the second, once these are noted
+abbrev pub NotedLaw : Type 0
+NotedLaw = (s t : Document) (some : SomeCells) (old new : Beside) → SameSourcesBut s t some
+    → IsNoted old new some → KnowsOthers s old → KnowsOthers t new
 
 -- over an update each formula cell but the found ones notes the same
 abbrev pub ReadsSameLaw : Type 0

@@ -14,7 +14,6 @@ use Rattle.affected_cells.specs.Noted.{notes}
 use Rattle.affected_search.specs.Actions.{KeepsOthers}
 use Rattle.affected_search.specs.Sheets.{is_found}
 use Rattle.affected_values.specs.Carried.{HasCellsOf, moved_rows, moved_table}
-use Rattle.known_reads.specs.Beside.{Beside, IsNoted, KnowsOthers}
 
 -- but for these cells the documents have the same formula cells, which note the same in both
 pub record ReadsSameAfter (s t : Document) (cells : List CellId) : Type 0 where
@@ -23,21 +22,13 @@ pub record ReadsSameAfter (s t : Document) (cells : List CellId) : Type 0 where
   pub same : (c : CellId) → is_some (formula_at t c) ≡ true → on cells c ≡ false
       → notes (sheet_of s) c ≡ notes (sheet_of t) c
 
--- where the graph is right of the first document, it is of the second, once these are noted
-abbrev pub NotedLaw : Type 0
-NotedLaw = (s t : Document) (cells : List CellId) (old new : Beside) → ReadsSameAfter s t cells
-    → IsNoted old new cells → KnowsOthers s old → KnowsOthers t new
-
--- before rows that come or go each cell but the found ones and those of the rows notes what it
--- notes after them
-abbrev pub ReadsBackLaw : Type 0
-ReadsBackLaw =
-    (s : Document) (a : DocAction) (t : List ℕ) (graph : Graph) (found : List CellNumber)
-    (cells : List CellId)
-    → moved_table a ≡ Some t → valid s a ≡ true → KeepsOthers s graph a found
-    → ((c : CellId) → is_found graph found c ≡ true → on cells c ≡ true)
+-- over rows that come or go each cell but those of the rows has the formula that it had
+abbrev pub RowsStayLaw : Type 0
+RowsStayLaw =
+    (s : Document) (a : DocAction) (t : List ℕ) (cells : List CellId)
+    → moved_table a ≡ Some t → valid s a ≡ true
     → HasCellsOf s t (moved_rows a) cells → HasCellsOf (apply s a) t (moved_rows a) cells
-    → ReadsSameAfter (apply s a) s cells
+    → (c : CellId) → on cells c ≡ false → formula_at (apply s a) c ≡ formula_at s c
 
 -- over rows that come or go each cell but the found ones and those of the rows notes the same
 abbrev pub ReadsOverLaw : Type 0

@@ -12,18 +12,22 @@ ghost use Rattle.recalc.specs.Stack.{on};
 ghost use Rattle.affected_cells.specs.Noted.{notes};
 ghost use Rattle.affected_search.specs.ExactNotes.{HasNoReads, HasNotes};
 ghost use Rattle.affected_search.specs.Noted.{HoldsNotes};
-ghost use Rattle.known_reads.specs.Beside.{KnowsOthers, is_stale};
+ghost use Rattle.known_reads.specs.Beside.{IsNoted, KnowsOthers, is_stale};
 ghost use Rattle.known_reads.specs.Recorded.{IsNotedOf, KnowsBut, KnowsButFormulas};
+ghost use Rattle.known_reads.specs.SomeCells.{is_one_of};
+ghost use Rattle.known_reads.specs.Watched.{IsWatched};
 
 use crate::bounded::{BoundedGraph, ReadsFault};
 use crate::recording::{forget_plain, record_cells};
+use crate::some_cells::SomeCells;
 use crate::walking::record_all;
 use cell_types::CellId;
 use dep_graph::{DepGraph, NoteRuns};
 use doc_model::DocTables;
-use recalc::{ColumnIndex, KeptTable};
+use recalc::{ColumnIndex, KeptTable, cell_id};
 use std::alloc::{AllocError, Global};
 use std::marker::Model;
+use std::mem;
 
 /// How many reads are recorded before the graph is given up. A read takes some 30 bytes there,
 /// where many cells of a column read the same, to 130, where one cell does: so all take 0.3 to 1.3
@@ -42,6 +46,8 @@ pub struct KnownReads {
     are_all_stale: bool,
     // An empty graph had no room for all reads.
     is_wide: bool,
+    // Since they are watched, the cells that came to read something else, or stale.
+    renewed: SomeCells,
 }
 
 impl Model for KnownReads {
@@ -55,6 +61,7 @@ impl Model for KnownReads {
       stale = k.stale.items;
       are_all_stale = k.are_all_stale;
       room = vec_capacity k.stale - vec_len k.stale;
+      renewed = k.renewed;
     } };
 }
 
@@ -70,6 +77,7 @@ impl KnownReads {
             stale: Vec::new(alloc),
             are_all_stale: true,
             is_wide: false,
+            renewed: SomeCells::all(alloc),
         }
     }
 
@@ -85,6 +93,7 @@ impl KnownReads {
             stale: Vec::new(alloc),
             are_all_stale: is_wide,
             is_wide,
+            renewed: SomeCells::all(alloc),
         }
     }
 
@@ -234,25 +243,66 @@ impl KnownReads {
         }
     }
 
+    /// Begins to note which cells come to read something else, or stale; these cells are noted.
+    ///
+    /// Memory: none.
+    pub(crate) fn watch(&mut self, cells: Vec<CellId>)
+        ensures graph { self.new.graph ≡ self.old.graph }
+        ensures stale { (c : CellId) → is_stale self.new c ≡ is_stale self.old c }
+        ensures room { self.new.room ≡ self.old.room }
+        ensures renewed { (c : CellId) → is_one_of self.new.renewed c ≡ on cells.items c }
+    {
+        self.renewed = SomeCells::of(cells);
+    }
+
+    /// Hands out the cells that were noted, and notes no more.
+    ///
+    /// Memory: none.
+    pub(crate) fn take_renewed(&mut self, alloc: Global) -> SomeCells
+        ensures graph { self.new.graph ≡ self.old.graph }
+        ensures stale { (c : CellId) → is_stale self.new c ≡ is_stale self.old c }
+        ensures room { self.new.room ≡ self.old.room }
+        ensures renewed { result ≡ self.old.renewed }
+    {
+        mem::replace(&mut self.renewed, SomeCells::all(alloc))
+    }
+
+    // Notes a cell that may be stale from now on.
+    fn note_renewed(&mut self, cell: &CellId)
+        ensures graph { self.new.graph ≡ self.old.graph }
+        ensures stale { (c : CellId) → is_stale self.new c ≡ is_stale self.old c }
+        ensures renewed { (c : CellId)
+            → (is_one_of self.old.renewed c || on (cell.now ∷ []) c) ≡ true
+            → is_one_of self.new.renewed c ≡ true }
+    {
+        match cell_id(&cell.table, &cell.column, cell.row) {
+            Ok(copy) => self.renewed.note(copy),
+            Err(_) => self.renewed.are_all = true,
+        }
+    }
+
     /// Notes a cell as stale; all cells, where there is no memory for it.
     pub(crate) fn add_stale(&mut self, cell: CellId)
         ensures graph { self.new.graph ≡ self.old.graph }
         ensures stale { (c : CellId) → (is_stale self.old c || on (cell ∷ []) c) ≡ true
             → is_stale self.new c ≡ true }
+        ensures watched { (s : Sheet) → IsWatched s self.old self.new }
     {
         if self.are_all_stale {
             drop(cell);
             return;
         }
+        self.note_renewed(&cell);
         if self.stale.push(cell).is_err() {
             self.are_all_stale = true;
+            self.renewed.are_all = true;
         }
     }
 
     /// Records what the run that gave a cell its value noted, unless all cells are stale. Notes all
     /// as stale, where there is no room for it, and the cell, where there is no memory.
     ///
-    /// Memory: what the graph takes, or a stale cell.
+    /// Memory: what the graph takes, or a stale cell, and a cell that reads something else.
     pub(crate) fn keep_notes(&mut self, cell: CellId, given: &NoteRuns)
         ensures { (s : Sheet) → notes s cell ≡ given.now
             → IsNotedOf self.old self.new s cell }
@@ -262,11 +312,13 @@ impl KnownReads {
             return;
         }
         match self.graph.set(&cell, given) {
-            Ok(()) => drop(cell),
+            Ok(false) => drop(cell),
+            Ok(true) => self.renewed.note(cell),
             Err(ReadsFault::NoMemory) => self.add_stale(cell),
             Err(ReadsFault::TooMany) => {
                 drop(cell);
                 self.are_all_stale = true;
+                self.renewed.are_all = true;
             }
         }
     }
@@ -292,6 +344,7 @@ impl KnownReads {
             → KnowsButFormulas (D.document tables.now) self.new cells.now }
         ensures stale { (c : CellId) → is_stale self.new c ≡ is_stale self.old c }
         ensures room { self.new.room ≡ self.old.room }
+        ensures watched { IsWatched (sheet_of (D.document tables.now)) self.old self.new }
     {
         forget_plain(tables, &mut self.graph, cells);
     }
@@ -311,6 +364,21 @@ impl KnownReads {
         let mut cells = cells;
         'noting: while let Some(cell) = cells.pop() {
             self.note_cell(cell);
+        }
+    }
+
+    /// Notes some cells as stale; all cells, where there is no room for them.
+    ///
+    /// Memory: none. Cost: linear in the cells.
+    pub fn note_some(&mut self, some: SomeCells)
+        ensures { IsNoted self.old self.new some }
+    {
+        let SomeCells { cells, are_all } = some;
+        if are_all {
+            drop(cells);
+            self.note_all();
+        } else {
+            self.note_cells(cells);
         }
     }
 

@@ -1,6 +1,6 @@
 //! A graph in which so many reads are recorded.
 
-ghost use Rattle.std.specs.Prelude.{◌≡◌, ◌<◌, OnErr, OnOk};
+ghost use Rattle.std.specs.Prelude.{◌≡◌, ◌<◌, false, IfOk, OnErr, OnOk};
 ghost use Rattle.std.specs.Option.{option_copied};
 ghost use Rattle.dep_graph.specs.Graph.{IsDropped, IsKept, IsSet};
 ghost use Rattle.recalc.specs.Sheet.{row_of};
@@ -140,17 +140,18 @@ impl BoundedGraph {
         self.count_again(cell, before);
     }
 
-    // Records what a run of a cell noted.
-    pub(crate) fn set(&mut self, cell: &CellId, notes: &NoteRuns) -> Result<(), ReadsFault>
+    // Records what a run of a cell noted, and tells whether it reads something else than before.
+    pub(crate) fn set(&mut self, cell: &CellId, notes: &NoteRuns) -> Result<bool, ReadsFault>
         ensures ok { OnOk result (IsSet self.old self.new cell.now notes.now) }
+        ensures same { IfOk result (λ is_other. is_other ≡ false → IsKept self.old self.new) }
         ensures err { OnErr result (IsKept self.old self.new) }
     {
         if self.is_full() {
             return Err(ReadsFault::TooMany);
         }
         let before = self.graph.reads_count(cell);
-        self.graph.set_runs(cell, notes)?;
+        let is_other = self.graph.set_runs(cell, notes)?;
         self.count_again(cell, before);
-        Ok(())
+        Ok(is_other)
     }
 }

@@ -1,17 +1,11 @@
 //! Laws of a graph beside the values, over changes of the document.
 
-ghost use Rattle.known_reads.specs.Beside.{ReadsSameLaw, StaleLaw};
-ghost use Rattle.known_reads.specs.Moved.{NotedLaw, ReadsBackLaw, ReadsOverLaw};
+ghost use Rattle.known_reads.specs.Beside.{NotedLaw, ReadsSameLaw};
+ghost use Rattle.known_reads.specs.Moved.{ReadsOverLaw, RowsStayLaw};
 
 /// Over an update each formula cell but the found ones reads the same.
 pub fn reads_same_law()
     ensures { ReadsSameLaw }
-{}
-
-/// Where cells are noted as stale that may read something else in another document, the graph is
-/// right of the others there, in both directions.
-pub fn stale_law()
-    ensures { StaleLaw }
 {}
 
 /// Over rows that come or go each formula cell but the found ones and those of the rows was there,
@@ -20,10 +14,9 @@ pub fn reads_over_law()
     ensures { ReadsOverLaw }
 {}
 
-/// Before rows that come or go each formula cell but the found ones and those of the rows is there
-/// after them, and reads the same.
-pub fn reads_back_law()
-    ensures { ReadsBackLaw }
+/// Over rows that come or go each cell but those of the rows has the formula that it had.
+pub fn rows_stay_law()
+    ensures { RowsStayLaw }
 {}
 
 /// Where cells are noted as stale that are new or may read something else in another document, the

@@ -24,13 +24,15 @@
 //! or all, where the graph has no room. It makes two attempts a cell at most, and no more than one
 //! for each cell and one for each of them that its reads name (`attempt_bound`). Where memory runs
 //! out each value is as it was.
-//! Over an update, in both directions, the graph is right of all others but the found ones
-//! (`reads_same_law`, `stale_law`); over rows that come or go, and back, also but the cells of the
-//! rows (`reads_over_law`, `reads_back_law`, `noted_law`).
+//! Over an update the graph is right of all cells but the found ones (`reads_same_law`), over rows
+//! that come or go also but those of the rows (`reads_over_law`, `rows_stay_law`).
+//! `refresh_recording` tells which cells came to read something else, or stale: on the way back of
+//! a change the graph is right of all others (`AreRenewed`, `noted_law`).
 //! Not promised: how many attempts `make_right` makes; which indexes are made; how many reads are
 //! too many.
 //! Read first: specs/Known.antt and specs/Beside.antt, then beside.rt, recording.rt and bounded.rt;
-//! specs/Recorded.antt and specs/Attempts.antt, then settling.rt, starting.rt and refreshing.rt.
+//! specs/Recorded.antt, specs/Watched.antt and specs/Attempts.antt, then settling.rt, starting.rt
+//! and refreshing.rt.
 #![tactic(auto)]
 
 mod attempting;
@@ -40,12 +42,14 @@ mod laws;
 mod recording;
 mod refreshing;
 mod settling;
+mod some_cells;
 mod starting;
 mod walking;
 
 pub use beside::KnownReads;
 pub use bounded::{BoundedGraph, ReadsFault};
-pub use laws::{noted_law, reads_back_law, reads_over_law, reads_same_law, stale_law};
+pub use laws::{noted_law, reads_over_law, reads_same_law, rows_stay_law};
 pub use recording::record_cells;
-pub use refreshing::refresh_recording;
+pub use refreshing::{Refreshed, refresh_recording};
+pub use some_cells::SomeCells;
 pub use starting::{Evaluated, evaluate_recording};

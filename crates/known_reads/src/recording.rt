@@ -10,6 +10,7 @@ ghost use Rattle.recalc.specs.Kept.{IsEvaluated};
 ghost use Rattle.recalc.specs.Stack.{on};
 ghost use Rattle.affected_search.specs.NotedUpkeep.{NotesRecordedOf};
 ghost use Rattle.known_reads.specs.Known.{AreRead, IsRead, KeepsReads};
+ghost use Rattle.known_reads.specs.Watched.{KeepsFormulaReads};
 
 use crate::bounded::{BoundedGraph, ReadsFault};
 use affected_values::is_formula_cell;
@@ -122,6 +123,7 @@ fn forget_where<D: DocTables>(tables: &D, graph: &mut BoundedGraph, cell: &CellI
     ensures plain { formula_at (D.document tables.now) cell.now ≡ None
         → IsRead (D.document tables.now) graph.new cell.now }
     ensures keeps { KeepsReads (sheet_of (D.document tables.now)) graph.old graph.new }
+    ensures formulas { KeepsFormulaReads (sheet_of (D.document tables.now)) graph.old graph.new }
 {
     if !is_formula_cell(tables, cell) {
         graph.forget(cell);
@@ -135,6 +137,7 @@ pub(crate) fn forget_plain<D: DocTables>(tables: &D, graph: &mut BoundedGraph, c
     ensures plain { (c : CellId) → on cells.now c ≡ true
         → formula_at (D.document tables.now) c ≡ None → IsRead (D.document tables.now) graph.new c }
     ensures keeps { KeepsReads (sheet_of (D.document tables.now)) graph.old graph.new }
+    ensures formulas { KeepsFormulaReads (sheet_of (D.document tables.now)) graph.old graph.new }
 {
     for cell in cells {
         forget_where(tables, graph, cell);

@@ -1,6 +1,6 @@
 //! Cells evaluated anew, with what they read, where the values of all others are known.
 
-ghost use Rattle.std.specs.Prelude.{◌≡◌, ◌+◌, ◌*◌, ◌≤◌, List, [], length, true, IfOk, OnErr, OnOk, vec_capacity};
+ghost use Rattle.std.specs.Prelude.{◌≡◌, ◌+◌, ◌*◌, ◌≤◌, List, [], length, true, IfOk, OnErr, OnOk};
 ghost use Rattle.std.specs.Option.{is_some};
 ghost use Rattle.cell_types.specs.declared.cell.CellId.{CellId};
 ghost use Rattle.doc_model.specs.DocumentLaws.{IsWhole};
@@ -13,9 +13,11 @@ ghost use Rattle.affected_values.specs.Taken.{IsHeldWhere, IsRightBut, LeadsBack
 ghost use Rattle.known_reads.specs.Attempts.{HasFormulas, IsWithin};
 ghost use Rattle.known_reads.specs.Beside.{KnowsOthers};
 ghost use Rattle.known_reads.specs.Recorded.{IsRecording, KnowsBut};
+ghost use Rattle.known_reads.specs.Watched.{AreRenewed};
 
 use crate::beside::KnownReads;
 use crate::settling::settle_cell;
+use crate::some_cells::SomeCells;
 use affected_values::{HeldValue, put_values_back, take_values};
 use cell_types::CellId;
 use doc_model::DocTables;
@@ -88,16 +90,26 @@ fn settle_taken<D: DocTables, L: Ledger>(
     done
 }
 
+/// What was known of cells that are evaluated anew, and the cells that read something else since,
+/// or are stale.
+#[derive(Drop)]
+pub struct Refreshed {
+    pub taken: Vec<HeldValue>,
+    pub renewed: SomeCells,
+}
+
 /// Evaluates these cells anew, where the values of all other formula cells are known and right, and
 /// records what they read by the same attempts. What was known of them is handed out, so that it
-/// can be put back. A cell is noted as stale where it is circular, since its run may not have been
-/// whole, and where what it reads is not recorded for want of memory; all are for want of room.
-/// Makes the indexes of the data columns by which the cells look rows up, where they have none.
+/// can be put back, and so are the noted cells with those that read something else, of which the
+/// graph is not right before. A cell is noted as stale where it is circular, since its run may not
+/// have been whole, and where what it reads is not recorded for want of memory; all are for want of
+/// room. Makes the indexes of the data columns by which the cells look rows up, where they have
+/// none.
 ///
 /// Errors: out of memory; each value is then as it was, all cells are stale, and the indexes are to
 /// be given up.
-/// Memory: a stack as deep as the chains of the cells that are evaluated, what the graph takes, and
-/// the indexes. None for what is handed out, for which there is room.
+/// Memory: a place for each of the cells, a stack as deep as the chains of those that are
+/// evaluated, what the graph takes, the cells that read something else, and the indexes.
 /// Cost: that of the cells that are evaluated, and the making of indexes.
 pub fn refresh_recording<D: DocTables, L: Ledger>(
     alloc: Global,
@@ -106,21 +118,21 @@ pub fn refresh_recording<D: DocTables, L: Ledger>(
     indexes: &mut Vec<ColumnIndex>,
     reads: &mut KnownReads,
     cells: Vec<CellId>,
-    room: Vec<HeldValue>,
+    noted: Vec<CellId>,
     steps: &mut Steps<L>,
-) -> Result<Vec<HeldValue>, AllocError>
+) -> Result<Refreshed, AllocError>
     requires whole { IsWhole (D.document tables.now) }
     requires indexed { AreIndexes (sheet_of (D.document tables.now)) indexes.old.items }
     requires of_document { IsKeptOf (D.document tables.now) kept.old.items }
     requires others { IsRightBut (D.document tables.now) kept.old.items cells.items }
     requires reads { KnowsBut (D.document tables.now) reads.old cells.items }
-    requires empty { room.items ≡ [] }
-    requires room { length cells.items ≤ vec_capacity room }
     ensures of_document { IsKeptOf (D.document tables.now) kept.new.items }
     ensures ok { OnOk result (IsEvaluated (D.document tables.now) kept.new.items) }
-    ensures way { IfOk result (λ taken. LeadsBack (D.document tables.now) taken.items
+    ensures way { IfOk result (λ x. LeadsBack (D.document tables.now) x.taken.items
         kept.new.items kept.old.items) }
     ensures reads { OnOk result (KnowsOthers (D.document tables.now) reads.new) }
+    ensures renewed { IfOk result
+        (λ x. AreRenewed (D.document tables.now) reads.old noted.items x.renewed) }
     ensures err { OnErr result
         (LeadsBack (D.document tables.now) [] kept.new.items kept.old.items) }
     ensures stale { OnErr result (reads.new.are_all_stale ≡ true) }
@@ -132,11 +144,19 @@ pub fn refresh_recording<D: DocTables, L: Ledger>(
     ensures named { (all : List CellId) → HasFormulas (D.document tables.now) cells.items all
         → steps.new ≤ steps.old + attempt_bound (sheet_of (D.document tables.now)) all }
 {
+    let Ok(room) = Vec::with_capacity(alloc, cells.len()) else {
+        reads.note_all();
+        return Err(AllocError);
+    };
+    reads.watch(noted);
     reads.forget_plain(tables, cells.as_slice());
     let mut taken = room;
     take_values(tables, kept, cells, &mut taken);
     match settle_taken(alloc, tables, kept, indexes, reads, &taken, steps) {
-        Ok(()) => Ok(taken),
+        Ok(()) => {
+            let renewed = reads.take_renewed(alloc);
+            Ok(Refreshed { taken, renewed })
+        }
         Err(_) => {
             put_values_back(tables, kept, taken);
             reads.note_all();

@@ -23,8 +23,5 @@ returns-clause-found g c =
         altered = c.in_ok-cells.ensures.altered;
       };
       only = named_altered c.altered_law.ensures s a c.graph-2.result.now found c.in_ok-cells.cells.items (λ ok. record { whole = c.requires.whole; schema = c.requires.schema; ok = ok; done = refl }) finds c.in_ok-cells.ensures.only;
-      stale = record {
-        found = record { found = found; keeps = keeps; named = subst (λ gr. (d : CellId) → is_found gr found d ≡ true → on c.in_ok-stale.stale.items d ≡ true) (c.graph-3.ensures ∙ sym c.reserve.ensures.graph) c.in_ok-stale.ensures.named };
-        altered = c.in_ok-stale.ensures.altered;
-      };
+      altered = c.in_ok-altered.ensures;
     }

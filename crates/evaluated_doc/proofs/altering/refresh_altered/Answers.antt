@@ -1,9 +1,10 @@
-use Rattle.std.proofs.Common.{sym, subst, Vec}
+use Rattle.std.proofs.Common.{sym, ap, subst, Vec}
 use Rattle.std.specs.Global.{Global}
+use Rattle.std.specs.Option.{is_some}
 use Rattle.recalc.specs.declared.kept.KeptTable.{KeptTable}
 use Rattle.recalc.specs.Kept.{IsEvaluated, IsKeptOf}
 use Rattle.affected_values.specs.Altered.{IsCarried}
-use Rattle.evaluated_doc.proofs.AlteredLemmas.{reads_before, reads_but, right_but, with_more}
+use Rattle.evaluated_doc.proofs.AlteredLemmas.{altered_more, formula_same, reads_but, right_but, with_more}
 use Rattle.evaluated_doc.proofs.SpentLemmas.{altered_affected, spent}
 use Rattle.evaluated_doc.proofs.altering.refresh_altered.Goals as goal
 
@@ -36,15 +37,18 @@ returns-clause-spent g c = λ s is.
     (altered_affected c.altered_law.ensures s (g.D.DocReader.document c.args.tables.now) c.args.action.now c.args.altered.cells.items c.push_altered_cells.new.cells.items is.altered is.found.only c.in_ok-push_altered_cells.ensures.only)
     c.refresh_recording.ensures.named
 
-pub returns-in_err-taken-clause-spent : goal.returns-in_err-taken-clause-spent
-returns-in_err-taken-clause-spent g c = λ s is.
+pub returns-in_err-done-clause-spent : goal.returns-in_err-done-clause-spent
+returns-in_err-done-clause-spent g c = λ s is.
     spent s (g.D.DocReader.document c.args.tables.now) c.args.action.now c.push_altered_cells.new.cells.items c.args.steps.now c.refresh_recording.new.steps is.altered.ok is.altered.done
     (altered_affected c.altered_law.ensures s (g.D.DocReader.document c.args.tables.now) c.args.action.now c.args.altered.cells.items c.push_altered_cells.new.cells.items is.altered is.found.only c.in_ok-push_altered_cells.ensures.only)
     c.refresh_recording.ensures.named
 
 pub returns-clause-way : goal.returns-clause-way
-returns-clause-way g c = λ s is. (
-  subst (λ (v : Vec KeptTable Global). IsEvaluated s v.items) (sym c.replace-before.ensures.value) is.right,
-  reads_before c.altered_law.ensures s (g.D.DocReader.document c.args.tables.now) c.args.action.now c.args.kept.now.items c.args.reads.now c.args.altered is c.push_altered_cells-2.new.cells.items
-      (with_more s c.args.reads.now c.args.action.now c.args.altered.stale.items c.push_altered_cells-2.new.cells.items is.found.stale c.in_ok-push_altered_cells-2.ensures.stays) c.in_ok-push_altered_cells-2.ensures.pushed,
-)
+returns-clause-way g c = λ s is.
+    let now = g.D.DocReader.document c.args.tables.now in
+    let a = c.args.action.now in
+    let altered = c.push_altered_cells-2.new.cells.items in (
+      subst (λ (v : Vec KeptTable Global). IsEvaluated s v.items) (sym c.replace-before.ensures.value) is.right,
+      c.in_ok-done.ensures.renewed s is.others is.none (λ d other. ap is_some
+          (formula_same c.altered_law.ensures s now a is.altered altered (altered_more s a c.args.altered.altered.items altered is.found.altered c.in_ok-push_altered_cells-2.ensures.stays) c.in_ok-push_altered_cells-2.ensures.pushed d other)),
+    )

@@ -30,8 +30,7 @@ returns-clause-found g c =
       keeps = subst (λ gr. KeepsOthers s gr a found) (sym c.reserve.ensures.graph) keeps;
       noted = subst (λ gr. (d : CellId) → is_found gr found d ≡ true → on c.in_ok-noted.noted.items d ≡ true) (c.graph-2.ensures ∙ sym c.reserve.ensures.graph) c.in_ok-noted.ensures.found;
       only = named_affected s a c.graph-2.result.now found c.in_ok-noted.noted.items finds c.in_ok-noted.ensures.only;
-      stale = subst (λ gr. (d : CellId) → is_found gr found d ≡ true → on c.in_ok-stale.stale.items d ≡ true) (c.graph-3.ensures ∙ sym c.reserve.ensures.graph) c.in_ok-stale.ensures.named;
-      moved = subst (λ d. HasCellsWith (grid_at d t).columns t rows c.in_ok-stale.stale.items) same c.in_ok-stale.ensures.rows;
+      moved = subst (λ d. HasCellsWith (grid_at d t).columns t rows c.in_ok-moved.moved.items) same c.in_ok-moved.ensures;
       were = c.in_ok-rows.ensures.items ∙ c.rows_in.ensures.value ∙ ap (λ d. (grid_at d t).rows) same;
       ascending = subst IsAscending (sym c.in_ok-rows.ensures.items) c.rows_in.ensures.ascending;
     }

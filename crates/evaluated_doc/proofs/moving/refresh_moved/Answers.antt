@@ -33,8 +33,8 @@ refresh_recording-requires-clause-reads g c =
 
 pub returns-in-Ok-clause-way : goal.returns-in-Ok-clause-way
 returns-in-Ok-clause-way g c = λ s is.
-    leads_from s (g.D.DocReader.document c.args.tables.now) c.args.table.now c.args.rows.now c.args.kept.now.items c.args.reads.now c.args.moved is c.leads_over_rows_law.ensures c.reads_back_law.ensures c.lay_anew.new.kept.items c.refresh_recording.new.kept.items
-    c.in_ok-aside.aside c.in-Ok.taken.items (c.in_ok-aside.ensures.ok s is.moved is.found.were is.right.of_document) c.in-Ok.ensures.ok c.in-Ok.ensures.way
+    leads_from s (g.D.DocReader.document c.args.tables.now) c.args.table.now c.args.rows.now c.args.kept.now.items c.args.reads.now c.args.moved is c.leads_over_rows_law.ensures c.rows_stay_law.ensures c.lay_anew.new.kept.items c.refresh_recording.new.kept.items
+    c.in_ok-aside.aside c.in-Ok.done.taken.items c.in-Ok.done.renewed c.in-Ok.ensures.renewed (c.in_ok-aside.ensures.ok s is.moved is.found.were is.right.of_document) c.in-Ok.ensures.ok c.in-Ok.ensures.way
 
 pub lay_back-requires : goal.lay_back-requires
 lay_back-requires g c =

@@ -1,25 +1,27 @@
-use Rattle.std.proofs.Common.{sym, ◌∙◌, subst}
+use Rattle.std.proofs.Common.{◌≡◌, true, sym, ◌∙◌, subst}
+use Rattle.cell_types.specs.declared.cell.CellId.{CellId}
 use Rattle.recalc.specs.Evaluated.{sheet_of}
+use Rattle.recalc.specs.Stack.{on}
 use Rattle.affected_search.specs.Actions.{KeepsOthers}
 use Rattle.affected_search.specs.ByAction.{FindsAffected}
 use Rattle.affected_search.specs.ExactNotes.{HasNotes}
 use Rattle.affected_search.specs.Noted.{HoldsNotes}
+use Rattle.affected_search.specs.Sheets.{is_found}
+use Rattle.evaluated_doc.proofs.SpentLemmas.{named_affected}
 use Rattle.evaluated_doc.proofs.updating.find_affected.Goals as goal
 
-pub named-requires-clause-others : goal.named-requires-clause-others
-named-requires-clause-others g c =
+pub returns-clause-found : goal.returns-clause-found
+returns-clause-found g c =
     let s = g.D.DocReader.document c.args.tables.now in
     let a = c.args.action.now in
     let found = c.in_ok-found.found in
+    let cells = c.in_ok-cells.cells.items in
     let held : HoldsNotes c.graph.result.now (sheet_of s) = subst (λ gr. HoldsNotes gr (sheet_of s)) (sym c.graph.ensures) c.in_ok-make_right.ensures.ok in
-    subst (λ d. KeepsOthers d c.graph-2.result.now a found) (sym c.found_by_records.ensures.same)
-    (subst (λ gr. KeepsOthers s gr a found) (c.graph.ensures ∙ sym c.reserve.ensures.graph ∙ sym c.graph-2.ensures) (c.in_ok-found.ensures.others held))
-
-pub named-requires-clause-only : goal.named-requires-clause-only
-named-requires-clause-only g c =
-    let s = g.D.DocReader.document c.args.tables.now in
-    let a = c.args.action.now in
-    let found = c.in_ok-found.found in
     let has : HasNotes c.graph.result.now (sheet_of s) = subst (λ gr. HasNotes gr (sheet_of s)) (sym c.graph.ensures) c.in_ok-make_right.ensures.exact in
-    subst (λ d. FindsAffected d c.graph-2.result.now a found) (sym c.found_by_records.ensures.same)
-    (subst (λ gr. FindsAffected s gr a found) (c.graph.ensures ∙ sym c.reserve.ensures.graph ∙ sym c.graph-2.ensures) (c.in_ok-found.ensures.only has))
+    let keeps : KeepsOthers s c.reserve.new.self.graph a found = subst (λ gr. KeepsOthers s gr a found) (c.graph.ensures ∙ sym c.reserve.ensures.graph) (c.in_ok-found.ensures.others held) in
+    let finds : FindsAffected s c.graph-2.result.now a found = subst (λ gr. FindsAffected s gr a found) (c.graph.ensures ∙ sym c.graph-2.ensures) (c.in_ok-found.ensures.only has) in
+    record {
+      found = keeps;
+      cells = record { found = found; keeps = keeps; named = subst (λ gr. (d : CellId) → is_found gr found d ≡ true → on cells d ≡ true) (c.graph-2.ensures ∙ sym c.reserve.ensures.graph) c.in_ok-cells.ensures.found };
+      only = named_affected s a c.graph-2.result.now found cells finds c.in_ok-cells.ensures.only;
+    }

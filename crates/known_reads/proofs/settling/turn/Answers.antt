@@ -66,7 +66,7 @@ pub returns-then-is_on-clause-recording : goal.returns-then-is_on-clause-recordi
 returns-then-is_on-clause-recording g c =
     let s = g.D.DocReader.document c.args.tables.now in
     recording_put s (held_at s c.args.kept.now.items) (held_at s c.put_value-then-is_on.new.kept.items) c.args.reads.now c.add_stale.new.self c.in-Some.top (Err Circular) c.put_value-then-is_on.ensures.put
-    (noted_same c.args.reads.now c.add_stale.new.self c.in-Some.top c.add_stale.ensures.graph c.add_stale.ensures.stale (sheet_of s))
+    (noted_same c.args.reads.now c.add_stale.new.self c.in-Some.top c.add_stale.ensures.graph c.add_stale.ensures.stale c.add_stale.ensures.watched (sheet_of s))
 
 pub returns-in-Value-clause-recording : goal.returns-in-Value-clause-recording
 returns-in-Value-clause-recording g c =

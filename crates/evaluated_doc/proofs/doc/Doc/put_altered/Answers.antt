@@ -49,6 +49,7 @@ invariant_of-self-in_default-done g c =
       found = c.in-Ok.ensures.found;
       right = before;
       others = c.find_altered-found.ensures.others;
+      none = c.in-Ok.ensures.none;
     } in
     let left = c.in_default-done.ensures.err s altering in
     subst (λ d. IsWhole d × IsEvaluated d c.refresh_altered-done.new.kept.items × KnowsOthers d c.refresh_altered-done.new.reads × AreIndexes (sheet_of d) c.refresh_altered-done.new.indexes.items) (sym (c.take_back.ensures ∙ c.in_ok-undo.ensures.back))
@@ -75,6 +76,7 @@ returns-clause-spent g c =
       found = c.in-Ok.ensures.found;
       right = before;
       others = c.find_altered-found.ensures.others;
+      none = c.in-Ok.ensures.none;
     } in
     subst (λ d. HasSpent (g.D.DocReader.document d) a c.in-Ok-done.before c.args.steps.now c.refresh_altered-done.new.steps) c.self.view_is
     (spent_any s a c.in-Ok-done.before c.args.steps.now c.refresh_altered-done.new.steps c.in-Ok-done.ensures.part (c.refresh_altered-done.ensures.spent s altering))

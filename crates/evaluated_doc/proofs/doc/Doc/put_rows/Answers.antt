@@ -11,7 +11,10 @@ use Rattle.recalc.specs.Indexes.{AreIndexes}
 use Rattle.recalc.specs.Kept.{IsEvaluated}
 use Rattle.recalc.specs.Lost.{all_cells, is_lost, lost}
 use Rattle.affected_search.specs.Narrow.{is_narrow}
+use Rattle.affected_values.specs.Indexing.{AreLeft}
 use Rattle.known_reads.specs.Beside.{KnowsOthers}
+use Rattle.evaluated_doc.specs.Gone.{IsGone}
+use Rattle.evaluated_doc.proofs.GoneLemmas.{is_gone}
 use Rattle.evaluated_doc.specs.Moved.{IsMoving}
 use Rattle.evaluated_doc.specs.Spent.{HasSpent}
 use Rattle.evaluated_doc.specs.WayBack.{HasBefore}
@@ -21,12 +24,12 @@ use Rattle.evaluated_doc.proofs.UpdateLemmas.{lost_narrow}
 use Rattle.evaluated_doc.proofs.doc.Doc.put_rows.Goals as goal
 
 pub enter_indexes-indexes-requires : goal.enter_indexes-indexes-requires
-enter_indexes-indexes-requires g c = record {
-  before = g.D.DocReader.document c.self.inside.tables;
-  ok = subst (λ d. valid (g.D.DocReader.document d) c.args.action.now ≡ true) (sym c.self.view_is) c.requires.valid;
-  done = (c.in_ok-undo.ensures.done ∙ ap (λ d. apply d c.args.action.now) c.find_moved-found.ensures.same);
-  left = c.in-Ok.ensures.left;
-}
+enter_indexes-indexes-requires g c =
+    let s = g.D.DocReader.document c.self.inside.tables in
+    let a = c.args.action.now in
+    let ok : valid s a ≡ true = subst (λ d. valid (g.D.DocReader.document d) a ≡ true) (sym c.self.view_is) c.requires.valid in
+    let left = c.find_moved-found.new.indexes.items in
+    subst (λ d. AreLeft d a left) (sym (c.in_ok-undo.ensures.done ∙ ap (λ d. apply d a) c.find_moved-found.ensures.same)) (c.left_over_law.ensures s a ok left c.in-Ok.ensures.left)
 
 pub find_moved-found-requires-clause-valid : goal.find_moved-found-requires-clause-valid
 find_moved-found-requires-clause-valid g c = subst (λ d. valid (g.D.DocReader.document d) c.args.action.now ≡ true) (sym c.self.view_is) c.requires.valid
@@ -86,6 +89,7 @@ refresh_moved-done-requires-clause-moving g c =
       found = c.in-Ok.ensures.found;
       right = before;
       others = c.find_moved-found.ensures.others;
+      none = c.in-Ok.ensures.none;
     } in
     (s, moving)
 
@@ -103,6 +107,7 @@ invariant_of-self-in_default-done g c =
       found = c.in-Ok.ensures.found;
       right = before;
       others = c.find_moved-found.ensures.others;
+      none = c.in-Ok.ensures.none;
     } in
     let left = c.in_default-done.ensures.err s moving in
     subst (λ d. IsWhole d × IsEvaluated d c.refresh_moved-done.new.kept.items × KnowsOthers d c.refresh_moved-done.new.reads × AreIndexes (sheet_of d) c.take_indexes-indexes.new.indexes.items) (sym (c.take_back.ensures ∙ c.in_ok-undo.ensures.back ∙ c.find_moved-found.ensures.same))
@@ -134,11 +139,13 @@ returns-clause-way g c =
       found = c.in-Ok.ensures.found;
       right = before;
       others = c.find_moved-found.ensures.others;
+      none = c.in-Ok.ensures.none;
     } in
     record {
       fit = c.in_ok-undo.ensures.fit;
       whole = subst IsWhole (sym (c.in_ok-undo.ensures.back ∙ c.find_moved-found.ensures.same)) c.self.invariant.0;
       before = subst (λ d. HasBefore d next c.in-Ok-done.before) (sym (c.in_ok-undo.ensures.back ∙ c.find_moved-found.ensures.same)) (c.in-Ok-done.ensures.way s moving);
+      gone = subst (λ d. IsGone d next c.gone_rows.result) (sym (c.in_ok-undo.ensures.back ∙ c.find_moved-found.ensures.same)) (is_gone s next a c.gone_rows.result ok done c.gone_rows.ensures);
     }
 
 pub returns-clause-spent : goal.returns-clause-spent
@@ -155,6 +162,7 @@ returns-clause-spent g c =
       found = c.in-Ok.ensures.found;
       right = before;
       others = c.find_moved-found.ensures.others;
+      none = c.in-Ok.ensures.none;
     } in
     subst (λ d. HasSpent (g.D.DocReader.document d) a c.in-Ok-done.before c.args.steps.now c.refresh_moved-done.new.steps) c.self.view_is
     (spent_any s a c.in-Ok-done.before c.args.steps.now c.refresh_moved-done.new.steps c.in-Ok-done.ensures.part (c.refresh_moved-done.ensures.spent s moving))

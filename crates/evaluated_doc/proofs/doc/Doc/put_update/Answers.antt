@@ -1,4 +1,4 @@
-use Rattle.std.proofs.Common.{◌≡◌, ◌+◌, ◌≤◌, true, filter, sym, ap, ◌∙◌, subst, Vec}
+use Rattle.std.proofs.Common.{◌≡◌, true, filter, sym, ap, ◌∙◌, subst, Vec}
 use Rattle.std.specs.Global.{Global}
 use Rattle.std.specs.Option.{option_map}
 use Rattle.doc_model.specs.Apply.{apply}
@@ -10,67 +10,31 @@ use Rattle.recalc.specs.Evaluated.{filled, sheet_of}
 use Rattle.recalc.specs.Indexes.{AreIndexes}
 use Rattle.recalc.specs.Kept.{IsEvaluated}
 use Rattle.recalc.specs.Lost.{all_cells, is_lost, lost}
-use Rattle.affected_cells.specs.Bound.{bound}
 use Rattle.affected_search.specs.Narrow.{is_narrow}
+use Rattle.affected_values.specs.Indexing.{AreLeft}
 use Rattle.known_reads.specs.Beside.{KnowsOthers}
-use Rattle.evaluated_doc.specs.Update.{LeadsFrom}
-use Rattle.evaluated_doc.proofs.SpentLemmas.{spent}
-use Rattle.evaluated_doc.proofs.UpdateLemmas.{known_but, leads, none_known, lost_narrow, of_records, places, restored, right}
+use Rattle.evaluated_doc.specs.Gone.{IsGone}
+use Rattle.evaluated_doc.proofs.GoneLemmas.{is_gone}
+use Rattle.evaluated_doc.specs.Spent.{HasSpent}
+use Rattle.evaluated_doc.specs.Update.{IsUpdating}
+use Rattle.evaluated_doc.specs.WayBack.{HasBefore}
+use Rattle.evaluated_doc.proofs.SpentLemmas.{spent_any}
+use Rattle.evaluated_doc.proofs.UpdateLemmas.{lost_narrow, of_records}
 use Rattle.evaluated_doc.proofs.doc.Doc.put_update.Goals as goal
 
-pub refresh_recording-done-requires-clause-of_document : goal.refresh_recording-done-requires-clause-of_document
-refresh_recording-done-requires-clause-of_document g c =
-    let s = g.D.DocReader.document c.self.inside.tables in
-    let a = c.args.action.now in
-    let ok : valid s a ≡ true = subst (λ d. valid (g.D.DocReader.document d) a ≡ true) (sym c.self.view_is) c.requires.valid in
-    let before : IsEvaluated s c.in-Some-kept.kept.items = rw c.in-Some-kept.is at c.self.invariant.1 in
-    (places s (g.D.DocReader.document c.put.new.self) a ok c.requires.update (c.in_ok-undo.ensures.done ∙ ap (λ d. apply d c.args.action.now) c.find_affected-found.ensures.same) c.in-Some-kept.kept.items).of_document before.of_document
-
-pub refresh_recording-done-requires-clause-others : goal.refresh_recording-done-requires-clause-others
-refresh_recording-done-requires-clause-others g c =
-    let s = g.D.DocReader.document c.self.inside.tables in
-    let a = c.args.action.now in
-    let ok : valid s a ≡ true = subst (λ d. valid (g.D.DocReader.document d) a ≡ true) (sym c.self.view_is) c.requires.valid in
-    let before : IsEvaluated s c.in-Some-kept.kept.items = rw c.in-Some-kept.is at c.self.invariant.1 in
-    right s (g.D.DocReader.document c.put.new.self) a ok c.requires.update (c.in_ok-undo.ensures.done ∙ ap (λ d. apply d c.args.action.now) c.find_affected-found.ensures.same) c.find_affected-found.new.reads.graph c.in-Ok.affected.cells.items c.in-Some-kept.kept.items
-    c.in-Ok.ensures.found.cells before
-
 pub enter_indexes-indexes-requires : goal.enter_indexes-indexes-requires
-enter_indexes-indexes-requires g c = record {
-  before = g.D.DocReader.document c.self.inside.tables;
-  ok = subst (λ d. valid (g.D.DocReader.document d) c.args.action.now ≡ true) (sym c.self.view_is) c.requires.valid;
-  done = (c.in_ok-undo.ensures.done ∙ ap (λ d. apply d c.args.action.now) c.find_affected-found.ensures.same);
-  left = c.in-Ok.ensures.left;
-}
+enter_indexes-indexes-requires g c =
+    let s = g.D.DocReader.document c.self.inside.tables in
+    let a = c.args.action.now in
+    let ok : valid s a ≡ true = subst (λ d. valid (g.D.DocReader.document d) a ≡ true) (sym c.self.view_is) c.requires.valid in
+    let left = c.find_affected-found.new.indexes.items in
+    subst (λ d. AreLeft d a left) (sym (c.in_ok-undo.ensures.done ∙ ap (λ d. apply d a) c.find_affected-found.ensures.same)) (c.left_over_law.ensures s a ok left c.in-Ok.ensures.left)
 
 pub find_affected-found-requires-clause-valid : goal.find_affected-found-requires-clause-valid
 find_affected-found-requires-clause-valid g c = subst (λ d. valid (g.D.DocReader.document d) c.args.action.now ≡ true) (sym c.self.view_is) c.requires.valid
 
 pub find_affected-found-requires-clause-indexed : goal.find_affected-found-requires-clause-indexed
 find_affected-found-requires-clause-indexed g c = c.take_indexes-indexes.ensures.taken (sheet_of (g.D.DocReader.document c.self.inside.tables)) c.self.invariant.3
-
-pub invariant_of-self-in_default-done : goal.invariant_of-self-in_default-done
-invariant_of-self-in_default-done g c =
-    let s = g.D.DocReader.document c.self.inside.tables in
-    let a = c.args.action.now in
-    let ok : valid s a ≡ true = subst (λ d. valid (g.D.DocReader.document d) a ≡ true) (sym c.self.view_is) c.requires.valid in
-    let before : IsEvaluated s c.in-Some-kept.kept.items = rw c.in-Some-kept.is at c.self.invariant.1 in
-    let new = c.refresh_recording-done.new.kept.items in
-    let reads = c.refresh_recording-done.new.reads in
-    subst (λ d. IsWhole d × IsEvaluated d new × KnowsOthers d reads × AreIndexes (sheet_of d) c.take_indexes-indexes.new.indexes.items) (sym (c.take_back.ensures ∙ c.in_ok-undo.ensures.back ∙ c.find_affected-found.ensures.same)) (
-      c.self.invariant.0,
-      restored s (g.D.DocReader.document c.put.new.self) a ok c.requires.update (c.in_ok-undo.ensures.done ∙ ap (λ d. apply d c.args.action.now) c.find_affected-found.ensures.same) new c.in-Some-kept.kept.items before c.in_default-done.ensures.of_document c.in_default-done.ensures.err,
-      none_known s reads c.in_default-done.ensures.stale,
-      c.take_indexes-indexes.ensures.left (sheet_of s),
-    )
-
-pub refresh_recording-done-requires-clause-reads : goal.refresh_recording-done-requires-clause-reads
-refresh_recording-done-requires-clause-reads g c =
-    let s = g.D.DocReader.document c.self.inside.tables in
-    let a = c.args.action.now in
-    let ok : valid s a ≡ true = subst (λ d. valid (g.D.DocReader.document d) a ≡ true) (sym c.self.view_is) c.requires.valid in
-    known_but s (g.D.DocReader.document c.put.new.self) a ok c.requires.update (c.in_ok-undo.ensures.done ∙ ap (λ d. apply d c.args.action.now) c.find_affected-found.ensures.same) c.find_affected-found.new.reads c.in-Ok.affected.cells.items
-    c.in-Ok.ensures.found.cells c.find_affected-found.ensures.others
 
 pub invariant_of-self-3 : goal.invariant_of-self-3
 invariant_of-self-3 g c =
@@ -97,21 +61,6 @@ returns-clause-cells g c =
     ∙ ap (λ d. filter (is_narrow graph found (filled d) a) (all_cells (filled d))) c.find_affected-found.ensures.same)
     ∙ lost_narrow c.narrow_law.ensures s next a ok (of_records a c.requires.update) (c.in_ok-undo.ensures.done ∙ ap (λ d. apply d c.args.action.now) c.find_affected-found.ensures.same) graph found c.self.invariant.0 c.in-Ok.ensures.found.found)
 
-pub returns-clause-way : goal.returns-clause-way
-returns-clause-way g c =
-    let s = g.D.DocReader.document c.self.inside.tables in
-    let next = g.D.DocReader.document c.put.new.self in
-    let a = c.args.action.now in
-    let ok : valid s a ≡ true = subst (λ d. valid (g.D.DocReader.document d) a ≡ true) (sym c.self.view_is) c.requires.valid in
-    let before : IsEvaluated s c.in-Some-kept.kept.items = rw c.in-Some-kept.is at c.self.invariant.1 in
-    record {
-      fit = c.in_ok-undo.ensures.fit;
-      whole = subst IsWhole (sym (c.in_ok-undo.ensures.back ∙ c.find_affected-found.ensures.same)) c.self.invariant.0;
-      before = subst (λ d. LeadsFrom d next c.in-Ok-done.taken.items c.in-Ok.affected.stale.items) (sym (c.in_ok-undo.ensures.back ∙ c.find_affected-found.ensures.same))
-          (leads s next a ok c.requires.update (c.in_ok-undo.ensures.done ∙ ap (λ d. apply d c.args.action.now) c.find_affected-found.ensures.same) c.leads_over_law.ensures c.find_affected-found.new.reads.graph c.in-Ok.affected.stale.items c.in-Ok-done.taken.items c.refresh_recording-done.new.kept.items c.in-Some-kept.kept.items
-          c.in-Ok.ensures.found.stale before c.in-Ok-done.ensures.ok c.in-Ok-done.ensures.way);
-    }
-
 pub invariant_of-self : goal.invariant_of-self
 invariant_of-self g c =
     subst (λ d. IsWhole d × IsCurrent d (option_map (λ (v : Vec KeptTable Global). v.items) c.self.inside.kept) × KnowsOthers d c.find_affected-found.new.reads × AreIndexes (sheet_of d) c.take_indexes-indexes.new.indexes.items) (sym c.find_affected-found.ensures.same)
@@ -137,12 +86,90 @@ invariant_of-self-in_err-undo g c =
     subst (λ d. IsWhole d × IsCurrent d (option_map (λ (v : Vec KeptTable Global). v.items) c.self.inside.kept) × KnowsOthers d c.find_affected-found.new.reads × AreIndexes (sheet_of d) c.take_indexes-indexes.new.indexes.items) (sym (c.in_err-undo.ensures.err ∙ c.find_affected-found.ensures.same))
     (c.self.invariant.0, c.self.invariant.1, c.find_affected-found.ensures.others, c.take_indexes-indexes.ensures.left (sheet_of (g.D.DocReader.document c.self.inside.tables)))
 
+pub refresh_updated-done-requires-clause-updating : goal.refresh_updated-done-requires-clause-updating
+refresh_updated-done-requires-clause-updating g c =
+    let s = g.D.DocReader.document c.self.inside.tables in
+    let next = g.D.DocReader.document c.put.new.self in
+    let a = c.args.action.now in
+    let ok : valid s a ≡ true = subst (λ d. valid (g.D.DocReader.document d) a ≡ true) (sym c.self.view_is) c.requires.valid in
+    let done : next ≡ apply s a = c.in_ok-undo.ensures.done ∙ ap (λ d. apply d a) c.find_affected-found.ensures.same in
+    let before : IsEvaluated s c.in-Some-kept.kept.items = rw c.in-Some-kept.is at c.self.invariant.1 in
+    let updating : IsUpdating s next a c.in-Some-kept.kept.items c.find_affected-found.new.reads c.in-Ok.affected.cells.items = record {
+      ok = ok;
+      update = c.requires.update;
+      done = done;
+      found = c.in-Ok.ensures.found.cells;
+      only = c.in-Ok.ensures.found.only;
+      right = before;
+      others = c.find_affected-found.ensures.others;
+      none = c.in-Ok.ensures.none;
+    } in
+    (s, a, updating)
+
+pub invariant_of-self-in_default-done : goal.invariant_of-self-in_default-done
+invariant_of-self-in_default-done g c =
+    let s = g.D.DocReader.document c.self.inside.tables in
+    let next = g.D.DocReader.document c.put.new.self in
+    let a = c.args.action.now in
+    let ok : valid s a ≡ true = subst (λ d. valid (g.D.DocReader.document d) a ≡ true) (sym c.self.view_is) c.requires.valid in
+    let done : next ≡ apply s a = c.in_ok-undo.ensures.done ∙ ap (λ d. apply d a) c.find_affected-found.ensures.same in
+    let before : IsEvaluated s c.in-Some-kept.kept.items = rw c.in-Some-kept.is at c.self.invariant.1 in
+    let updating : IsUpdating s next a c.in-Some-kept.kept.items c.find_affected-found.new.reads c.in-Ok.affected.cells.items = record {
+      ok = ok;
+      update = c.requires.update;
+      done = done;
+      found = c.in-Ok.ensures.found.cells;
+      only = c.in-Ok.ensures.found.only;
+      right = before;
+      others = c.find_affected-found.ensures.others;
+      none = c.in-Ok.ensures.none;
+    } in
+    let left = c.in_default-done.ensures.err s a updating in
+    subst (λ d. IsWhole d × IsEvaluated d c.refresh_updated-done.new.kept.items × KnowsOthers d c.refresh_updated-done.new.reads × AreIndexes (sheet_of d) c.take_indexes-indexes.new.indexes.items) (sym (c.take_back.ensures ∙ c.in_ok-undo.ensures.back ∙ c.find_affected-found.ensures.same))
+    (c.self.invariant.0, left.0, left.1, c.take_indexes-indexes.ensures.left (sheet_of s))
+
+pub returns-clause-way : goal.returns-clause-way
+returns-clause-way g c =
+    let s = g.D.DocReader.document c.self.inside.tables in
+    let next = g.D.DocReader.document c.put.new.self in
+    let a = c.args.action.now in
+    let ok : valid s a ≡ true = subst (λ d. valid (g.D.DocReader.document d) a ≡ true) (sym c.self.view_is) c.requires.valid in
+    let done : next ≡ apply s a = c.in_ok-undo.ensures.done ∙ ap (λ d. apply d a) c.find_affected-found.ensures.same in
+    let before : IsEvaluated s c.in-Some-kept.kept.items = rw c.in-Some-kept.is at c.self.invariant.1 in
+    let updating : IsUpdating s next a c.in-Some-kept.kept.items c.find_affected-found.new.reads c.in-Ok.affected.cells.items = record {
+      ok = ok;
+      update = c.requires.update;
+      done = done;
+      found = c.in-Ok.ensures.found.cells;
+      only = c.in-Ok.ensures.found.only;
+      right = before;
+      others = c.find_affected-found.ensures.others;
+      none = c.in-Ok.ensures.none;
+    } in
+    record {
+      fit = c.in_ok-undo.ensures.fit;
+      whole = subst IsWhole (sym (c.in_ok-undo.ensures.back ∙ c.find_affected-found.ensures.same)) c.self.invariant.0;
+      before = subst (λ d. HasBefore d next c.in-Ok-done.before) (sym (c.in_ok-undo.ensures.back ∙ c.find_affected-found.ensures.same)) (c.in-Ok-done.ensures.way s a updating);
+      gone = subst (λ d. IsGone d next c.gone_rows.result) (sym (c.in_ok-undo.ensures.back ∙ c.find_affected-found.ensures.same)) (is_gone s next a c.gone_rows.result ok done c.gone_rows.ensures);
+    }
+
 pub returns-clause-spent : goal.returns-clause-spent
 returns-clause-spent g c =
     let s = g.D.DocReader.document c.self.inside.tables in
     let next = g.D.DocReader.document c.put.new.self in
     let a = c.args.action.now in
     let ok : valid s a ≡ true = subst (λ d. valid (g.D.DocReader.document d) a ≡ true) (sym c.self.view_is) c.requires.valid in
-    subst (λ d. c.refresh_recording-done.new.steps ≤ c.args.steps.now + bound (g.D.DocReader.document d) a) c.self.view_is
-    (spent s next a c.in-Ok.affected.cells.items c.args.steps.now c.refresh_recording-done.new.steps ok (c.in_ok-undo.ensures.done ∙ ap (λ d. apply d a) c.find_affected-found.ensures.same)
-    c.in-Ok.ensures.found.only c.refresh_recording-done.ensures.named)
+    let done : next ≡ apply s a = c.in_ok-undo.ensures.done ∙ ap (λ d. apply d a) c.find_affected-found.ensures.same in
+    let before : IsEvaluated s c.in-Some-kept.kept.items = rw c.in-Some-kept.is at c.self.invariant.1 in
+    let updating : IsUpdating s next a c.in-Some-kept.kept.items c.find_affected-found.new.reads c.in-Ok.affected.cells.items = record {
+      ok = ok;
+      update = c.requires.update;
+      done = done;
+      found = c.in-Ok.ensures.found.cells;
+      only = c.in-Ok.ensures.found.only;
+      right = before;
+      others = c.find_affected-found.ensures.others;
+      none = c.in-Ok.ensures.none;
+    } in
+    subst (λ d. HasSpent (g.D.DocReader.document d) a c.in-Ok-done.before c.args.steps.now c.refresh_updated-done.new.steps) c.self.view_is
+    (spent_any s a c.in-Ok-done.before c.args.steps.now c.refresh_updated-done.new.steps c.in-Ok-done.ensures.part (c.refresh_updated-done.ensures.spent s a updating))

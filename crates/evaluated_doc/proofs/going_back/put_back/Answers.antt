@@ -4,7 +4,7 @@ use Rattle.recalc.specs.declared.kept.KeptTable.{KeptTable}
 use Rattle.recalc.specs.Current.{IsCurrent, has_formulas}
 use Rattle.recalc.specs.Kept.{IsEvaluated}
 use Rattle.evaluated_doc.proofs.UpdateLemmas.{kept_before, plain_before, values_before}
-use Rattle.evaluated_doc.proofs.doc.put_back.Goals as goal
+use Rattle.evaluated_doc.proofs.going_back.put_back.Goals as goal
 
 pub put_values_back-requires-clause-of_document : goal.put_values_back-requires-clause-of_document
 put_values_back-requires-clause-of_document g c =

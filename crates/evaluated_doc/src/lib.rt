@@ -14,18 +14,19 @@
 //! action may affect, or for all cells, where it evaluates a whole document that had formulas.
 //! Not promised: speed. Where columns have formulas, a change evaluates what the graph of reads
 //! says that it affects, and records what these cells read by the same attempts. Before, it records
-//! what stale cells read: the circular ones, after a way back more. An update looks at these cells
-//! and at what it writes for what it lost; so do rows that come or go, which move the values of
-//! their table beside its rows: of lookups both affect those by values that the rows have before or
-//! after, and those by formula columns. An action on no records looks at each read that is recorded
-//! for what it affects, copies the values of all formula cells, and evaluates those that it affects
-//! or alters. The indexes of the data columns by which cells look rows up are made once, and each
-//! action on records keeps them up by its rows; any other gives them up, and so does a way back. At
-//! its start, and where a first column is given a formula, the whole document is evaluated and
-//! recorded, and where too much is read to be recorded, by each change. Where no column has a
-//! formula nothing is kept, and a record action looks at what it writes or removes.
+//! what stale cells read: the circular ones, and after a way back those that read something else.
+//! An update looks at these cells and at what it writes for what it lost; so do rows that come or
+//! go, which move the values of their table beside its rows: of lookups both affect those by values
+//! that the rows have before or after, and those by formula columns. An action on no records looks
+//! at each read that is recorded for what it affects, copies the values of all formula cells, and
+//! evaluates those that it affects or alters. The indexes of the data columns by which cells look
+//! rows up are made once, and each action on records keeps them up by its rows, and so does its way
+//! back; any other action gives them up. At its start, and where a first column is given a formula,
+//! the whole document is evaluated and recorded, and where too much is read to be recorded, by each
+//! change. Where no column has a formula nothing is kept, and a record action looks at what it
+//! writes or removes.
 //! Read first: doc.rt, then specs/WayBack.antt, specs/Update.antt, specs/Moved.antt and
-//! specs/Altering.antt, then updating.rt, moving.rt and altering.rt.
+//! specs/Altering.antt, then updating.rt, moving.rt, altering.rt and going_back.rt.
 #![tactic(auto)]
 
 mod altering;

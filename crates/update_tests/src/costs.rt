@@ -1,7 +1,9 @@
 //! Plan: how often changes of documents of ten thousand rows ask the store for a cell
 //! (`changes_ask_for_what_they_affect`): an edit at the end of a chain, one at its start, a value
-//! that lookups sum up, and a key by which they find it. Evaluation afresh asks for each cell that
-//! a formula reads, so it would show. Out of memory counts as false.
+//! that lookups sum up, and a key by which they find it; first ones after a change that was taken
+//! back, which leaves nothing to do. Evaluation afresh asks for each cell that a formula reads, and
+//! an index made anew for each cell of its column, so both would show. Out of memory counts as
+//! false.
 
 ghost use Rattle.std.specs.Prelude.{◌≡◌};
 
@@ -92,6 +94,24 @@ fn is_done(
     }
 }
 
+// Whether the action was done and taken back.
+fn is_taken_back(
+    alloc: Global,
+    doc: &mut Doc<CountedTables>,
+    action: Result<DocAction, AllocError>,
+) -> bool {
+    let Ok(action) = action else {
+        return false;
+    };
+    match doc.change(alloc, &action) {
+        Ok(trace) => {
+            doc.go_back(trace);
+            true
+        }
+        Err(_) => false,
+    }
+}
+
 // A document of all rows, with this formula in `C`, where a first change was made.
 fn loaded(alloc: Global, formula: &str) -> Option<Doc<CountedTables>> {
     new_document_law();
@@ -149,8 +169,10 @@ fn is_chain_cheap(alloc: Global) -> bool {
     ) else {
         return false;
     };
+    let is_back = is_taken_back(alloc, &mut doc, write(alloc, "B", 9_990, 8));
     let end = asked(alloc, &mut doc, "B", 9_999, 5);
-    let is_end = is_cell(alloc, &doc, 9_998, 9_999)
+    let is_end = is_back
+        && is_cell(alloc, &doc, 9_998, 9_999)
         && is_cell(alloc, &doc, 9_999, 10_004)
         && is_cell(alloc, &doc, 10_000, 10_005);
     let start = asked(alloc, &mut doc, "B", 1, 3);
@@ -162,8 +184,9 @@ fn are_sums_cheap(alloc: Global) -> bool {
     let Some(mut doc) = loaded(alloc, "SUM(Table1.lookupRecords(A=$A).B)") else {
         return false;
     };
+    let is_back = is_taken_back(alloc, &mut doc, write(alloc, "B", 1, 8));
     let value = asked(alloc, &mut doc, "B", 1, 5);
-    let is_value = is_cell(alloc, &doc, 201, 54) && is_cell(alloc, &doc, 202, 50);
+    let is_value = is_back && is_cell(alloc, &doc, 201, 54) && is_cell(alloc, &doc, 202, 50);
     let key = asked(alloc, &mut doc, "A", 1, 2);
     is_value
         && is_cell(alloc, &doc, 201, 49)

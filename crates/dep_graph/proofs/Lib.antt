@@ -1,3 +1,4 @@
+pub mod DifferingLaws
 pub mod LinkLaws
 pub mod NameLaws
 pub mod OfNames

@@ -11,7 +11,7 @@ use Rattle.dep_graph.specs.declared.numbers.CellNumber.{CellNumber}
 use Rattle.dep_graph.specs.declared.numbers.ColumnNumber.{ColumnNumber}
 use Rattle.dep_graph.specs.declared.numbers.ReadNumber.{ReadNumber}
 use Rattle.dep_graph.specs.Numbers.{is_cell, is_column, is_read, is_reading}
-use Rattle.dep_graph.specs.Readers.{ReaderLists, columns_under, items_of, links, lists_column, reading_of, with_column, HasColumns, HasSameLinks, IsBackable, IsLinked, IsUnlinked, KeepsBackable, KeepsColumns}
+use Rattle.dep_graph.specs.Readers.{ReaderLists, columns_under, items_of, links, lists_column, reading_of, wide, with_column, HasColumns, HasSameLinks, IsBackable, IsLinked, IsUnlinked, KeepsBackable, KeepsColumns}
 use Rattle.dep_graph.specs.NumberLaws.{same_cell, same_read, column_itself, cell_itself}
 
 -- ---- links
@@ -90,13 +90,14 @@ columns_unlinked old new read cell unlinked keeps before q c h =
     keeps q c (before q c (and_parts (links old q c) (not (is_read read q && is_cell cell c)) (sym (unlinked q c) ∙ h)).0)
 
 -- a list under a read, changed
-pub columns_put : (f : List ColumnNumber → List ColumnNumber) (old new : List (ReadNumber × Vec ColumnNumber Global)) (read : ReadNumber) (w : Vec ColumnNumber Global)
-    → ((q : ReadNumber) → lookup (is_read q) new ≡ cond (is_read read q) (Some w) (lookup (is_read q) old)) → w.items ≡ f (columns_under old read)
-    → (q : ReadNumber) → columns_under new q ≡ cond (is_read read q) (f (columns_under old q)) (columns_under old q)
-columns_put f old new read w h is q = ap items_of (h q) ∙ by (is_read read q) refl
+pub columns_put : (f : List ColumnNumber → List ColumnNumber) (old new : List (ReadNumber × Vec ColumnNumber Global)) (read key : ReadNumber) (w : Vec ColumnNumber Global) → key ≡ wide read
+    → ((q : ReadNumber) → lookup (is_read q) new ≡ cond (is_read key q) (Some w) (lookup (is_read q) old)) → w.items ≡ f (items_of (lookup (is_read key) old))
+    → (q : ReadNumber) → columns_under new q ≡ cond (is_read (wide read) (wide q)) (f (columns_under old q)) (columns_under old q)
+columns_put f old new read key w to h is q =
+    ap items_of (h (wide q)) ∙ ap (λ k. items_of (cond (is_read k (wide q)) (Some w) (lookup (is_read (wide q)) old))) to ∙ by (is_read (wide read) (wide q)) refl
   where
-    by : (a : Bool) → is_read read q ≡ a → items_of (cond a (Some w) (lookup (is_read q) old)) ≡ cond a (f (columns_under old q)) (columns_under old q)
-    by true isr = is ∙ ap (λ p. f (columns_under old p)) (same_read read q isr)
+    by : (a : Bool) → is_read (wide read) (wide q) ≡ a → items_of (cond a (Some w) (lookup (is_read (wide q)) old)) ≡ cond a (f (columns_under old q)) (columns_under old q)
+    by true isr = is ∙ ap (λ p. f (items_of (lookup (is_read p) old))) (to ∙ same_read (wide read) (wide q) isr)
     by false isr = refl
 
 any_more : (k : ColumnNumber) (columns : List ColumnNumber) (j : ColumnNumber) → list_any (is_column j) columns ≡ true → list_any (is_column j) (columns ++ k ∷ []) ≡ true
@@ -127,17 +128,17 @@ with_column_has k columns = by (list_any (is_column k) columns) refl
 
 -- a column that is put under a read
 abbrev pub IsColumnPut : ReaderLists → ReaderLists → ReadNumber → CellNumber → Type 0
-IsColumnPut old new read cell = (q : ReadNumber) → columns_under new.columns q ≡ cond (is_read read q) (with_column cell.column (columns_under old.columns q)) (columns_under old.columns q)
+IsColumnPut old new read cell = (q : ReadNumber) → columns_under new.columns q ≡ cond (is_read (wide read) (wide q)) (with_column cell.column (columns_under old.columns q)) (columns_under old.columns q)
 
 pub column_keeps : (old new : ReaderLists) (read : ReadNumber) (cell : CellNumber) → IsColumnPut old new read cell → KeepsColumns old new
 column_keeps old new read cell h q c there =
     subst (λ columns. list_any (is_column c.column) columns ≡ true) (sym (h q))
-    (elim (is_read read q) as (λ b. list_any (is_column c.column) (cond b (with_column cell.column (columns_under old.columns q)) (columns_under old.columns q)) ≡ true) [
+    (elim (is_read (wide read) (wide q)) as (λ b. list_any (is_column c.column) (cond b (with_column cell.column (columns_under old.columns q)) (columns_under old.columns q)) ≡ true) [
       | true ↦ with_column_keeps cell.column c.column (columns_under old.columns q) there
       | false ↦ there
     ])
 
-pub column_there : (old new : ReaderLists) (read : ReadNumber) (cell : CellNumber) → is_read read read ≡ true → IsColumnPut old new read cell → lists_column new read cell ≡ true
+pub column_there : (old new : ReaderLists) (read : ReadNumber) (cell : CellNumber) → is_read (wide read) (wide read) ≡ true → IsColumnPut old new read cell → lists_column new read cell ≡ true
 column_there old new read cell itself h =
     subst (λ columns. list_any (is_column cell.column) columns ≡ true) (sym (h read ∙ ap (λ b. cond b (with_column cell.column (columns_under old.columns read)) (columns_under old.columns read)) itself))
     (with_column_has cell.column (columns_under old.columns read))

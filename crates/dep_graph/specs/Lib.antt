@@ -1,3 +1,4 @@
+pub mod Differing
 pub mod Graph
 pub mod Names
 pub mod NumberLaws

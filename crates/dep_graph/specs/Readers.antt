@@ -8,6 +8,7 @@ use Rattle.lookup_index.specs.Under.{under_key, HasRoom}
 use Rattle.dep_graph.specs.declared.numbers.CellNumber.{CellNumber}
 use Rattle.dep_graph.specs.declared.numbers.ColumnNumber.{ColumnNumber}
 use Rattle.dep_graph.specs.declared.numbers.ReadNumber.{ReadNumber}
+use Rattle.dep_graph.specs.declared.numbers.ReadNumber.TheVariants as read
 use Rattle.dep_graph.specs.declared.numbers.Reading.{Reading}
 use Rattle.dep_graph.specs.Numbers.{is_cell, is_column, is_read, is_reading}
 
@@ -24,10 +25,17 @@ abbrev pub lists_of : List (Reading × Vec ℕ Global)
     → List (ReadNumber × Vec ColumnNumber Global) → ReaderLists
 lists_of rows columns = record { rows = rows; columns = columns }
 
--- the columns under a read
+-- the read without its row, or without the value that is looked up
+abbrev pub wide : ReadNumber → ReadNumber
+wide (read.Cell c) = read.Cell (record { column = c.column; row = 0 })
+wide (read.Value v) = read.Value (record { column = v.column; bucket = 0 })
+wide (read.Part v) = read.Part (record { column = v.column; bucket = 0 })
+wide q = q
+
+-- the columns under a read, and under all reads that differ from it in row or value
 abbrev pub columns_under : List (ReadNumber × Vec ColumnNumber Global) → ReadNumber
     → List ColumnNumber
-columns_under columns q = items_of (lookup (is_read q) columns)
+columns_under columns q = items_of (lookup (is_read (wide q)) columns)
 
 -- the list with the column, once
 abbrev pub with_column : ColumnNumber → List ColumnNumber → List ColumnNumber

@@ -134,7 +134,8 @@ impl DepGraph {
         self.names.name(number)
     }
 
-    /// The columns of the cells that read this; some of them may have no such cell any more.
+    /// The columns of the cells that read this; some of them may have no such cell, but one that
+    /// reads another row, or looks up another value, or did so before.
     ///
     /// Memory: none.
     pub fn columns_of(&self, read: ReadNumber) -> &[ColumnNumber]

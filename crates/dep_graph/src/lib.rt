@@ -14,11 +14,12 @@
 //! and forgetting take no memory. `NoteRuns` keeps the notes of a run, with the names of a column
 //! once for cells of it that are read one after the other; `DepGraph::set_runs` takes them as they
 //! stand.
-//! Not promised: that a column told by `columns_of` still has such a cell; that few values share a
+//! Not promised: that a column told by `columns_of` has such a cell; that few values share a
 //! bucket; anything of what a cell does that was not set.
 //! Read first: specs/Sources.antt and specs/Graph.antt, then graph.rt, records.rt and readers.rt.
 #![tactic(auto)]
 
+mod differing;
 mod graph;
 mod laws;
 mod links;

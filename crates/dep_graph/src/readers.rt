@@ -4,11 +4,11 @@ ghost use Rattle.std.specs.Prelude.{◌≡◌, cond, false, true, OnOk, OnErr};
 ghost use Rattle.doc_model.specs.Rows.{has, IsAscending};
 ghost use Rattle.lookup_index.specs.Under.{under_key};
 ghost use Rattle.dep_graph.specs.Numbers.{is_read, is_reading};
-ghost use Rattle.dep_graph.specs.Readers.{columns_under, links, lists_column, lists_of, with_column, HasColumns, HasSameLinks, IsBackable, IsLinked, IsUnlinked, KeepsBackable, KeepsColumns};
+ghost use Rattle.dep_graph.specs.Readers.{columns_under, links, lists_column, lists_of, wide, with_column, HasColumns, HasSameLinks, IsBackable, IsLinked, IsUnlinked, KeepsBackable, KeepsColumns};
 ghost use Rattle.dep_graph.specs.declared.numbers.ReadNumber.{ReadNumber};
 ghost use Rattle.dep_graph.specs.declared.numbers.CellNumber.{CellNumber};
 
-use crate::numbers::{CellNumber, ColumnNumber, ReadNumber, Reading};
+use crate::numbers::{CellNumber, ColumnNumber, ReadNumber, Reading, ValueNumber};
 use doc_model::search_row;
 use lookup_index::KeyIndex;
 use std::alloc::{AllocError, Global};
@@ -18,7 +18,8 @@ use std::marker::Model;
 type Columns = HashMap<ReadNumber, Vec<ColumnNumber>>;
 
 /// The cells of each read, by column and then by row, so that no list holds all cells of a column.
-/// A place that becomes empty keeps its room.
+/// A place that becomes empty keeps its room. The columns are those of all reads that differ in row
+/// or value alone: else each cell that is read had a list of its own for mostly one column.
 #[derive(Drop)]
 pub(crate) struct Readers {
     rows: KeyIndex<Reading>,
@@ -53,6 +54,24 @@ fn push_column(columns: &mut Vec<ColumnNumber>, column: ColumnNumber) -> Result<
     Ok(())
 }
 
+// The read without its row, or without the value that is looked up.
+fn wide(read: ReadNumber) -> ReadNumber
+    ensures { result ≡ wide read }
+{
+    match read {
+        ReadNumber::Cell(CellNumber { column, .. }) => {
+            ReadNumber::Cell(CellNumber { column, row: 0 })
+        }
+        ReadNumber::Value(ValueNumber { column, .. }) => {
+            ReadNumber::Value(ValueNumber { column, bucket: 0 })
+        }
+        ReadNumber::Part(ValueNumber { column, .. }) => {
+            ReadNumber::Part(ValueNumber { column, bucket: 0 })
+        }
+        ReadNumber::Key(_) | ReadNumber::Rows(_) | ReadNumber::All(_) => read,
+    }
+}
+
 fn add_column(
     columns: &mut Columns,
     alloc: Global,
@@ -60,17 +79,19 @@ fn add_column(
     column: ColumnNumber,
 ) -> Result<(), AllocError>
     ensures ok { OnOk result ((q : ReadNumber) → columns_under columns.new.entries q
-        ≡ cond (is_read read q) (with_column column (columns_under columns.old.entries q))
+        ≡ cond (is_read (wide read) (wide q))
+        (with_column column (columns_under columns.old.entries q))
         (columns_under columns.old.entries q)) }
     ensures err { OnErr result ((q : ReadNumber)
         → columns_under columns.new.entries q ≡ columns_under columns.old.entries q) }
 {
-    if let Some(list) = columns.get_mut(&read) {
+    let key = wide(read);
+    if let Some(list) = columns.get_mut(&key) {
         return push_column(list, column);
     }
     let mut list = Vec::new(alloc);
     push_column(&mut list, column)?;
-    columns.insert(read, list)?;
+    columns.insert(key, list)?;
     Ok(())
 }
 
@@ -140,14 +161,14 @@ impl Readers {
         }
     }
 
-    /// The columns of the cells under a read; some may have no rows there any more.
+    /// The columns of the cells under a read; some may have no rows there.
     ///
     /// Memory: none.
     pub fn columns(&self, read: ReadNumber) -> &[ColumnNumber]
         ensures columns { result.now ≡ columns_under self.now.columns read }
         ensures whole { HasColumns self.now }
     {
-        match self.columns.get(&read) {
+        match self.columns.get(&wide(read)) {
             Some(columns) => columns.as_slice(),
             None => &[],
         }

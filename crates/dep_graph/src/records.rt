@@ -7,6 +7,7 @@ ghost use Rattle.dep_graph.specs.Readers.{items_of, links};
 ghost use Rattle.dep_graph.specs.Records.{AreBackable, HasSameReads, IsInverse, IsRecorded, holds, reads_under};
 ghost use Rattle.dep_graph.specs.declared.numbers.ReadNumber.{ReadNumber};
 
+use crate::differing::differing;
 use crate::links::{link, relink, unlink};
 use crate::numbers::{CellNumber, ReadNumber};
 use crate::readers::Readers;
@@ -47,10 +48,26 @@ fn set_of(alloc: Global, reads: &[ReadNumber]) -> Result<HashSet<ReadNumber>, Al
     Ok(set)
 }
 
+// Those reads that are there still, of reads that may be gone: no set is made where none is gone.
+fn kept_of(
+    alloc: Global,
+    gone: &[ReadNumber],
+    new: &[ReadNumber],
+) -> Result<HashSet<ReadNumber>, AllocError>
+    ensures { IfOk result (λ s. (q : ReadNumber) → holds gone.now q ≡ true
+        → holds s.keys q ≡ holds new.now q) }
+{
+    if gone.is_empty() {
+        Ok(HashSet::new(alloc))
+    } else {
+        set_of(alloc, new)
+    }
+}
+
 /// Records the reads of a cell in the place of those before, and tells whether these are others.
 ///
 /// Errors: out of memory; all is then recorded as before. Cost: where the reads are those before,
-/// a comparison alone.
+/// a comparison alone; else the reads between those that both begin with and end with alike.
 pub(crate) fn record(
     reads: &mut Records,
     readers: &mut Readers,
@@ -68,19 +85,17 @@ pub(crate) fn record(
     if recorded(&*reads, cell) == new.as_slice() {
         return Ok(false);
     }
-    let kept = set_of(alloc, new.as_slice())?;
     reads.reserve(1)?;
-    link(
-        readers,
-        alloc,
-        cell,
-        new.as_slice(),
-        recorded(&*reads, cell),
-    )?;
+    let had = recorded(&*reads, cell);
+    let (gone, more) = differing(had, new.as_slice());
+    let kept = kept_of(alloc, gone, new.as_slice())?;
+    let gone = Vec::from_slice(alloc, gone)?;
+    link(readers, alloc, cell, more, had)?;
     let Ok(before) = reads.insert(cell, new) else {
         unreachable!()
     };
-    unlink(readers, cell, items_of(&before), &kept);
+    drop(before);
+    unlink(readers, cell, gone.as_slice(), &kept);
     Ok(true)
 }
 

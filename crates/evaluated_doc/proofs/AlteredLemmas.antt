@@ -20,18 +20,18 @@ use Rattle.affected_values.specs.Taken.{IsRightBut}
 use Rattle.affected_values.proofs.HeldNone.{held_none}
 use Rattle.known_reads.specs.Beside.{Beside}
 use Rattle.known_reads.specs.Recorded.{KnowsBut}
-use Rattle.known_reads.proofs.BesideLemmas.{read_same}
+use Rattle.known_reads.proofs.BesideLemmas.{knows_others, read_same}
 use Rattle.evaluated_doc.specs.declared.altering.Altered.{Altered}
 use Rattle.evaluated_doc.specs.Altering.{HasFoundAltered, IsAltering}
 
-none_some : {X : Type 0} (x : X) → None ≡ Some x → ⊥
+pub none_some : {X : Type 0} (x : X) → None ≡ Some x → ⊥
 none_some x e = cc
 
-some_same : {X : Type 0} (x y : X) → Some x ≡ Some y → x ≡ y
+pub some_same : {X : Type 0} (x y : X) → Some x ≡ Some y → x ≡ y
 some_same x y e = cc
 
 -- a formula cell holds its value
-kept_value : (s : Document) (ks : List KeptTable) → IsEvaluated s ks → (c : CellId) (f : List ℕ) → formula_at s c ≡ Some f → held_at s ks c ≡ Some (evaluated (sheet_of s) c)
+pub kept_value : (s : Document) (ks : List KeptTable) → IsEvaluated s ks → (c : CellId) (f : List ℕ) → formula_at s c ≡ Some f → held_at s ks c ≡ Some (evaluated (sheet_of s) c)
 unfolding value_of
 kept_value s ks known c f e = known.values c f e
 
@@ -103,7 +103,7 @@ module _ (law : AlteredLaw) (s now : Document) (a : DocAction) (kept : List Kept
 
   -- the graph is right of each cell but these
   pub reads_but : KnowsBut now known cells
-  reads_but c fresh other = read_same s now known.graph c (ap is_some (sym (stays c other))) (λ there. same_notes c there other) (is.others c fresh)
+  reads_but c fresh other = read_same s now known.graph c (ap is_some (sym (stays c other))) (λ there. same_notes c there other) (knows_others s known is.reads c fresh)
 
   held_was : (new : List KeptTable) → IsCarried s now a kept new → (c : CellId) (f : List ℕ) → formula_at now c ≡ Some f → on cells c ≡ false → held_at now new c ≡ Some (evaluated (sheet_of now) c)
   held_was new carried c f e other =

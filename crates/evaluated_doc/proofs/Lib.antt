@@ -1,6 +1,7 @@
-mod AlteredLemmas
+pub mod AlteredLemmas
 mod GoneLemmas
 mod MovedLemmas
 pub mod SpentLemmas
 pub mod StartLemmas
+pub mod TouchedLemmas
 pub mod UpdateLemmas

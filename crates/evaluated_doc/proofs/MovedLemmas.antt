@@ -36,7 +36,7 @@ use Rattle.known_reads.specs.Beside.{Beside, KnowsOthers}
 use Rattle.known_reads.specs.Moved.{ReadsOverLaw, ReadsSameAfter, RowsStayLaw}
 use Rattle.known_reads.specs.Recorded.{KnowsBut}
 use Rattle.known_reads.specs.Watched.{AreRenewed}
-use Rattle.known_reads.proofs.BesideLemmas.{read_same}
+use Rattle.known_reads.proofs.BesideLemmas.{knows_others, none_stale, read_same}
 use Rattle.evaluated_doc.specs.declared.moving.Moved.{Moved}
 use Rattle.evaluated_doc.specs.Moved.{IsMoved, IsMoving, LeadsFromRows}
 
@@ -145,7 +145,7 @@ module _ (s next : Document) (a : DocAction) (t rows : List ℕ) (x : Moved) (ok
 module _ (s now : Document) (t rows : List ℕ) (kept : List KeptTable) (known : Beside) (x : Moved) (is : IsMoving s now t rows kept known x) where
   pub reads_but : ReadsOverLaw → (cells : List CellId) → ((c : CellId) → on x.noted.items c ≡ true → on cells c ≡ true) → HasCellsWith (grid_at now t).columns t rows cells → KnowsBut now known cells
   reads_but law cells stays has =
-      known_but s now is.moved.action t rows x is.moved.ok is.moved.moved is.moved.done law known cells is.found stays (subst (λ rs. HasCellsWith (grid_at now t).columns t rs cells) (sym is.these) has) is.others
+      known_but s now is.moved.action t rows x is.moved.ok is.moved.moved is.moved.done law known cells is.found stays (subst (λ rs. HasCellsWith (grid_at now t).columns t rs cells) (sym is.these) has) (knows_others s known is.reads)
 
   pub right_but : RightLaidLaw → (new : List KeptTable) (aside : LaidAside) (cells : List CellId) → IsLaidAnew s now t kept new aside → ((c : CellId) → on x.noted.items c ≡ true → on cells c ≡ true) → HasCellsWith (grid_at now t).columns t rows cells
       → IsRightBut now new cells
@@ -159,7 +159,7 @@ module _ (s now : Document) (t rows : List ℕ) (kept : List KeptTable) (known :
     moved = subst (IsMovedFrom s now) (sym at.table) is.moved;
     has_aside = at.has_aside;
     leads = law s now t taken kept laid new aside is.moved is.right at right leads;
-    reads = renewed s is.others is.none (formulas_stay s now is.moved.action t rows x is.moved.ok is.moved.moved is.moved.done stay known.graph is.these is.found);
+    reads = renewed s (knows_others s known is.reads) (none_stale known is.reads.none is.recorded) (formulas_stay s now is.moved.action t rows x is.moved.ok is.moved.moved is.moved.done stay known.graph is.these is.found);
   }
 
 -- ---- the way back

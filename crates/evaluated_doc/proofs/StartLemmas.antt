@@ -24,7 +24,7 @@ use Rattle.affected_cells.specs.Bound.{attempt_bound}
 use Rattle.known_reads.specs.Attempts.{HasFormulas}
 use Rattle.evaluated_doc.specs.declared.trace.Before.TheVariants.{Whole}
 use Rattle.evaluated_doc.specs.Spent.{HasSpent}
-use Rattle.evaluated_doc.proofs.SpentLemmas.{fresh_affected, spent}
+use Rattle.evaluated_doc.proofs.SpentLemmas.{fresh_affected, spent_within}
 
 -- a document without formulas has no formula cells
 plain_cell : (s : Document) → has_formulas s ≡ false → (c : CellId) → formula_at s c ≡ None
@@ -55,5 +55,5 @@ listed s c here there = by (formula_at s c) refl there
 pub whole_spent : (s now : Document) (a : DocAction) (kept : Option (Vec KeptTable Global)) (old new : ℕ) → IsCurrent s (option_map (λ (v : Vec KeptTable Global). v.items) kept) → valid s a ≡ true → now ≡ apply s a
     → ((all : List CellId) → HasFormulas now (formula_cells now) all → new ≤ old + attempt_bound (sheet_of now) all) → HasSpent s a (Whole kept) old new
 whole_spent s now a None old new plain ok done within =
-    spent s now a (formula_cells now) old new ok done (λ ok c here there. fresh_affected s a c there (ap (λ o. not (is_some o) || is_modified a c) (plain_cell s plain c))) within
+    spent_within s now a (formula_cells now) old new ok done (λ ok c here there. fresh_affected s a c there (ap (λ o. not (is_some o) || is_modified a c) (plain_cell s plain c))) within
 whole_spent s now a (Some kept) old new current ok done within = subst (λ d. new ≤ old + attempt_bound (sheet_of d) (formula_cells d)) done (within (formula_cells now) (listed now))

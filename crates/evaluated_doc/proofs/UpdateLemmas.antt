@@ -1,6 +1,6 @@
 -- An update of a document of which values are kept.
 use Rattle.std.proofs.Common.{ℕ, true, false, cond, filter, ◌||◌, List, [], ◌∷◌, ◌≡◌, refl, sym, ap, ◌∙◌, subst, unwrap_or}
-use Rattle.std.proofs.lemmas.Bool.{false≢true, true≢false}
+use Rattle.std.proofs.lemmas.Bool.{false≢true}
 use Rattle.std.specs.Option.{is_some}
 use Rattle.cell_types.specs.declared.cell.CellId.{CellId}
 use Rattle.cell_types.specs.declared.cell.CellOld.{CellOld}
@@ -19,7 +19,6 @@ use Rattle.recalc.specs.Evaluated.{filled, formula_at}
 use Rattle.recalc.specs.Kept.{IsEvaluated, IsKeptOf, held_at}
 use Rattle.recalc.specs.Lost.{all_cells, is_lost, lost}
 use Rattle.recalc.specs.MayLose.{MayLoseLaw, is_record, may_lose}
-use Rattle.recalc.specs.Stack.{on}
 use Rattle.affected_cells.proofs.UpdateTouches.{after, same_columns, same_formula}
 use Rattle.affected_search.specs.Actions.{KeepsOthers}
 use Rattle.affected_search.specs.Narrow.{NarrowLaw, is_narrow}
@@ -62,10 +61,6 @@ pub lost_watched : MayLoseLaw → (s next : Document) (a : DocAction) → valid 
     → cells ≡ filter (may_lose (filled s) a) (all_cells (filled s)) → left ≡ filter (is_lost (filled next) a) cells → left ≡ lost s next a
 lost_watched law s next a ok done whole cells left watched kept =
     kept ∙ ap (filter (is_lost (filled next) a)) watched ∙ subst (λ d. filter (is_lost (filled d) a) (filter (may_lose (filled s) a) (all_cells (filled s))) ≡ lost s d a) (sym done) (sym (law s a whole ok))
-
--- where all cells are stale, nothing is said of the graph
-pub none_known : (s : Document) (known : Beside) → known.are_all_stale ≡ true → KnowsOthers s known
-none_known s known all c fresh = absurd (true≢false (sym (ap (λ b. b || on known.stale c) all) ∙ fresh))
 
 module _ (s next : Document) (a : DocAction) (ok : valid s a ≡ true) (update : is_update a ≡ true) (done : next ≡ apply s a) where
   abbrev t : List ℕ

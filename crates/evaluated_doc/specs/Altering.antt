@@ -7,7 +7,7 @@ use Rattle.dep_graph.specs.Graph.{Graph}
 use Rattle.recalc.specs.declared.kept.KeptTable.{KeptTable}
 use Rattle.recalc.specs.Kept.{IsEvaluated}
 use Rattle.affected_values.specs.Altered.{HasAltered, IsAlteredFrom}
-use Rattle.known_reads.specs.Beside.{Beside, KnowsOthers, is_stale}
+use Rattle.known_reads.specs.Beside.{Beside, KnowsReads}
 use Rattle.evaluated_doc.specs.declared.altering.Altered.{Altered}
 use Rattle.evaluated_doc.specs.Spent.{AreAffected}
 use Rattle.evaluated_doc.specs.Update.{HasFound}
@@ -33,5 +33,5 @@ pub record IsAltering (s now : Document) (a : DocAction) (kept : List KeptTable)
   pub altered : IsAlteredFrom s now a
   pub found : IsAltered s known.graph a x
   pub right : IsEvaluated s kept
-  pub others : KnowsOthers s known
-  pub none : (c : CellId) → is_stale known c ≡ false
+  pub reads : KnowsReads s known
+  pub recorded : known.are_all_stale ≡ false

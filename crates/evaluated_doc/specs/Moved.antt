@@ -17,7 +17,7 @@ use Rattle.affected_values.specs.Carried.{HasCellsWith, moved_rows}
 use Rattle.affected_values.specs.Relaid.{HasAside, IsMovedFrom}
 use Rattle.affected_values.specs.RowsOver.{LeadsOverRows}
 use Rattle.known_reads.specs.declared.some_cells.SomeCells.{SomeCells}
-use Rattle.known_reads.specs.Beside.{Beside, KnowsOthers, SameSourcesBut, is_stale}
+use Rattle.known_reads.specs.Beside.{Beside, KnowsReads, SameSourcesBut}
 use Rattle.evaluated_doc.specs.declared.moving.Moved.{Moved}
 use Rattle.evaluated_doc.specs.Spent.{AreAffected}
 
@@ -41,8 +41,8 @@ pub record IsMoving (s now : Document) (t rows : List ℕ) (kept : List KeptTabl
   pub these : moved_rows moved.action ≡ rows
   pub found : IsMoved known.graph moved.action s t rows x
   pub right : IsEvaluated s kept
-  pub others : KnowsOthers s known
-  pub none : (c : CellId) → is_stale known c ≡ false
+  pub reads : KnowsReads s known
+  pub recorded : known.are_all_stale ≡ false
 
 -- rows led from the first document to the second; what was taken and what was laid aside lead back
 -- over them, and each cell but the stale ones reads the same in both

@@ -17,7 +17,7 @@ use Rattle.affected_search.specs.Sheets.{is_found}
 use Rattle.affected_values.specs.declared.taking.HeldValue.{HeldValue}
 use Rattle.affected_values.specs.WaysBack.{LeadsOver}
 use Rattle.known_reads.specs.declared.some_cells.SomeCells.{SomeCells}
-use Rattle.known_reads.specs.Beside.{Beside, KnowsOthers, SameSourcesBut, is_stale}
+use Rattle.known_reads.specs.Beside.{Beside, KnowsReads, SameSourcesBut}
 use Rattle.evaluated_doc.specs.declared.updating.Affected.{Affected}
 use Rattle.evaluated_doc.specs.Spent.{AreAffected}
 
@@ -49,8 +49,8 @@ pub record IsUpdating (s now : Document) (a : DocAction) (kept : List KeptTable)
   pub found : HasFound s known.graph a cells
   pub only : AreAffected s a cells
   pub right : IsEvaluated s kept
-  pub others : KnowsOthers s known
-  pub none : (c : CellId) → is_stale known c ≡ false
+  pub reads : KnowsReads s known
+  pub recorded : known.are_all_stale ≡ false
 
 -- an update led from the first document to the second; what was taken leads back over it, and each
 -- cell but the stale ones reads the same in both

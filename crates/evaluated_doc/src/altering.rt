@@ -12,7 +12,7 @@ ghost use Rattle.recalc.specs.Stack.{on};
 ghost use Rattle.affected_cells.specs.Bound.{bound};
 ghost use Rattle.affected_search.specs.Sheets.{is_found};
 ghost use Rattle.affected_values.specs.Altered.{HasAltered, is_altered};
-ghost use Rattle.known_reads.specs.Beside.{KnowsOthers, is_stale};
+ghost use Rattle.known_reads.specs.Beside.{KnowsReads};
 ghost use Rattle.evaluated_doc.specs.Altering.{IsAltered, IsAltering};
 ghost use Rattle.evaluated_doc.specs.WayBack.{HasBefore, is_whole};
 
@@ -70,47 +70,38 @@ fn altered_cells<D: DocTables>(
     Ok(cells)
 }
 
-/// Makes the graph right, and finds by it what an action affects that is on no records, and what it
-/// alters.
+/// Finds by the graph what an action affects that is on no records, and what it alters.
 ///
-/// Errors: too many reads, or out of memory; the graph is then right of cells that are not stale,
-/// and the indexes are to be given up.
-/// Memory and cost: those of the stale cells; a look at each read that is recorded; what is found,
-/// and room for it to be noted.
+/// Errors: it is not known what cells read, or out of memory.
+/// Memory and cost: a look at each read that is recorded, and what is found.
 pub(crate) fn find_altered<D: DocTables>(
     alloc: Global,
     tables: &D,
-    kept: &[KeptTable],
-    reads: &mut KnownReads,
-    indexes: &mut Vec<ColumnIndex>,
+    reads: &KnownReads,
     action: &DocAction,
 ) -> Result<Altered, ReadsFault>
     requires whole { IsWhole (D.document tables.now) }
-    requires indexed { AreIndexes (sheet_of (D.document tables.now)) indexes.old.items }
-    requires evaluated { IsEvaluated (D.document tables.now) kept.now }
-    requires others { KnowsOthers (D.document tables.now) reads.old }
+    requires known { KnowsReads (D.document tables.now) reads.now }
     requires schema { is_record action.now ≡ false }
-    ensures others { KnowsOthers (D.document tables.now) reads.new }
-    ensures none { OnOk result ((c : CellId) → is_stale reads.new c ≡ false) }
+    ensures each { OnOk result (reads.now.are_all_stale ≡ false) }
     ensures found { IfOk result
-        (λ x. IsAltered (D.document tables.now) reads.new.graph action.now x) }
+        (λ x. IsAltered (D.document tables.now) reads.now.graph action.now x) }
 {
     altered_law();
-    reads.make_right(alloc, tables, kept, indexes)?;
+    if !reads.is_known() {
+        return Err(ReadsFault::NotRecorded);
+    }
     let found = affected_by_action(alloc, reads.graph(), tables, action)?;
     let cells = named_with(alloc, tables, reads.graph(), &found, action)?;
     let altered = altered_cells(alloc, tables, action)?;
-    // For this change and for its way back.
-    let count = cells.len();
-    reads.reserve(count.saturating_add(count))?;
     Ok(Altered { cells, altered })
 }
 
 /// Carries the values over an action on no records, and evaluates the found cells and those that it
 /// alters. What was kept before is handed out.
 ///
-/// Errors: out of memory; the values are then those before, all cells may be stale, and the indexes
-/// are as they were.
+/// Errors: out of memory; the values are then those before, it may not be known what cells read,
+/// and the indexes are as they were.
 /// Memory and cost: a copy of the values, the formulas anew, and those of the cells that are
 /// evaluated.
 pub(crate) fn refresh_altered<D: DocTables, L: Ledger>(
@@ -127,7 +118,7 @@ pub(crate) fn refresh_altered<D: DocTables, L: Ledger>(
     requires altering { (s : Document) × IsAltering s (D.document tables.now) action.now
         kept.old.items reads.old altered }
     ensures ok { OnOk result (IsEvaluated (D.document tables.now) kept.new.items) }
-    ensures reads { OnOk result (KnowsOthers (D.document tables.now) reads.new) }
+    ensures reads { OnOk result (KnowsReads (D.document tables.now) reads.new) }
     ensures indexed { OnOk result
         (AreIndexes (sheet_of (D.document tables.now)) indexes.new.items) }
     ensures left { OnErr result (indexes.new ≡ indexes.old) }
@@ -137,7 +128,7 @@ pub(crate) fn refresh_altered<D: DocTables, L: Ledger>(
     ensures part { IfOk result (λ before. is_whole before ≡ false) }
     ensures err { OnErr result ((s : Document)
         → IsAltering s (D.document tables.now) action.now kept.old.items reads.old altered
-        → IsEvaluated s kept.new.items × KnowsOthers s reads.new) }
+        → IsEvaluated s kept.new.items × KnowsReads s reads.new) }
     ensures spent { (s : Document)
         → IsAltering s (D.document tables.now) action.now kept.old.items reads.old altered
         → steps.new ≤ steps.old + bound s action.now }

@@ -24,6 +24,7 @@ use crate::going_back::go_back_to;
 use crate::indexing::{enter_behind, gone_rows, leave_behind, take_indexes};
 use crate::moving::{find_moved, moved_by, refresh_moved};
 use crate::starting::{Start, start_alone, start_of};
+use crate::touching::{Touched, refresh_cells, touched_cells};
 use crate::trace::{Before, Trace};
 use crate::updating::{find_affected, is_of_schema, is_update, refresh_updated};
 use affected_search::{narrow_cells, narrow_law};
@@ -60,7 +61,7 @@ impl<D: DocTables> Model for Doc<D> {
     ghost use Rattle.recalc.specs.Evaluated.{sheet_of};
     ghost use Rattle.recalc.specs.Indexes.{AreIndexes};
     ghost use Rattle.std.specs.Option.{option_map};
-    ghost use Rattle.known_reads.specs.Beside.{KnowsOthers};
+    ghost use Rattle.known_reads.specs.Beside.{KnowsReads};
 
     ghost Value = { D };
 
@@ -68,7 +69,7 @@ impl<D: DocTables> Model for Doc<D> {
 
     ghost invariant = { λ d. IsWhole (D.document d.tables)
         × IsCurrent (D.document d.tables) (option_map (λ v. v.items) d.kept)
-        × KnowsOthers (D.document d.tables) d.reads
+        × KnowsReads (D.document d.tables) d.reads
         × AreIndexes (sheet_of (D.document d.tables)) d.indexes.items };
 }
 
@@ -187,16 +188,15 @@ impl<D: DocTables> Doc<D> {
         kept_law();
         narrow_law();
         left_over_law();
-        let Some(kept) = &self.kept else {
+        if self.kept.is_none() {
             return self.put_whole(alloc, action, steps);
-        };
+        }
         let mut indexes = take_indexes(alloc, &mut self.indexes);
-        let reads = &mut self.reads;
         let known = &mut indexes;
-        let found = find_affected(alloc, &mut self.tables, kept, reads, known, action);
+        let found = find_affected(alloc, &mut self.tables, &self.reads, known, action);
         let affected = match found {
             Ok(affected) => affected,
-            Err(ReadsFault::TooMany) => return self.put_whole(alloc, action, steps),
+            Err(ReadsFault::NotRecorded) => return self.put_whole(alloc, action, steps),
             Err(ReadsFault::NoMemory) => return Err(AllocError),
         };
         let mut cells = narrow_cells(alloc, self, self.reads.graph(), &affected.found, action)?;
@@ -253,17 +253,16 @@ impl<D: DocTables> Doc<D> {
         kept_law();
         narrow_law();
         left_over_law();
-        let Some(kept) = &self.kept else {
+        if self.kept.is_none() {
             return self.put_whole(alloc, action, steps);
-        };
+        }
         let mut indexes = take_indexes(alloc, &mut self.indexes);
         let tables = &mut self.tables;
-        let reads = &mut self.reads;
         let known = &mut indexes;
-        let found = find_moved(alloc, tables, kept, reads, known, action, table, rows);
+        let found = find_moved(alloc, tables, &self.reads, known, action, table, rows);
         let moved = match found {
             Ok(moved) => moved,
-            Err(ReadsFault::TooMany) => return self.put_whole(alloc, action, steps),
+            Err(ReadsFault::NotRecorded) => return self.put_whole(alloc, action, steps),
             Err(ReadsFault::NoMemory) => return Err(AllocError),
         };
         let mut cells = narrow_cells(alloc, self, self.reads.graph(), &moved.found, action)?;
@@ -316,15 +315,13 @@ impl<D: DocTables> Doc<D> {
     {
         kept_law();
         may_lose_law();
-        let Some(kept) = &self.kept else {
+        if self.kept.is_none() {
             return self.put_whole(alloc, action, steps);
-        };
-        let mut indexes = take_indexes(alloc, &mut self.indexes);
-        let known = &mut indexes;
-        let found = find_altered(alloc, &self.tables, kept, &mut self.reads, known, action);
+        }
+        let found = find_altered(alloc, &self.tables, &self.reads, action);
         let altered = match found {
             Ok(altered) => altered,
-            Err(ReadsFault::TooMany) => return self.put_whole(alloc, action, steps),
+            Err(ReadsFault::NotRecorded) => return self.put_whole(alloc, action, steps),
             Err(ReadsFault::NoMemory) => return Err(AllocError),
         };
         let mut cells = watched_cells(alloc, self, action, false)?;
@@ -350,18 +347,18 @@ impl<D: DocTables> Doc<D> {
     }
 
     /// Does an action that is valid, and evaluates the document after it. It counts its attempts at
-    /// formula cells, but for those that record what stale cells read: they are at most as many as
-    /// it takes to evaluate what the action may affect, or all cells, where it evaluates a whole
-    /// document that had formulas (`Trace::is_whole`).
+    /// formula cells: they are at most as many as it takes to evaluate what the action may affect,
+    /// or all cells, where it evaluates a whole document that had formulas (`Trace::is_whole`), for
+    /// it is not known what these read.
     ///
     /// Errors: out of memory; the document is then as it was.
     /// Memory: the store's, and a copy of the cells that may be lost: those of formula columns, and
     /// of data columns those that a record action writes or removes, or all of the table of a
     /// schema action. Where a column has a formula, a change takes that of what it affects and
-    /// writes, what the graph of reads takes of that and of stale cells, and an index of each data
-    /// column by which these look rows up, where it has none; rows that come or go take a place for
-    /// each formula cell of their table, a schema action a copy of all values. A schema action
-    /// gives the indexes up.
+    /// writes, what the graph of reads takes of that, and an index of each data column by which
+    /// these look rows up, where it has none; rows that come or go take a place for each formula
+    /// cell of their table, a schema action a copy of all values. A schema action gives the indexes
+    /// up.
     /// Cost: where no column has a formula, a record action looks at its own table and rows alone.
     /// Else an update looks at each column, and at the rows that it affects and writes, unless
     /// formulas read more than is recorded; rows that come or go look also at each row of their
@@ -386,9 +383,6 @@ impl<D: DocTables> Doc<D> {
         ensures spent { IfOk result (λ trace. HasSpent (D.document self.old) action.now trace.before
             steps.old steps.new) }
     {
-        if self.kept.is_none() || self.reads.is_wide() {
-            return self.put_whole(alloc, action, steps);
-        }
         if is_update(action) {
             return self.put_update(alloc, action, steps);
         }
@@ -489,10 +483,36 @@ impl<D: DocTables> Doc<D> {
         Ok(())
     }
 
-    /// Goes back to the document before the change that left the present one.
+    /// Evaluates anew the cells that reads and cells which may have changed affect: the touched
+    /// cells, those that read one of these, or a touched read, and so on; all cells, where it is
+    /// not known what they read. They are as they were: no call leaves other values behind.
     ///
-    /// Memory: none that is needed: an index is given up where it takes memory to keep it up.
-    /// Cost: after an action on records, that of the cells which it evaluated and of its rows.
+    /// Errors: out of memory.
+    /// Memory and cost: those of the cells that are evaluated.
+    pub fn refresh(&mut self, alloc: Global, touched: &Touched) -> Result<(), AllocError>
+        ensures { D.document self.new ≡ D.document self.old }
+    {
+        if !self.reads.is_known() {
+            return self.refresh_all(alloc);
+        }
+        let cells = touched_cells(alloc, self.reads.graph(), touched)?;
+        let Some(kept) = &mut self.kept else {
+            return Ok(());
+        };
+        let tables = &self.tables;
+        let reads = &mut self.reads;
+        let known = &mut self.indexes;
+        let blank = Blank::new(1);
+        refresh_cells::<D, Brand>(alloc, tables, kept, known, reads, cells, blank)
+    }
+
+    /// Goes back to the document before the change that left the present one. What cells read that
+    /// read something else after the change is recorded again.
+    ///
+    /// Memory: none that is needed: an index is given up where it takes memory to keep it up, and
+    /// so is what is known of reads.
+    /// Cost: after an action on records, that of the cells which it evaluated and of its rows, and
+    /// an attempt at each cell that reads something else.
     pub fn go_back(&mut self, trace: Trace<D>)
         requires { IsWayBack D.fits D.undone trace (D.document self.old) }
         ensures { D.document self.new ≡ D.undone trace.back (D.document self.old) }
@@ -514,6 +534,11 @@ impl<D: DocTables> Doc<D> {
             before,
         );
         self.indexes = enter_behind(alloc, &self.tables, left, &gone);
+        let Some(kept) = &self.kept else {
+            return self.reads.note_all();
+        };
+        let known = &mut self.indexes;
+        self.reads.record_noted(alloc, &self.tables, kept, known);
     }
 }
 

@@ -32,7 +32,7 @@ fn put_back<D: DocTables>(tables: &D, kept: &mut Option<Vec<KeptTable>>, taken: 
 }
 
 /// Takes a change back on the tables, puts back the values that were kept beside them before it,
-/// and notes the cells of which the graph is not right there.
+/// and notes the cells of which the graph is not right there as stale.
 ///
 /// Memory: none.
 pub(crate) fn go_back_to<D: DocTables>(

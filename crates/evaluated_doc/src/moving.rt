@@ -15,7 +15,7 @@ ghost use Rattle.affected_cells.specs.Bound.{bound};
 ghost use Rattle.affected_values.specs.Carried.{HasCellsWith, moved_rows, moved_table};
 ghost use Rattle.affected_values.specs.Indexing.{AreLeft};
 ghost use Rattle.known_reads.specs.declared.some_cells.SomeCells.{SomeCells};
-ghost use Rattle.known_reads.specs.Beside.{KnowsOthers, is_stale};
+ghost use Rattle.known_reads.specs.Beside.{KnowsReads};
 ghost use Rattle.evaluated_doc.specs.Moved.{IsMoved, IsMoving, LeadsFromRows};
 ghost use Rattle.evaluated_doc.specs.WayBack.{HasBefore, is_whole};
 
@@ -78,29 +78,16 @@ fn row_cells<D: DocTables>(
     Ok(cells)
 }
 
-// How many columns the table has.
-fn columns_of(kept: &[KeptTable], table: &Name) -> usize {
-    let found = kept.iter().find(|held| held.id.as_str() == table.as_str());
-    match found {
-        Some(held) => held.columns.len(),
-        None => 0,
-    }
-}
-
-/// Makes the graph right, and finds by it what rows that come or go affect: of lookups those that
-/// find these rows. Makes the indexes that are wanted for the graph, and leaves all but for these
-/// rows. The document is as it was.
+/// Finds by the graph what rows that come or go affect: of lookups those that find these rows.
+/// Leaves all indexes but for these rows. The document is as it was.
 ///
-/// Errors: too many reads, or out of memory; the graph is then right of cells that are not stale,
-/// and the indexes are to be given up.
-/// Memory and cost: those of the stale cells, as to an update, and of what is found; each column of
-/// the table in these rows; room for the cells to be noted, and a copy of the rows of the table.
-/// The action is done once, and taken back.
+/// Errors: it is not known what cells read, or out of memory; the indexes are then to be given up.
+/// Memory and cost: those of what is found; each column of the table in these rows; a copy of the
+/// rows of the table. The action is done once, and taken back.
 pub(crate) fn find_moved<D: DocTables>(
     alloc: Global,
     tables: &mut D,
-    kept: &[KeptTable],
-    reads: &mut KnownReads,
+    reads: &KnownReads,
     indexes: &mut Vec<ColumnIndex>,
     action: &DocAction,
     table: &Name,
@@ -108,27 +95,23 @@ pub(crate) fn find_moved<D: DocTables>(
 ) -> Result<Moved, ReadsFault>
     requires whole { IsWhole (D.document tables.old) }
     requires indexed { AreIndexes (sheet_of (D.document tables.old)) indexes.old.items }
-    requires evaluated { IsEvaluated (D.document tables.old) kept.now }
-    requires others { KnowsOthers (D.document tables.old) reads.old }
+    requires known { KnowsReads (D.document tables.old) reads.now }
     requires valid { valid (D.document tables.old) action.now ≡ true }
     requires moved { moved_table action.now ≡ Some table.now }
     requires rows { moved_rows action.now ≡ rows.now }
     ensures same { D.document tables.new ≡ D.document tables.old }
-    ensures others { KnowsOthers (D.document tables.old) reads.new }
-    ensures none { OnOk result ((c : CellId) → is_stale reads.new c ≡ false) }
-    ensures found { IfOk result (λ x. IsMoved reads.new.graph action.now (D.document tables.old)
+    ensures each { OnOk result (reads.now.are_all_stale ≡ false) }
+    ensures found { IfOk result (λ x. IsMoved reads.now.graph action.now (D.document tables.old)
         table.now rows.now x) }
     ensures left { OnOk result (AreLeft (D.document tables.old) action.now indexes.new.items) }
 {
-    reads.make_right(alloc, &*tables, kept, indexes)?;
+    if !reads.is_known() {
+        return Err(ReadsFault::NotRecorded);
+    }
     leave(alloc, &*tables, indexes, action);
     let found = found_by_records(alloc, tables, reads.graph(), action)?;
     let noted = named_cells(alloc, reads.graph(), &found)?;
     let moved = row_cells(alloc, &*tables, table, rows)?;
-    // For this change and for its way back.
-    let cells = columns_of(kept, table).saturating_mul(rows.len());
-    let count = cells.saturating_add(noted.len());
-    reads.reserve(count.saturating_add(count))?;
     let rows = Vec::from_slice(alloc, rows_in(&*tables, table))?;
     Ok(Moved {
         found,
@@ -141,8 +124,8 @@ pub(crate) fn find_moved<D: DocTables>(
 /// Lays the values of a table anew after rows of it came or went, and evaluates the found cells and
 /// the formula cells of these rows.
 ///
-/// Errors: out of memory; the values are then those before, all cells may be stale, and the indexes
-/// are to be given up.
+/// Errors: out of memory; the values are then those before, it is not known what cells read, and
+/// the indexes are to be given up.
 /// Memory and cost: a place for each formula cell of the table and a walk over its rows, and those
 /// of the cells that are evaluated.
 pub(crate) fn refresh_moved<D: DocTables, L: Ledger>(
@@ -161,7 +144,7 @@ pub(crate) fn refresh_moved<D: DocTables, L: Ledger>(
     requires moving { (s : Document) × IsMoving s (D.document tables.now) table.now rows.now
         kept.old.items reads.old moved }
     ensures ok { OnOk result (IsEvaluated (D.document tables.now) kept.new.items) }
-    ensures reads { OnOk result (KnowsOthers (D.document tables.now) reads.new) }
+    ensures reads { OnOk result (KnowsReads (D.document tables.now) reads.new) }
     ensures indexed { OnOk result
         (AreIndexes (sheet_of (D.document tables.now)) indexes.new.items) }
     ensures way { IfOk result (λ before. (s : Document)
@@ -170,7 +153,7 @@ pub(crate) fn refresh_moved<D: DocTables, L: Ledger>(
     ensures part { IfOk result (λ before. is_whole before ≡ false) }
     ensures err { OnErr result ((s : Document)
         → IsMoving s (D.document tables.now) table.now rows.now kept.old.items reads.old moved
-        → IsEvaluated s kept.new.items × KnowsOthers s reads.new) }
+        → IsEvaluated s kept.new.items × KnowsReads s reads.new) }
     ensures spent { (s : Document)
         → (is : IsMoving s (D.document tables.now) table.now rows.now kept.old.items reads.old
         moved)

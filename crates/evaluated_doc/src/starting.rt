@@ -3,13 +3,14 @@
 ghost use Rattle.std.specs.Prelude.{◌≡◌, ◌+◌, ◌≤◌, ◌<◌, List, [], None, true, false, IfOk, OnOk};
 ghost use Rattle.std.specs.Option.{option_map};
 ghost use Rattle.cell_types.specs.declared.cell.CellId.{CellId};
+ghost use Rattle.doc_model.specs.Document.{Document};
 ghost use Rattle.doc_model.specs.DocumentLaws.{IsWhole};
 ghost use Rattle.recalc.specs.Current.{IsCurrent, has_formulas};
 ghost use Rattle.recalc.specs.Evaluated.{formula_cells, sheet_of};
 ghost use Rattle.recalc.specs.Indexes.{AreIndexes};
 ghost use Rattle.affected_cells.specs.Bound.{attempt_bound};
 ghost use Rattle.known_reads.specs.Attempts.{HasFormulas};
-ghost use Rattle.known_reads.specs.Beside.{KnowsOthers};
+ghost use Rattle.known_reads.specs.Beside.{KnowsReads};
 
 use doc_model::DocTables;
 use formula_eval::Steps;
@@ -30,7 +31,7 @@ pub(crate) struct Start {
 // What is kept of a document without formulas.
 fn plain_start(alloc: Global) -> Start
     ensures none { result.kept ≡ None }
-    ensures all { result.reads.are_all_stale ≡ true }
+    ensures reads { (s : Document) → KnowsReads s result.reads }
     ensures empty { result.indexes.items ≡ [] }
 {
     Start {
@@ -57,7 +58,7 @@ pub(crate) fn start_of<D: DocTables, L: Ledger>(
     requires plain { is_plain ≡ true → has_formulas (D.document tables.now) ≡ false }
     ensures current { IfOk result
         (λ x. IsCurrent (D.document tables.now) (option_map (λ v. v.items) x.kept)) }
-    ensures reads { IfOk result (λ x. KnowsOthers (D.document tables.now) x.reads) }
+    ensures reads { IfOk result (λ x. KnowsReads (D.document tables.now) x.reads) }
     ensures indexed { IfOk result
         (λ x. AreIndexes (sheet_of (D.document tables.now)) x.indexes.items) }
     ensures named { OnOk result ((all : List CellId)
@@ -93,7 +94,7 @@ pub(crate) fn start_alone<D: DocTables, L: Ledger>(
     requires whole { IsWhole (D.document tables.now) }
     ensures current { IfOk result
         (λ x. IsCurrent (D.document tables.now) (option_map (λ v. v.items) x.kept)) }
-    ensures reads { IfOk result (λ x. KnowsOthers (D.document tables.now) x.reads) }
+    ensures reads { IfOk result (λ x. KnowsReads (D.document tables.now) x.reads) }
     ensures indexed { IfOk result
         (λ x. AreIndexes (sheet_of (D.document tables.now)) x.indexes.items) }
 {

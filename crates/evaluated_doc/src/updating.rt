@@ -11,7 +11,7 @@ ghost use Rattle.recalc.specs.Indexes.{AreIndexes};
 ghost use Rattle.recalc.specs.Kept.{IsEvaluated};
 ghost use Rattle.affected_cells.specs.Bound.{bound};
 ghost use Rattle.affected_values.specs.Indexing.{AreLeft};
-ghost use Rattle.known_reads.specs.Beside.{KnowsOthers, is_stale};
+ghost use Rattle.known_reads.specs.Beside.{KnowsReads};
 ghost use Rattle.evaluated_doc.specs.Update.{IsAffected, IsUpdating, is_update};
 ghost use Rattle.evaluated_doc.specs.WayBack.{HasBefore, is_whole};
 
@@ -54,49 +54,42 @@ pub(crate) fn is_of_schema(action: &DocAction) -> bool {
     )
 }
 
-/// Makes the graph right, and finds by it what an update affects: of lookups those by values that
-/// it writes, or writes over. Makes the indexes that are wanted for the graph, and leaves all but
-/// for the rows that the update writes. The document is as it was.
+/// Finds by the graph what an update affects: of lookups those by values that it writes, or writes
+/// over. Leaves all indexes but for the rows that the update writes. The document is as it was.
 ///
-/// Errors: too many reads, or out of memory; the graph is then right of cells that are not stale,
-/// and the indexes are to be given up.
-/// Memory and cost: those of the stale cells, and of what is found, and the making of indexes. The
-/// update is put once, and taken back.
+/// Errors: it is not known what cells read, or out of memory; the indexes are then to be given up.
+/// Memory and cost: those of what is found. The update is put once, and taken back.
 pub(crate) fn find_affected<D: DocTables>(
     alloc: Global,
     tables: &mut D,
-    kept: &[KeptTable],
-    reads: &mut KnownReads,
+    reads: &KnownReads,
     indexes: &mut Vec<ColumnIndex>,
     action: &DocAction,
 ) -> Result<Affected, ReadsFault>
     requires whole { IsWhole (D.document tables.old) }
     requires indexed { AreIndexes (sheet_of (D.document tables.old)) indexes.old.items }
-    requires evaluated { IsEvaluated (D.document tables.old) kept.now }
-    requires others { KnowsOthers (D.document tables.old) reads.old }
+    requires known { KnowsReads (D.document tables.old) reads.now }
     requires valid { valid (D.document tables.old) action.now ≡ true }
     requires update { is_update action.now ≡ true }
     ensures same { D.document tables.new ≡ D.document tables.old }
-    ensures others { KnowsOthers (D.document tables.old) reads.new }
-    ensures none { OnOk result ((c : CellId) → is_stale reads.new c ≡ false) }
+    ensures each { OnOk result (reads.now.are_all_stale ≡ false) }
     ensures found { IfOk result
-        (λ x. IsAffected (D.document tables.old) reads.new.graph action.now x) }
+        (λ x. IsAffected (D.document tables.old) reads.now.graph action.now x) }
     ensures left { OnOk result (AreLeft (D.document tables.old) action.now indexes.new.items) }
 {
-    reads.make_right(alloc, &*tables, kept, indexes)?;
+    if !reads.is_known() {
+        return Err(ReadsFault::NotRecorded);
+    }
     leave(alloc, &*tables, indexes, action);
     let found = found_by_records(alloc, tables, reads.graph(), action)?;
     let cells = named_cells(alloc, reads.graph(), &found)?;
-    // For the circular cells of this change, and for its way back.
-    let count = cells.len();
-    reads.reserve(count.saturating_add(count))?;
     Ok(Affected { found, cells })
 }
 
 /// Evaluates what an update affects, where the values of all other cells are right.
 ///
-/// Errors: out of memory; the values are then those before, all cells are stale, and the indexes
-/// are to be given up.
+/// Errors: out of memory; the values are then those before, it is not known what cells read, and
+/// the indexes are to be given up.
 /// Memory and cost: as to `refresh_recording`.
 pub(crate) fn refresh_updated<D: DocTables, L: Ledger>(
     alloc: Global,
@@ -112,7 +105,7 @@ pub(crate) fn refresh_updated<D: DocTables, L: Ledger>(
     requires updating { (s : Document) × (a : DocAction) × IsUpdating s (D.document tables.now) a
         kept.old.items reads.old cells.items }
     ensures ok { OnOk result (IsEvaluated (D.document tables.now) kept.new.items) }
-    ensures reads { OnOk result (KnowsOthers (D.document tables.now) reads.new) }
+    ensures reads { OnOk result (KnowsReads (D.document tables.now) reads.new) }
     ensures indexed { OnOk result
         (AreIndexes (sheet_of (D.document tables.now)) indexes.new.items) }
     ensures way { IfOk result (λ before. (s : Document) (a : DocAction)
@@ -121,7 +114,7 @@ pub(crate) fn refresh_updated<D: DocTables, L: Ledger>(
     ensures part { IfOk result (λ before. is_whole before ≡ false) }
     ensures err { OnErr result ((s : Document) (a : DocAction)
         → IsUpdating s (D.document tables.now) a kept.old.items reads.old cells.items
-        → IsEvaluated s kept.new.items × KnowsOthers s reads.new) }
+        → IsEvaluated s kept.new.items × KnowsReads s reads.new) }
     ensures spent { (s : Document) (a : DocAction)
         → IsUpdating s (D.document tables.now) a kept.old.items reads.old cells.items
         → steps.new ≤ steps.old + bound s a }

@@ -1,5 +1,5 @@
 -- A graph beside the values of a document.
-use Rattle.std.proofs.Common.{ℕ, ◌+◌, Bool, true, false, cond, not, ◌||◌, List, [], ◌∷◌, ◌++◌, length, length-append, ◌≡◌, refl, sym, ap, ◌∙◌, subst, Option, Some, None}
+use Rattle.std.proofs.Common.{ℕ, Bool, true, false, cond, not, ◌||◌, List, [], ◌≡◌, refl, sym, ap, ◌∙◌, subst, Option, Some, None}
 use Rattle.std.proofs.lemmas.Bool.{true≢false, false≢true}
 use Rattle.std.specs.Option.{is_some}
 use Rattle.cell_types.specs.declared.cell.CellId.{CellId}
@@ -11,40 +11,32 @@ use Rattle.dep_graph.specs.Records.{reads_under}
 use Rattle.dep_graph.specs.Sources.{AreNumbers, sources}
 use Rattle.recalc.specs.Evaluated.{formula_at, sheet_of}
 use Rattle.recalc.specs.Stack.{on}
-use Rattle.recalc.proofs.Moves.{on_append}
 use Rattle.affected_cells.specs.Noted.{notes, notes_by}
 use Rattle.affected_cells.proofs.Unaffected.{all_values}
 use Rattle.affected_cells.proofs.UpdateTouches.{after, same_formula}
 use Rattle.affected_search.specs.ExactNotes.{HasNotes, HasNotesOf}
 use Rattle.affected_search.proofs.ExactNotes.{same_exact}
 use Rattle.affected_search.specs.Sheets.{is_found}
-use Rattle.known_reads.specs.Beside.{NotedLaw, ReadsSameLaw, is_stale}
+use Rattle.known_reads.specs.Beside.{Beside, KnowsOthers, KnowsReads, NotedLaw, ReadsSameLaw, is_stale}
 use Rattle.known_reads.specs.Known.{AreRead, IsRead}
 use Rattle.known_reads.specs.SomeCells.{is_one_of}
 
 -- ---- stale cells
 
-or_moved : (a r x : Bool) → (a || (r || x)) ≡ ((a || x) || r)
-or_moved true r x = refl
-or_moved false true true = refl
-or_moved false true false = refl
-or_moved false false true = refl
-or_moved false false false = refl
+-- ---- what is known
 
-or_more : (p q r : Bool) → (p ≡ true → q ≡ true) → (p || r) ≡ true → (q || r) ≡ true
-or_more true q r more h = ap (λ b. b || r) (more refl)
-or_more false true r more h = refl
-or_more false false r more h = h
+pub knows_others : (s : Document) (known : Beside) → KnowsReads s known → KnowsOthers s known
+knows_others s known knows c fresh = knows.each (by known.are_all_stale fresh) c
+  where
+    by : (b : Bool) → (b || on known.stale c) ≡ false → b ≡ false
+    by true h = absurd (true≢false h)
+    by false h = refl
 
--- a cell moved from the end of those that are left to the stale ones
-pub left_moved : (a : Bool) (left cells : List CellId) (cell c : CellId) → cells ≡ left ++ cell ∷ [] → (a || on cells c) ≡ ((a || on (cell ∷ []) c) || on left c)
-left_moved a left cells cell c is = ap (λ l. a || on l c) is ∙ ap (λ b. a || b) (on_append left (cell ∷ []) c) ∙ or_moved a (on left c) (on (cell ∷ []) c)
+pub none_stale : (known : Beside) → known.stale ≡ [] → known.are_all_stale ≡ false → (c : CellId) → is_stale known c ≡ false
+none_stale known none each c = ap (λ b. b || on known.stale c) each ∙ ap (λ l. on l c) none
 
-pub left_noted : (old new : Bool) (left cells : List CellId) (cell c : CellId) → cells ≡ left ++ cell ∷ [] → ((old || on (cell ∷ []) c) ≡ true → new ≡ true) → (old || on cells c) ≡ true → (new || on left c) ≡ true
-left_noted old new left cells cell c is noted h = or_more (old || on (cell ∷ []) c) new (on left c) noted (sym (left_moved old left cells cell c is) ∙ h)
-
-pub room_left : (cells left : List CellId) (cell : CellId) → cells ≡ left ++ cell ∷ [] → length cells ≡ length left + 1
-room_left cells left cell is = ap length is ∙ length-append left (cell ∷ [])
+pub knows_nothing : (s : Document) (known : Beside) → known.stale ≡ [] → known.are_all_stale ≡ true → KnowsReads s known
+knows_nothing s known none all = record { none = none; each = λ h. absurd (true≢false (sym all ∙ h)) }
 
 -- ---- all notes
 

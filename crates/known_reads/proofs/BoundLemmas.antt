@@ -6,13 +6,16 @@ use Rattle.std.specs.List.{sum_by}
 use Rattle.std.specs.Option.{is_some}
 use Rattle.cell_types.specs.declared.cell.CellId.{CellId}
 use Rattle.cell_types.specs.declared.value.CellValue.{CellValue}
+use Rattle.cell_types.specs.declared.value.CellValue.TheVariants.{Err}
+use Rattle.cell_types.specs.declared.value.ErrKind.TheVariants.{Circular}
 use Rattle.recalc.specs.Cells.{same_cell}
-use Rattle.recalc.specs.Sheet.{IsIn, Sheet, Values}
+use Rattle.recalc.specs.Sheet.{IsIn, Sheet, Values, evaluated}
 use Rattle.recalc.specs.Stack.{AreOpen, IsOpen, count, is_open, one}
 use Rattle.recalc.proofs.Turn.{same_itself}
 use Rattle.affected_cells.specs.Bound.{attempt_bound, names}
 use Rattle.recalc.specs.Turn.{StaysKnown}
-use Rattle.known_reads.specs.Attempts.{IsNaming, IsSpent, IsWithin, height, open_bound}
+use Rattle.known_reads.specs.Attempts.{IsNaming, IsSpent, IsWithin, attempts_of, due, height, is_circular, most_attempts, open_attempts, open_bound}
+use Rattle.known_reads.specs.Beside.{Beside}
 use Rattle.known_reads.specs.Recorded.{HasOpen, open_count}
 use Rattle.known_reads.proofs.CountLemmas.{open_before}
 
@@ -32,6 +35,33 @@ is_count r (c ∷ cs) = ap (λ n. one (r c) + n) (is_count r cs)
 total_less : (w v : CellId → ℕ) → ((c : CellId) → w c ≤ v c) → (cs : List CellId) → total w cs ≤ total v cs
 total_less w v h [] = omega arith
 total_less w v h (c ∷ cs) = omega (arith, h c, total_less w v h cs)
+
+-- all pass a test that always passes
+all_pass : (cs : List CellId) → filter (λ _. true) cs ≡ cs
+all_pass [] = refl
+all_pass (c ∷ cs) = ap (λ ds. c ∷ ds) (all_pass cs)
+
+-- where each weighs 1 at least
+total_some : (w : CellId → ℕ) → ((c : CellId) → 1 ≤ w c) → (p : CellId → Bool) (cs : List CellId) → count p cs ≤ total w (filter p cs)
+total_some w h p [] = omega arith
+total_some w h p (c ∷ cs) = let rest = total_some w h p cs in elim (p c) as (λ b. one b + count p cs ≤ total w (cond b (c ∷ filter p cs) (filter p cs))) [
+  | true ↦ omega (arith, rest, h c)
+  | false ↦ omega (arith, rest)
+]
+
+-- one of those that pass a test passes another
+count_some : (r p : CellId → Bool) (d : CellId) → r d ≡ true → p d ≡ true → (cs : List CellId) → IsIn d cs → 1 ≤ count r (filter p cs)
+count_some r p d named here [] i = absurd i
+count_some r p d named here (c ∷ cs) (inl e) = by (p c) (ap p e ∙ here)
+  where
+    by : (b : Bool) → b ≡ true → 1 ≤ count r (cond b (c ∷ filter p cs) (filter p cs))
+    by true g = let first = ap one (ap r e ∙ named) in omega (arith, first)
+    by false g = absurd (false≢true g)
+count_some r p d named here (c ∷ cs) (inr i) = by (count_some r p d named here cs i) (p c)
+  where
+    by : 1 ≤ count r (filter p cs) → (b : Bool) → 1 ≤ count r (cond b (c ∷ filter p cs) (filter p cs))
+    by rest true = omega (arith, rest)
+    by rest false = rest
 
 -- fewer cells pass the first test
 module _ (p q : CellId → Bool) (sub : (c : CellId) → p c ≡ true → q c ≡ true) where
@@ -131,29 +161,40 @@ module _ (s : Sheet) (cells : List CellId) where
   -- each cell takes one at least
   pub count_bound : (p : CellId → Bool) → count p cells ≤ attempt_bound s (filter p cells)
   count_bound p =
-      let few = at_least (filter p cells) (filter p cells) in
-      let same = counted cells in
+      let few = total_some (weight (filter p cells)) (λ c. omega arith) p cells in
       let first = as_bound (filter p cells) in
-      omega (arith, few, same, first)
-    where
-      at_least : (ds cs : List CellId) → length cs ≤ total (weight ds) cs
-      at_least ds [] = omega arith
-      at_least ds (c ∷ cs) = omega (arith, at_least ds cs)
-
-      counted : (cs : List CellId) → count p cs ≡ length (filter p cs)
-      counted [] = refl
-      counted (c ∷ cs) = let rest = counted cs in elim (p c) as (λ b. one b + count p cs ≡ length (cond b (c ∷ filter p cs) (filter p cs))) [
-        | true ↦ omega (arith, rest)
-        | false ↦ omega (arith, rest)
-      ]
+      omega (arith, few, first)
 
   -- all of them
   pub bound_all : (p : CellId → Bool) → attempt_bound s (filter p cells) ≤ attempt_bound s cells
-  bound_all p = subst (λ l. attempt_bound s (filter p cells) ≤ attempt_bound s l) (all cells) (bound_less p (λ _. true) (λ c h. refl))
-    where
-      all : (cs : List CellId) → filter (λ _. true) cs ≡ cs
-      all [] = refl
-      all (c ∷ cs) = ap (λ ds. c ∷ ds) (all cs)
+  bound_all p = subst (λ l. attempt_bound s (filter p cells) ≤ attempt_bound s l) (all_pass cells) (bound_less p (λ _. true) (λ c h. refl))
+
+-- ---- attempts at each cell
+
+module _ (s : Sheet) (cells : List CellId) where
+  as_most : (cs : List CellId) → most_attempts s cs ≡ total (attempts_of s) cs
+  as_most cs = sym (is_total (attempts_of s) cs)
+
+  most_loss : (p q : CellId → Bool) → ((c : CellId) → p c ≡ true → q c ≡ true) → (top : CellId) → p top ≡ false → q top ≡ true → IsIn top cells → most_attempts s (filter p cells) + attempts_of s top ≤ most_attempts s (filter q cells)
+  most_loss p q sub top out was i =
+      let less = total_loss p q sub top out was (attempts_of s) cells i in
+      let first = as_most (filter p cells) in
+      let second = as_most (filter q cells) in
+      omega (arith, less, first, second)
+
+  most_some : (p : CellId → Bool) → count p cells ≤ most_attempts s (filter p cells)
+  most_some p =
+      let few = total_some (attempts_of s) (λ c. omega arith) p cells in
+      let first = as_most (filter p cells) in
+      omega (arith, few, first)
+
+  pub most_all : (p : CellId → Bool) → most_attempts s (filter p cells) ≤ most_attempts s cells
+  most_all p =
+      let less = total_sub p (λ _. true) (λ c h. refl) (attempts_of s) cells in
+      let first = as_most (filter p cells) in
+      let second = as_most cells in
+      let same = ap (total (attempts_of s)) (all_pass cells) in
+      omega (arith, less, first, second, same)
 
 -- ---- the stack
 
@@ -222,12 +263,27 @@ module _ (s : Sheet) (k j : Values) (top : CellId) (v : CellValue) (puts : (c : 
           (ap (λ o. not (is_some o)) (puts b.0 ∙ ap (λ q. cond q (Some v) (k b.0)) b.2 ∙ b.1.1)) (has b.0 b.1) b.3 in
           omega (arith, less)
 
+  put_most : (cells : List CellId) → HasOpen s k cells → open_attempts s j cells + attempts_of s top ≤ open_attempts s k cells
+  put_most cells has = most_loss s cells (is_open j) (is_open k) fewer top
+      (ap (λ o. not (is_some o)) (puts top ∙ ap (λ b. cond b (Some v) (k top)) (same_itself top))) (ap (λ o. not (is_some o)) opened.1) (has top opened)
+
   -- what one attempt comes to that gives a cell its value
-  pub put_spent : ((cells : List CellId) → HasOpen s k cells → open_count j cells < open_count k cells) → (front stack : List CellId) → stack ≡ front ++ top ∷ [] → AreOpen s k stack → IsNaming s stack
+  pub put_spent : (front stack : List CellId) → stack ≡ front ++ top ∷ [] → AreOpen s k stack → IsNaming s stack
       → (old new : ℕ) → new ≤ old + 1 → IsSpent s k stack old j front new
-  put_spent few front stack is all naming old new step = subst (λ l. IsSpent s k l old j front new) (sym is) (record {
-    twice = λ cells has. let less = few cells has in let high = height_snoc front top in let low = height_low front in omega (arith, less, high, low, step);
+  put_spent front stack is all naming old new step = subst (λ l. IsSpent s k l old j front new) (sym is) (record {
+    twice = λ cells has. let less = put_most cells has in let high = height_snoc front top in let low = height_low front in omega (arith, less, high, low, step);
     named = λ cells has. let less = put_bound cells has front (subst (AreOpen s k) is all) (subst (IsNaming s) is naming) in let high = height_snoc front top in omega (arith, less, high, step);
+  })
+
+  -- the same where the cell is circular, for it names an open one, and has one attempt more
+  pub close_spent : evaluated s top ≡ Err Circular → (d : CellId) → IsOpen s k d → names s top d ≡ true → (front stack : List CellId) → stack ≡ front ++ top ∷ [] → AreOpen s k stack → IsNaming s stack
+      → (old new : ℕ) → new ≤ old + 2 → IsSpent s k stack old j front new
+  close_spent circular d waits named front stack is all naming old new step = subst (λ l. IsSpent s k l old j front new) (sym is) (record {
+    twice = λ cells has. let less = put_most cells has in let third = ap (λ w. one (is_circular w)) circular in let high = height_snoc front top in let low = height_low front in omega (arith, less, third, high, low, step);
+    named = λ cells has.
+        let less = put_bound cells has front (subst (AreOpen s k) is all) (subst (IsNaming s) is naming) in
+        let more = count_some (names s top) (is_open k) d named (ap (λ o. not (is_some o)) waits.1) cells (has d waits) in
+        let high = height_snoc front top in omega (arith, less, more, high, step);
   })
 
 -- what one attempt comes to that puts a cell on the stack
@@ -254,11 +310,18 @@ spent_within s k j stack old new flat h = record {
   named = λ cells has. let first = h.named cells has in omega (arith, first, flat);
 }
 
+-- less what the stale cells will take
+pub due_within : (s : Sheet) (k : Values) (old new : ℕ) (known : Beside) → IsWithin s k old (due new known) → IsWithin s k old new
+due_within s k old new known h = record {
+  twice = λ cells has. let first = h.twice cells has in omega (arith, first);
+  named = λ cells has. let first = h.named cells has in omega (arith, first);
+}
+
 -- one attempt more at a stack of open cells
 pub spent_err : (s : Sheet) (k j : Values) (stack : List CellId) (old mid new : ℕ) → StaysKnown k j → 0 < length stack → ((cells : List CellId) → HasOpen s j cells → length stack ≤ open_count j cells)
     → IsSpent s k [] old j stack mid → new ≤ mid + 1 → IsWithin s k old new
 spent_err s k j stack old mid new stays some few h step = record {
-  twice = λ cells has. let first = h.twice cells has in let high = height_some stack some in let least = few cells (open_before s k j stays cells has) in omega (arith, first, high, least, step);
+  twice = λ cells has. let first = h.twice cells has in let high = height_some stack some in let least = few cells (open_before s k j stays cells has) in let more = most_some s cells (is_open j) in omega (arith, first, high, least, more, step);
   named = λ cells has. let first = h.named cells has in let high = height_some stack some in let least = few cells (open_before s k j stays cells has) in let more = count_bound s cells (is_open j) in omega (arith, first, high, least, more, step);
 }
 

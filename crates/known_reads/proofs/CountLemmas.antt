@@ -1,5 +1,5 @@
 -- How many attempts the cells take.
-use Rattle.std.proofs.Common.{◌+◌, ◌≤◌, ◌<◌, Bool, true, false, cond, not, ◌&&◌, ◌||◌, List, [], ◌∷◌, length, ◌≡◌, refl, sym, ap, ◌∙◌, subst, Option, Some, None, arith}
+use Rattle.std.proofs.Common.{◌≤◌, ◌<◌, Bool, true, false, not, ◌&&◌, ◌||◌, List, [], ◌∷◌, length, ◌≡◌, refl, sym, ap, ◌∙◌, subst, Option, Some, None, arith}
 use Rattle.std.proofs.lemmas.Bool.{false≢true, true≢false}
 use Rattle.std.specs.Option.{is_some}
 use Rattle.cell_types.specs.declared.cell.CellId.{CellId}
@@ -22,10 +22,6 @@ use Rattle.known_reads.specs.Recorded.{HasOpen, open_count}
 
 -- ---- open cells
 
-none_there : (o : Option CellValue) → not (is_some o) ≡ true → o ≡ None
-none_there None e = refl
-none_there (Some v) e = absurd (false≢true e)
-
 not_known : (o p : Option CellValue) → (is_some o ≡ true → is_some p ≡ true) → p ≡ None → o ≡ None
 not_known None p h e = refl
 not_known (Some v) p h e = absurd (true≢false (sym (h refl) ∙ ap is_some e))
@@ -33,22 +29,6 @@ not_known (Some v) p h e = absurd (true≢false (sym (h refl) ∙ ap is_some e))
 -- what is open later was open before
 pub open_before : (s : Sheet) (k j : Values) → StaysKnown k j → (cells : List CellId) → HasOpen s k cells → HasOpen s j cells
 open_before s k j stays cells has c opened = has c (opened.0, not_known (k c) (j c) (stays c) opened.1)
-
--- a value that is put is one open cell less
-pub open_less : (s : Sheet) (k j : Values) (cell : CellId) (v : CellValue) → ((c : CellId) → j c ≡ cond (same_cell cell c) (Some v) (k c)) → IsOpen s k cell
-    → (cells : List CellId) → HasOpen s k cells → open_count j cells < open_count k cells
-open_less s k j cell v puts opened cells has =
-    count_less (is_open j) (is_open k) cells cell (has cell opened)
-    (λ d e. ap (λ o. not (is_some o)) (by d (same_cell cell d) (puts d) (none_there (j d) e)))
-    (ap (λ o. not (is_some o)) (puts cell ∙ ap (λ b. cond b (Some v) (k cell)) (same_itself cell)))
-    (ap (λ o. not (is_some o)) opened.1)
-  where
-    none_some : None ≡ Some v → ⊥
-    none_some e = cc
-
-    by : (d : CellId) (b : Bool) → j d ≡ cond b (Some v) (k d) → j d ≡ None → k d ≡ None
-    by d true e h = absurd (none_some (sym h ∙ e))
-    by d false e h = sym e ∙ h
 
 -- what was taken out is all that is open
 taken_on : (s : Document) (old now : List KeptTable) (cells : List CellId) (taken : List HeldValue) → IsTaken cells taken (held_at s old) (held_at s now) → IsRightBut s old cells
@@ -114,10 +94,3 @@ module _ (s : Sheet) (k : Values) (cells : List CellId) (has : HasOpen s k cells
   -- a stack of open cells is no higher than there are open cells
   pub stack_few : (stack : List CellId) → AreOpen s k stack → length stack ≤ open_count k cells
   stack_few stack all = few (is_open k) stack all (open_on stack all)
-
-pub no_more : (k : Values) (cells : List CellId) → open_count k cells ≤ length cells
-no_more k [] = omega arith
-no_more k (c ∷ cells) = elim (is_open k c) as (λ b. cond b 1 0 + count (is_open k) cells ≤ length (c ∷ cells)) [
-  | true ↦ omega (arith, no_more k cells)
-  | false ↦ omega (arith, no_more k cells)
-]

@@ -1,6 +1,6 @@
 -- What a graph has of the notes of an evaluated document.
 use mathlib.Core.Path.{fun_ext}
-use Rattle.std.proofs.Common.{ℕ, ◌≤◌, Bool, true, false, ◌||◌, List, [], ◌∷◌, length, ◌≡◌, refl, sym, ap, ◌∙◌, subst, Option, Some, None, Result, Ok, Err, OnErr, OnOk}
+use Rattle.std.proofs.Common.{ℕ, ◌≤◌, Bool, true, false, ◌||◌, List, [], ◌∷◌, length, ◌≡◌, refl, sym, ap, ◌∙◌, subst, Option, Some, None, Result, Ok, Err, OnErr, OnOk, is_err}
 use Rattle.std.proofs.lemmas.Bool.{false≢true, true≢false}
 use Rattle.std.specs.List.{AllByRecursion}
 use Rattle.std.specs.Option.{is_some}
@@ -56,6 +56,10 @@ reads_kept s old new kept = kept_exact s old new kept
 pub at_err : {A E P : Type 0} (r : Result A E) → P → OnErr r P
 at_err (Ok x) p = tt
 at_err (Err e) p = p
+
+pub from_ok : {A E P : Type 0} (r : Result A E) → is_err r ≡ false → OnOk r P → P
+from_ok (Ok x) h p = p
+from_ok (Err e) h p = absurd (true≢false h)
 
 pub kept_either : {A E : Type 0} (s : Sheet) (old new : Graph) (c : CellId) (r : Result A E) → OnOk r (NotesRecordedOf new old s c) → OnErr r (KeepsReads s old new) → KeepsReads s old new
 kept_either s old new c (Ok x) ok err = ok.keeps

@@ -1,5 +1,5 @@
 -- All formula cells evaluated one after the other.
-use Rattle.std.proofs.Common.{ℕ, ◌+◌, ◌*◌, ◌≤◌, true, false, ◌||◌, List, [], ◌∷◌, inl, inr, cond, map, length, ◌≡◌, refl, sym, ap, ◌∙◌, subst, Option, None, Some, arith}
+use Rattle.std.proofs.Common.{ℕ, ◌+◌, ◌≤◌, true, false, ◌||◌, List, [], ◌∷◌, inl, inr, cond, map, length, ◌≡◌, refl, sym, ap, ◌∙◌, subst, Option, None, Some, arith}
 use Rattle.std.proofs.lemmas.Bool.{false≢true, or_right}
 use Rattle.std.specs.List.{AllByRecursion}
 use Rattle.std.specs.Option.{is_some}
@@ -22,25 +22,24 @@ use Rattle.affected_cells.specs.Bound.{attempt_bound}
 use Rattle.affected_search.specs.ExactNotes.{HasNoReads, HasNotesOf}
 use Rattle.affected_search.proofs.ExactNotes.{none_exact}
 use Rattle.affected_values.specs.Taken.{IsHeldWhere}
-use Rattle.known_reads.specs.Attempts.{HasFormulas}
+use Rattle.known_reads.specs.Attempts.{HasFormulas, due, most_attempts}
 use Rattle.known_reads.specs.Beside.{Beside, KnowsOthers}
 use Rattle.known_reads.specs.Walked.{AreHeld, IsWalked}
-use Rattle.known_reads.proofs.BoundLemmas.{bound_all, spent_next, spent_none, spent_within}
-use Rattle.known_reads.proofs.CountLemmas.{no_more}
+use Rattle.known_reads.proofs.BoundLemmas.{bound_all, most_all, spent_next, spent_none, spent_within}
 use Rattle.known_reads.proofs.RecordedLemmas.{recording_next, recording_none}
 
 pub walked_start : (s : Document) (ks : List KeptTable) (known : Beside) (n : ℕ) → IsSettled s ks → IsWalked s ks known n ks known n
 walked_start s ks known n settled = record {
   further = further_start s ks settled;
   recording = recording_none s (held_at s ks) known;
-  attempts = spent_none (sheet_of s) (held_at s ks) [] n refl;
+  attempts = spent_none (sheet_of s) (held_at s ks) [] (due n known) refl;
 }
 
 pub walked_next : (s : Document) (ks ls ms : List KeptTable) (old mid new : Beside) (n m p : ℕ) → IsWalked s ks old n ls mid m → IsWalked s ls mid m ms new p → IsWalked s ks old n ms new p
 walked_next s ks ls ms old mid new n m p a b = record {
   further = further_next s ks ls ms a.further b.further;
   recording = recording_next s (held_at s ks) (held_at s ls) (held_at s ms) old mid new a.recording b.recording;
-  attempts = spent_next (sheet_of s) (held_at s ks) (held_at s ls) (held_at s ms) [] [] [] n m p a.further.stays a.attempts b.attempts;
+  attempts = spent_next (sheet_of s) (held_at s ks) (held_at s ls) (held_at s ms) [] [] [] (due n old) (due m mid) (due p new) a.further.stays a.attempts b.attempts;
 }
 
 -- what is known stays known
@@ -78,16 +77,20 @@ module _ (s : Document) (ks ls : List KeptTable) (old new : Beside) (n m : ℕ) 
       by None e = walked.recording.others c (none_exact (sheet_of s) old.graph none c e)
       by (Some f) e = walked.recording.read c (ap is_some (blank_held s ks blank c)) (ap is_some (evaluated.values c f e)) fresh
 
-  pub few_attempts : m ≤ n + 2 * length (formula_cells s)
-  few_attempts =
-      let within = spent_within (sheet_of s) (held_at s ks) (held_at s ls) [] n m refl walked.attempts in
-      let spent = within.twice (formula_cells s) (λ c opened. (is_sheet s).listed c opened.0.0 opened.0.1) in
-      let few = no_more (held_at s ks) (formula_cells s) in
-      omega (arith, spent, few)
+  -- with the attempts that the stale cells take
+  module _ (none : old.stale ≡ []) (last : ℕ) (more : last ≤ m + length new.stale) where
+    pub few_attempts : last ≤ n + most_attempts (sheet_of s) (formula_cells s)
+    few_attempts =
+        let within = spent_within (sheet_of s) (held_at s ks) (held_at s ls) [] (due n old) (due m new) refl walked.attempts in
+        let spent = within.twice (formula_cells s) (λ c opened. (is_sheet s).listed c opened.0.0 opened.0.1) in
+        let few = most_all (sheet_of s) (formula_cells s) (is_open (held_at s ks)) in
+        let first = ap length none in
+        omega (arith, spent, few, first, more)
 
-  pub named_attempts : (all : List CellId) → HasFormulas s (formula_cells s) all → m ≤ n + attempt_bound (sheet_of s) all
-  named_attempts all has =
-      let within = spent_within (sheet_of s) (held_at s ks) (held_at s ls) [] n m refl walked.attempts in
-      let spent = within.named all (λ c opened. has c (in_on c (formula_cells s) ((is_sheet s).listed c opened.0.0 opened.0.1)) (ap is_some opened.0.1)) in
-      let few = bound_all (sheet_of s) all (is_open (held_at s ks)) in
-      omega (arith, spent, few)
+    pub named_attempts : (all : List CellId) → HasFormulas s (formula_cells s) all → last ≤ n + attempt_bound (sheet_of s) all
+    named_attempts all has =
+        let within = spent_within (sheet_of s) (held_at s ks) (held_at s ls) [] (due n old) (due m new) refl walked.attempts in
+        let spent = within.named all (λ c opened. has c (in_on c (formula_cells s) ((is_sheet s).listed c opened.0.0 opened.0.1)) (ap is_some opened.0.1)) in
+        let few = bound_all (sheet_of s) all (is_open (held_at s ks)) in
+        let first = ap length none in
+        omega (arith, spent, few, first, more)

@@ -1,5 +1,5 @@
 -- A graph of reads beside the values of a document, which may not be right of some cells.
-use Rattle.std.specs.Prelude.{ℕ, Bool, false, true, ◌||◌, List, ◌≡◌}
+use Rattle.std.specs.Prelude.{ℕ, Bool, false, true, ◌||◌, List, [], ◌≡◌}
 use Rattle.std.specs.Option.{is_some}
 use Rattle.cell_types.specs.declared.cell.CellId.{CellId}
 use Rattle.doc_model.specs.declared.action.DocAction.TheVariants.{BulkUpdate}
@@ -14,18 +14,18 @@ use Rattle.recalc.specs.Evaluated.{formula_at, sheet_of}
 use Rattle.recalc.specs.Stack.{on}
 use Rattle.affected_cells.specs.Noted.{notes}
 use Rattle.affected_search.specs.Actions.{KeepsOthers}
+use Rattle.affected_search.specs.ExactNotes.{HasNotes}
 use Rattle.affected_search.specs.Sheets.{is_found}
 use Rattle.known_reads.specs.declared.some_cells.SomeCells.{SomeCells}
 use Rattle.known_reads.specs.Known.{IsRead}
 use Rattle.known_reads.specs.SomeCells.{is_one_of}
 
--- a graph, the cells of which it may not be right, whether these are all, and for how many more
--- there is room; and the cells of which it was noted that they read something else
+-- a graph, the cells of which it may not be right, and whether these are all; and the cells of
+-- which it was noted that they read something else
 pub record Beside : Type 0 where
   pub graph : Graph
   pub stale : List CellId
   pub are_all_stale : Bool
-  pub room : ℕ
   pub renewed : SomeCells
 
 -- whether the graph may not be right of the cell
@@ -35,6 +35,11 @@ is_stale known c = known.are_all_stale || on known.stale c
 -- the graph has just what each cell that is not stale notes
 abbrev pub KnowsOthers : Document → Beside → Type 0
 KnowsOthers s known = (c : CellId) → is_stale known c ≡ false → IsRead s known.graph c
+
+-- the graph has just what each cell notes, or nothing is known of it
+pub record KnowsReads (s : Document) (known : Beside) : Type 0 where
+  pub none : known.stale ≡ []
+  pub each : known.are_all_stale ≡ false → HasNotes known.graph (sheet_of s)
 
 -- the documents have the same formula cells, and each but these notes the same in both
 pub record ReadsSameBut (s t : Document) (cells : List CellId) : Type 0 where

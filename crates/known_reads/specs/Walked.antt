@@ -7,7 +7,7 @@ use Rattle.recalc.specs.declared.kept.KeptTable.{KeptTable}
 use Rattle.recalc.specs.Evaluated.{sheet_of}
 use Rattle.recalc.specs.Kept.{IsFurther, held_at}
 use Rattle.affected_values.specs.Taken.{IsHeldWhere}
-use Rattle.known_reads.specs.Attempts.{IsSpent}
+use Rattle.known_reads.specs.Attempts.{IsSpent, due}
 use Rattle.known_reads.specs.Beside.{Beside}
 use Rattle.known_reads.specs.Recorded.{IsRecording}
 
@@ -18,7 +18,7 @@ pub record IsWalked (s : Document) (ks : List KeptTable) (old : Beside) (n : ℕ
     (ls : List KeptTable) (new : Beside) (m : ℕ) : Type 0 where
   pub further : IsFurther s ks ls
   pub recording : IsRecording s (held_at s ks) old (held_at s ls) new
-  pub attempts : IsSpent (sheet_of s) (held_at s ks) [] n (held_at s ls) [] m
+  pub attempts : IsSpent (sheet_of s) (held_at s ks) [] (due n old) (held_at s ls) [] (due m new)
 
 -- the values of those of the cells that are formula cells are known
 abbrev pub AreHeld : Document → List KeptTable → List CellId → Type 0

@@ -1,6 +1,6 @@
 //! A graph in which so many reads are recorded.
 
-ghost use Rattle.std.specs.Prelude.{◌≡◌, ◌<◌, false, IfOk, OnErr, OnOk};
+ghost use Rattle.std.specs.Prelude.{◌≡◌, ◌≤◌, ◌+◌, false, IfOk, OnErr, OnOk};
 ghost use Rattle.std.specs.Option.{option_copied};
 ghost use Rattle.dep_graph.specs.Graph.{IsDropped, IsKept, IsSet};
 ghost use Rattle.recalc.specs.Sheet.{row_of};
@@ -15,13 +15,13 @@ use formula_eval::{CellReader, NoteList, Steps};
 use formula_parse::Formula;
 use std::alloc::{AllocError, Global};
 use std::marker::Model;
-use std::sync::ledger::{Blank, Ledger};
+use std::sync::ledger::Ledger;
 
-/// Why reads are not recorded.
+/// Why reads are not known.
 #[derive(Clone, Copy)]
 pub enum ReadsFault {
-    /// They are more than the graph has room for.
-    TooMany,
+    /// They are more than the graph has room for, or there was no memory for them before.
+    NotRecorded,
     /// Out of memory.
     NoMemory,
 }
@@ -83,18 +83,12 @@ impl BoundedGraph {
         &self.graph
     }
 
-    // Whether no read is recorded.
-    pub(crate) fn is_new(&self) -> bool {
-        self.reads == 0
-    }
-
     // Whether there is no room for more reads.
     pub(crate) fn is_full(&self) -> bool {
         self.reads >= self.most
     }
 
-    // Records what a formula reads by one attempt, in a count of steps of its own. Hands out its
-    // notes.
+    // Records what a formula reads by one attempt. Hands out its notes.
     pub(crate) fn record_once<R: CellReader, L: Ledger>(
         &mut self,
         alloc: Global,
@@ -102,23 +96,20 @@ impl BoundedGraph {
         cell: &CellId,
         at: &RowRef,
         tree: Option<&Formula>,
-        blank: Blank,
+        steps: &mut Steps<L>,
     ) -> Result<NoteList, ReadsFault>
         requires here { at.now ≡ row_of cell.now }
         requires known { NeedsNone (R.told reader.now) }
-        requires name { blank.name ≡ L.name }
-        requires parts { blank.parts ≡ L.parts }
-        requires some { 0 < L.parts }
         ensures ok { OnOk result (RecordsNotes (R.told reader.now) (option_copied tree.entry)
             self.old self.new cell.now) }
         ensures err { OnErr result (IsKept self.old self.new) }
+        ensures steps { steps.new ≤ steps.old + 1 }
     {
         if self.is_full() {
-            return Err(ReadsFault::TooMany);
+            return Err(ReadsFault::NotRecorded);
         }
-        let mut steps = Steps::<L>::new(blank);
         let before = self.graph.reads_count(cell);
-        let notes = record_cell(alloc, reader, &mut self.graph, cell, at, tree, &mut steps)?;
+        let notes = record_cell(alloc, reader, &mut self.graph, cell, at, tree, steps)?;
         self.count_again(cell, before);
         Ok(notes)
     }
@@ -147,7 +138,7 @@ impl BoundedGraph {
         ensures err { OnErr result (IsKept self.old self.new) }
     {
         if self.is_full() {
-            return Err(ReadsFault::TooMany);
+            return Err(ReadsFault::NotRecorded);
         }
         let before = self.graph.reads_count(cell);
         let is_other = self.graph.set_runs(cell, notes)?;

@@ -1,6 +1,6 @@
 //! The reads of cells recorded anew, or forgotten.
 
-ghost use Rattle.std.specs.Prelude.{◌≡◌, true, None, OnErr, OnOk};
+ghost use Rattle.std.specs.Prelude.{◌≡◌, ◌≤◌, ◌+◌, length, true, None, OnErr, OnOk};
 ghost use Rattle.cell_types.specs.declared.cell.CellId.{CellId};
 ghost use Rattle.std.specs.Option.{is_some};
 ghost use Rattle.doc_model.specs.DocumentLaws.{IsWhole};
@@ -16,19 +16,20 @@ use crate::bounded::{BoundedGraph, ReadsFault};
 use affected_values::is_formula_cell;
 use cell_types::CellId;
 use doc_model::DocTables;
+use formula_eval::Steps;
 use recalc::{ColumnIndex, KeptTable, KnownReader, column_at, index_lookups, row_of};
 use std::alloc::Global;
-use std::marker::Brand;
-use std::sync::ledger::Blank;
+use std::sync::ledger::Ledger;
 
 // Records what a formula cell reads, of an evaluated document.
-fn record_formula<D: DocTables>(
+fn record_formula<D: DocTables, L: Ledger>(
     alloc: Global,
     tables: &D,
     kept: &[KeptTable],
     indexes: &mut Vec<ColumnIndex>,
     graph: &mut BoundedGraph,
     cell: &CellId,
+    steps: &mut Steps<L>,
 ) -> Result<(), ReadsFault>
     requires whole { IsWhole (D.document tables.now) }
     requires indexed { AreIndexes (sheet_of (D.document tables.now)) indexes.old.items }
@@ -40,6 +41,7 @@ fn record_formula<D: DocTables>(
         (KeepsReads (sheet_of (D.document tables.now)) graph.old graph.new) }
     ensures indexed { OnOk result
         (AreIndexes (sheet_of (D.document tables.now)) indexes.new.items) }
+    ensures steps { steps.new ≤ steps.old + 1 }
 {
     let Some(column) = column_at(kept, &cell.table, &cell.column) else {
         unreachable!();
@@ -51,27 +53,22 @@ fn record_formula<D: DocTables>(
         indexes: &*indexes,
         last: &None,
     };
-    let notes = graph.record_once::<KnownReader<'_, D>, Brand>(
-        alloc,
-        &reader,
-        cell,
-        &at,
-        column.tree.as_ref(),
-        Blank::new(1),
-    )?;
+    let tree = column.tree.as_ref();
+    let notes = graph.record_once(alloc, &reader, cell, &at, tree, steps)?;
     // So that the lookups of other cells need not scan.
     index_lookups(alloc, tables, indexes, notes.as_slice())?;
     Ok(())
 }
 
 // Records what a cell reads: nothing where it is no formula cell.
-pub(crate) fn record_where<D: DocTables>(
+fn record_where<D: DocTables, L: Ledger>(
     alloc: Global,
     tables: &D,
     kept: &[KeptTable],
     indexes: &mut Vec<ColumnIndex>,
     graph: &mut BoundedGraph,
     cell: &CellId,
+    steps: &mut Steps<L>,
 ) -> Result<(), ReadsFault>
     requires whole { IsWhole (D.document tables.now) }
     requires indexed { AreIndexes (sheet_of (D.document tables.now)) indexes.old.items }
@@ -80,12 +77,13 @@ pub(crate) fn record_where<D: DocTables>(
     ensures keeps { KeepsReads (sheet_of (D.document tables.now)) graph.old graph.new }
     ensures indexed { OnOk result
         (AreIndexes (sheet_of (D.document tables.now)) indexes.new.items) }
+    ensures steps { steps.new ≤ steps.old + 1 }
 {
     if !is_formula_cell(tables, cell) {
         graph.forget(cell);
         return Ok(());
     }
-    record_formula(alloc, tables, kept, indexes, graph, cell)
+    record_formula(alloc, tables, kept, indexes, graph, cell, steps)
 }
 
 /// Records what these cells read, of an evaluated document: nothing of those that are no formula
@@ -96,13 +94,14 @@ pub(crate) fn record_where<D: DocTables>(
 /// made it has still, and the indexes are then to be given up.
 /// Memory: notes, what the graph takes of them, and the indexes. Cost: one attempt a cell, and the
 /// making of the indexes.
-pub fn record_cells<D: DocTables>(
+pub(crate) fn record_cells<D: DocTables, L: Ledger>(
     alloc: Global,
     tables: &D,
     kept: &[KeptTable],
     indexes: &mut Vec<ColumnIndex>,
     graph: &mut BoundedGraph,
     cells: &[CellId],
+    steps: &mut Steps<L>,
 ) -> Result<(), ReadsFault>
     requires whole { IsWhole (D.document tables.now) }
     requires indexed { AreIndexes (sheet_of (D.document tables.now)) indexes.old.items }
@@ -111,9 +110,10 @@ pub fn record_cells<D: DocTables>(
     ensures keeps { KeepsReads (sheet_of (D.document tables.now)) graph.old graph.new }
     ensures indexed { OnOk result
         (AreIndexes (sheet_of (D.document tables.now)) indexes.new.items) }
+    ensures steps { steps.new ≤ steps.old + length cells.now }
 {
     for cell in cells {
-        record_where(alloc, tables, kept, indexes, graph, cell)?;
+        record_where(alloc, tables, kept, indexes, graph, cell, steps)?;
     }
     Ok(())
 }

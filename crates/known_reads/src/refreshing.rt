@@ -1,8 +1,9 @@
 //! Cells evaluated anew, with what they read, where the values of all others are known.
 
-ghost use Rattle.std.specs.Prelude.{◌≡◌, ◌+◌, ◌*◌, ◌≤◌, List, [], length, true, IfOk, OnErr, OnOk};
+ghost use Rattle.std.specs.Prelude.{◌≡◌, ◌+◌, ◌≤◌, List, [], true, IfOk, OnErr, OnOk};
 ghost use Rattle.std.specs.Option.{is_some};
 ghost use Rattle.cell_types.specs.declared.cell.CellId.{CellId};
+ghost use Rattle.doc_model.specs.Document.{Document};
 ghost use Rattle.doc_model.specs.DocumentLaws.{IsWhole};
 ghost use Rattle.recalc.specs.Evaluated.{sheet_of};
 ghost use Rattle.recalc.specs.Indexes.{AreIndexes};
@@ -10,8 +11,8 @@ ghost use Rattle.recalc.specs.Kept.{IsEvaluated, IsFurther, IsKeptOf, IsSettled,
 ghost use Rattle.recalc.specs.Remembered.{IsRemembered};
 ghost use Rattle.affected_cells.specs.Bound.{attempt_bound};
 ghost use Rattle.affected_values.specs.Taken.{IsHeldWhere, IsRightBut, LeadsBack, taken_of};
-ghost use Rattle.known_reads.specs.Attempts.{HasFormulas, IsWithin};
-ghost use Rattle.known_reads.specs.Beside.{KnowsOthers};
+ghost use Rattle.known_reads.specs.Attempts.{HasFormulas, IsWithin, due, most_attempts};
+ghost use Rattle.known_reads.specs.Beside.{KnowsReads};
 ghost use Rattle.known_reads.specs.Recorded.{IsRecording, KnowsBut};
 ghost use Rattle.known_reads.specs.Watched.{AreRenewed};
 
@@ -49,7 +50,10 @@ fn settle_each<D: DocTables, L: Ledger>(
         (held_at (D.document tables.now) kept.old.items) reads.old
         (held_at (D.document tables.now) kept.new.items) reads.new }
     ensures attempts { IsWithin (sheet_of (D.document tables.now))
-        (held_at (D.document tables.now) kept.old.items) steps.old steps.new }
+        (held_at (D.document tables.now) kept.old.items) (due steps.old reads.old) steps.new }
+    ensures due { OnOk result (IsWithin (sheet_of (D.document tables.now))
+        (held_at (D.document tables.now) kept.old.items) (due steps.old reads.old)
+        (due steps.new reads.new)) }
     ensures indexed { OnOk result
         (AreIndexes (sheet_of (D.document tables.now)) indexes.new.items) }
 {
@@ -79,7 +83,10 @@ fn settle_taken<D: DocTables, L: Ledger>(
         (held_at (D.document tables.now) kept.old.items) reads.old
         (held_at (D.document tables.now) kept.new.items) reads.new }
     ensures attempts { IsWithin (sheet_of (D.document tables.now))
-        (held_at (D.document tables.now) kept.old.items) steps.old steps.new }
+        (held_at (D.document tables.now) kept.old.items) (due steps.old reads.old) steps.new }
+    ensures due { OnOk result (IsWithin (sheet_of (D.document tables.now))
+        (held_at (D.document tables.now) kept.old.items) (due steps.old reads.old)
+        (due steps.new reads.new)) }
     ensures indexed { OnOk result
         (AreIndexes (sheet_of (D.document tables.now)) indexes.new.items) }
 {
@@ -90,8 +97,7 @@ fn settle_taken<D: DocTables, L: Ledger>(
     done
 }
 
-/// What was known of cells that are evaluated anew, and the cells that read something else since,
-/// or are stale.
+/// What was known of cells that are evaluated anew, and the cells that read something else since.
 #[derive(Drop)]
 pub struct Refreshed {
     pub taken: Vec<HeldValue>,
@@ -99,15 +105,15 @@ pub struct Refreshed {
 }
 
 /// Evaluates these cells anew, where the values of all other formula cells are known and right, and
-/// records what they read by the same attempts. What was known of them is handed out, so that it
-/// can be put back, and so are the noted cells with those that read something else, of which the
-/// graph is not right before. A cell is noted as stale where it is circular, since its run may not
-/// have been whole, and where what it reads is not recorded for want of memory; all are for want of
-/// room. Makes the indexes of the data columns by which the cells look rows up, where they have
-/// none.
+/// records what they read by the same attempts; of circular cells that were given their values
+/// without a whole run, by one attempt more, once all values are known. What was known of them is
+/// handed out, so that it can be put back, and so are the noted cells with those that read
+/// something else, of which the graph is not right before. Where what a cell reads is not recorded
+/// for want of memory or of room, nothing is known of the graph. Makes the indexes of the data
+/// columns by which the cells look rows up, where they have none.
 ///
-/// Errors: out of memory; each value is then as it was, all cells are stale, and the indexes are to
-/// be given up.
+/// Errors: out of memory; each value is then as it was, nothing is known of the graph, and the
+/// indexes are to be given up.
 /// Memory: a place for each of the cells, a stack as deep as the chains of those that are
 /// evaluated, what the graph takes, the cells that read something else, and the indexes.
 /// Cost: that of the cells that are evaluated, and the making of indexes.
@@ -130,19 +136,22 @@ pub fn refresh_recording<D: DocTables, L: Ledger>(
     ensures ok { OnOk result (IsEvaluated (D.document tables.now) kept.new.items) }
     ensures way { IfOk result (λ x. LeadsBack (D.document tables.now) x.taken.items
         kept.new.items kept.old.items) }
-    ensures reads { OnOk result (KnowsOthers (D.document tables.now) reads.new) }
+    ensures reads { OnOk result (KnowsReads (D.document tables.now) reads.new) }
     ensures renewed { IfOk result
         (λ x. AreRenewed (D.document tables.now) reads.old noted.items x.renewed) }
     ensures err { OnErr result
         (LeadsBack (D.document tables.now) [] kept.new.items kept.old.items) }
-    ensures stale { OnErr result (reads.new.are_all_stale ≡ true) }
+    ensures unknown { OnErr result ((s : Document) → KnowsReads s reads.new) }
     ensures indexed { OnOk result
         (AreIndexes (sheet_of (D.document tables.now)) indexes.new.items) }
-    // Two attempts a cell at most, whatever comes of them.
-    ensures attempts { steps.new ≤ steps.old + 2 * length cells.items }
+    // Two attempts a cell at most, and a third for a circular one, whatever comes of them; and one
+    // for each cell that was stale.
+    ensures attempts { steps.new ≤ due steps.old reads.old
+        + most_attempts (sheet_of (D.document tables.now)) cells.items }
     // One for each cell, and one for each of them that it names.
     ensures named { (all : List CellId) → HasFormulas (D.document tables.now) cells.items all
-        → steps.new ≤ steps.old + attempt_bound (sheet_of (D.document tables.now)) all }
+        → steps.new ≤ due steps.old reads.old
+        + attempt_bound (sheet_of (D.document tables.now)) all }
 {
     let Ok(room) = Vec::with_capacity(alloc, cells.len()) else {
         reads.note_all();
@@ -155,6 +164,7 @@ pub fn refresh_recording<D: DocTables, L: Ledger>(
     match settle_taken(alloc, tables, kept, indexes, reads, &taken, steps) {
         Ok(()) => {
             let renewed = reads.take_renewed(alloc);
+            reads.record_stale(alloc, tables, kept, indexes, steps);
             Ok(Refreshed { taken, renewed })
         }
         Err(_) => {

@@ -11,7 +11,7 @@ ghost use Rattle.recalc.specs.Remembered.{IsRemembered};
 ghost use Rattle.recalc.specs.Stack.{IsOpen, IsWorking, on};
 ghost use Rattle.recalc.specs.Turn.{IsTurn, StaysKnown};
 ghost use Rattle.affected_values.specs.Taken.{IsHeldWhere};
-ghost use Rattle.known_reads.specs.Attempts.{IsNaming, IsSpent, IsWithin};
+ghost use Rattle.known_reads.specs.Attempts.{IsNaming, IsSpent, IsWithin, due};
 ghost use Rattle.known_reads.specs.Recorded.{IsRecording};
 
 use crate::attempting::{Found, try_cell};
@@ -74,7 +74,7 @@ fn put_value<D: DocTables>(tables: &D, kept: &mut Vec<KeptTable>, cell: &CellId,
 }
 
 // One attempt at the cell on top of the stack. A cell that waits for itself is given its value
-// without a whole run, so it is stale.
+// without a whole run: it is stale until it is attempted once more, for what it reads.
 fn turn<D: DocTables, L: Ledger>(
     alloc: Global,
     tables: &D,
@@ -110,8 +110,9 @@ fn turn<D: DocTables, L: Ledger>(
     ensures naming { OnOk result (IsNaming (sheet_of (D.document tables.now)) stack.new.items) }
     ensures steps { steps.new ≤ steps.old + 1 }
     ensures attempts { OnOk result (IsSpent (sheet_of (D.document tables.now))
-        (held_at (D.document tables.now) kept.old.items) stack.old.items steps.old
-        (held_at (D.document tables.now) kept.new.items) stack.new.items steps.new) }
+        (held_at (D.document tables.now) kept.old.items) stack.old.items (due steps.old reads.old)
+        (held_at (D.document tables.now) kept.new.items) stack.new.items
+        (due steps.new reads.new)) }
 {
     let Some(top) = stack.pop() else {
         unreachable!();
@@ -135,8 +136,8 @@ fn turn<D: DocTables, L: Ledger>(
 }
 
 /// Makes the value of a cell known, where it is a formula cell, and records what it reads, and each
-/// cell that it needs and whose value was not known. A cell whose reads cannot be recorded is noted
-/// as stale, or all cells are.
+/// cell that it needs and whose value was not known. A cell that waits for itself is stale then,
+/// and all cells are where reads cannot be recorded.
 ///
 /// Errors: out of memory; what was known is then known still, and what is known is right.
 /// Memory: a stack as deep as the chain of cells that it needs, the values, and what the graph
@@ -165,10 +166,10 @@ pub(crate) fn settle_cell<D: DocTables, L: Ledger>(
         (held_at (D.document tables.now) kept.old.items) reads.old
         (held_at (D.document tables.now) kept.new.items) reads.new }
     ensures attempts { OnOk result (IsSpent (sheet_of (D.document tables.now))
-        (held_at (D.document tables.now) kept.old.items) [] steps.old
-        (held_at (D.document tables.now) kept.new.items) [] steps.new) }
+        (held_at (D.document tables.now) kept.old.items) [] (due steps.old reads.old)
+        (held_at (D.document tables.now) kept.new.items) [] (due steps.new reads.new)) }
     ensures most { IsWithin (sheet_of (D.document tables.now))
-        (held_at (D.document tables.now) kept.old.items) steps.old steps.new }
+        (held_at (D.document tables.now) kept.old.items) (due steps.old reads.old) steps.new }
 {
     if !is_open(tables, kept, cell) {
         return Ok(());

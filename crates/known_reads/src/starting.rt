@@ -1,7 +1,7 @@
 //! All formula cells of a document evaluated, each recorded by the attempt that finds its value:
 //! table by table, column by column, row by row.
 
-ghost use Rattle.std.specs.Prelude.{◌≡◌, ◌+◌, ◌*◌, ◌≤◌, List, length, map, IfOk, OnOk};
+ghost use Rattle.std.specs.Prelude.{◌≡◌, ◌+◌, ◌≤◌, List, [], map, IfOk, OnOk};
 ghost use Rattle.cell_types.specs.declared.cell.CellId.{CellId};
 ghost use Rattle.doc_model.specs.DocumentLaws.{IsWhole};
 ghost use Rattle.doc_readers.specs.Parts.{grid_at};
@@ -11,8 +11,8 @@ ghost use Rattle.recalc.specs.Kept.{IsEvaluated, IsSettled, blank_table, table_p
 ghost use Rattle.recalc.specs.Remembered.{IsRemembered};
 ghost use Rattle.affected_cells.specs.Bound.{attempt_bound};
 ghost use Rattle.affected_search.specs.ExactNotes.{HasNoReads};
-ghost use Rattle.known_reads.specs.Attempts.{HasFormulas};
-ghost use Rattle.known_reads.specs.Beside.{KnowsOthers};
+ghost use Rattle.known_reads.specs.Attempts.{HasFormulas, most_attempts};
+ghost use Rattle.known_reads.specs.Beside.{KnowsReads};
 ghost use Rattle.known_reads.specs.Walked.{AreHeld, IsWalked};
 
 use crate::beside::KnownReads;
@@ -146,37 +146,38 @@ fn settle_all<D: DocTables, L: Ledger>(
     requires blank { map table_part evaluated.old.kept.items
         ≡ map blank_table (D.document tables.now) }
     requires none { HasNoReads evaluated.old.reads.graph }
+    requires stale { evaluated.old.reads.stale ≡ [] }
     ensures evaluated { OnOk result
         (IsEvaluated (D.document tables.now) evaluated.new.kept.items) }
-    ensures reads { OnOk result (KnowsOthers (D.document tables.now) evaluated.new.reads) }
+    ensures reads { OnOk result (KnowsReads (D.document tables.now) evaluated.new.reads) }
     ensures indexed { OnOk result
         (AreIndexes (sheet_of (D.document tables.now)) evaluated.new.indexes.items) }
-    ensures attempts { OnOk result
-        (steps.new ≤ steps.old + 2 * length (formula_cells (D.document tables.now))) }
+    ensures attempts { OnOk result (steps.new ≤ steps.old
+        + most_attempts (sheet_of (D.document tables.now))
+        (formula_cells (D.document tables.now))) }
     ensures named { OnOk result ((all : List CellId)
         → HasFormulas (D.document tables.now) (formula_cells (D.document tables.now)) all
         → steps.new ≤ steps.old + attempt_bound (sheet_of (D.document tables.now)) all) }
 {
+    let Evaluated {
+        kept,
+        reads,
+        indexes,
+    } = evaluated;
     let mut last = None;
-    let done = settle_tables(
-        alloc,
-        tables,
-        &mut evaluated.kept,
-        &mut evaluated.indexes,
-        &mut last,
-        &mut evaluated.reads,
-        steps,
-    );
+    let done = settle_tables(alloc, tables, kept, indexes, &mut last, reads, steps);
     drop(last);
     done?;
-    evaluated.reads.give_up_where_full(alloc);
+    reads.record_stale(alloc, tables, kept, indexes, steps);
+    reads.give_up_where_full(alloc);
     Ok(())
 }
 
 /// Evaluates the formula cells of a document, and records what they read by the same attempts, of
-/// which it makes two a cell at most, and no more than one for each cell and one for each that its
-/// reads name. Where their reads are known to be too many, it records none. A circular cell is
-/// stale, and all are where the reads are too many.
+/// circular cells by one more. It makes two attempts a cell at most, three a circular one, and no
+/// more than one for each cell and one for each that its reads name. Where their reads are known to
+/// be too many, it records none; nothing is known of the graph where they are too many, or memory
+/// was wanting for it.
 ///
 /// Errors: out of memory.
 /// Memory: the values, a stack as deep as the chains of cells, what the graph takes, and an index
@@ -192,11 +193,12 @@ pub fn evaluate_recording<D: DocTables, L: Ledger>(
 ) -> Result<Evaluated, AllocError>
     requires { IsWhole (D.document tables.now) }
     ensures evaluated { IfOk result (λ x. IsEvaluated (D.document tables.now) x.kept.items) }
-    ensures reads { IfOk result (λ x. KnowsOthers (D.document tables.now) x.reads) }
+    ensures reads { IfOk result (λ x. KnowsReads (D.document tables.now) x.reads) }
     ensures indexed { IfOk result
         (λ x. AreIndexes (sheet_of (D.document tables.now)) x.indexes.items) }
-    ensures attempts { OnOk result
-        (steps.new ≤ steps.old + 2 * length (formula_cells (D.document tables.now))) }
+    ensures attempts { OnOk result (steps.new ≤ steps.old
+        + most_attempts (sheet_of (D.document tables.now))
+        (formula_cells (D.document tables.now))) }
     ensures named { OnOk result ((all : List CellId)
         → HasFormulas (D.document tables.now) (formula_cells (D.document tables.now)) all
         → steps.new ≤ steps.old + attempt_bound (sheet_of (D.document tables.now)) all) }

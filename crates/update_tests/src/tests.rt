@@ -1,6 +1,7 @@
 //! Plan: ten thousand random changes, each done, taken back and done again; after each of these the
-//! document tells of each cell what one tells that was started over the same tables
-//! (`cells_are_as_from_the_start`). Out of memory counts as false.
+//! document tells of each cell what one tells that was started over the same tables, and none of
+//! them evaluates the whole document (`cells_are_as_from_the_start`). Out of memory counts as
+//! false.
 
 ghost use Rattle.std.specs.Prelude.{◌≡◌};
 ghost use Rattle.doc_model.specs.Document.{Document};
@@ -92,14 +93,14 @@ fn is_as_started(alloc: Global, doc: &Doc<RowTables>) -> bool {
     }
 }
 
-// Whether the action was done; nothing where memory is wanting or a cell is not as it has to be,
-// after the action, after it was taken back, and after it was done again.
+// Whether the action was done; nothing where memory is wanting, all cells were evaluated, or a cell
+// is not as it has to be, after the action, after it was taken back, and after it was done again.
 fn play(alloc: Global, doc: &mut Doc<RowTables>, action: &DocAction) -> Option<bool> {
     match doc.change(alloc, action) {
         Ok(trace) => {
-            let is_right = is_as_started(alloc, &*doc);
+            let is_right = !trace.is_whole() && is_as_started(alloc, &*doc);
             doc.go_back(trace);
-            if is_right && is_as_started(alloc, &*doc) && is_done(alloc, doc, action) {
+            if is_right && is_as_started(alloc, &*doc) && is_done(alloc, doc, action, false) {
                 Some(true)
             } else {
                 None
@@ -110,12 +111,19 @@ fn play(alloc: Global, doc: &mut Doc<RowTables>, action: &DocAction) -> Option<b
     }
 }
 
-// Whether the action was done, and the document is then as it has to be.
-fn is_done(alloc: Global, doc: &mut Doc<RowTables>, action: &DocAction) -> bool {
+// Whether the action was done, and the document is then as it has to be; also where it evaluated
+// the whole document, if it may.
+fn is_done(
+    alloc: Global,
+    doc: &mut Doc<RowTables>,
+    action: &DocAction,
+    may_be_whole: bool,
+) -> bool {
     match doc.change(alloc, action) {
         Ok(trace) => {
+            let is_right = may_be_whole || !trace.is_whole();
             drop(trace);
-            is_as_started(alloc, &*doc)
+            is_right && is_as_started(alloc, &*doc)
         }
         Err(_) => false,
     }
@@ -130,7 +138,8 @@ fn play_next(alloc: Global, doc: &mut Doc<RowTables>, draws: &mut Draws) -> Opti
 
 fn is_opened(alloc: Global, doc: &mut Doc<RowTables>) -> bool {
     (0..10).all(|number| match opening(alloc, number) {
-        Ok(action) => is_done(alloc, doc, &action),
+        // The first formula affects all.
+        Ok(action) => is_done(alloc, doc, &action, number < 2),
         Err(_) => false,
     })
 }

@@ -4,6 +4,8 @@ use Rattle.std.specs.Option.{is_some}
 use Rattle.recalc.specs.declared.kept.KeptTable.{KeptTable}
 use Rattle.recalc.specs.Kept.{IsEvaluated, IsKeptOf}
 use Rattle.affected_values.specs.Altered.{IsCarried}
+use Rattle.known_reads.proofs.BesideLemmas.{knows_others, none_stale}
+use Rattle.known_reads.proofs.KnownLemmas.{at_err}
 use Rattle.evaluated_doc.proofs.AlteredLemmas.{altered_more, formula_same, reads_but, right_but, with_more}
 use Rattle.evaluated_doc.proofs.SpentLemmas.{altered_affected, spent}
 use Rattle.evaluated_doc.proofs.altering.refresh_altered.Goals as goal
@@ -33,13 +35,13 @@ refresh_recording-requires-clause-reads g c =
 
 pub returns-clause-spent : goal.returns-clause-spent
 returns-clause-spent g c = λ s is.
-    spent s (g.D.DocReader.document c.args.tables.now) c.args.action.now c.push_altered_cells.new.cells.items c.args.steps.now c.refresh_recording.new.steps is.altered.ok is.altered.done
+    spent s (g.D.DocReader.document c.args.tables.now) c.args.action.now c.args.reads.now is.reads c.push_altered_cells.new.cells.items c.args.steps.now c.refresh_recording.new.steps is.altered.ok is.altered.done
     (altered_affected c.altered_law.ensures s (g.D.DocReader.document c.args.tables.now) c.args.action.now c.args.altered.cells.items c.push_altered_cells.new.cells.items is.altered is.found.only c.in_ok-push_altered_cells.ensures.only)
     c.refresh_recording.ensures.named
 
 pub returns-in_err-done-clause-spent : goal.returns-in_err-done-clause-spent
 returns-in_err-done-clause-spent g c = λ s is.
-    spent s (g.D.DocReader.document c.args.tables.now) c.args.action.now c.push_altered_cells.new.cells.items c.args.steps.now c.refresh_recording.new.steps is.altered.ok is.altered.done
+    spent s (g.D.DocReader.document c.args.tables.now) c.args.action.now c.args.reads.now is.reads c.push_altered_cells.new.cells.items c.args.steps.now c.refresh_recording.new.steps is.altered.ok is.altered.done
     (altered_affected c.altered_law.ensures s (g.D.DocReader.document c.args.tables.now) c.args.action.now c.args.altered.cells.items c.push_altered_cells.new.cells.items is.altered is.found.only c.in_ok-push_altered_cells.ensures.only)
     c.refresh_recording.ensures.named
 
@@ -49,6 +51,9 @@ returns-clause-way g c = λ s is.
     let a = c.args.action.now in
     let altered = c.push_altered_cells-2.new.cells.items in (
       subst (λ (v : Vec KeptTable Global). IsEvaluated s v.items) (sym c.replace-before.ensures.value) is.right,
-      c.in_ok-done.ensures.renewed s is.others is.none (λ d other. ap is_some
+      c.in_ok-done.ensures.renewed s (knows_others s c.args.reads.now is.reads) (none_stale c.args.reads.now is.reads.none is.recorded) (λ d other. ap is_some
           (formula_same c.altered_law.ensures s now a is.altered altered (altered_more s a c.args.altered.altered.items altered is.found.altered c.in_ok-push_altered_cells-2.ensures.stays) c.in_ok-push_altered_cells-2.ensures.pushed d other)),
     )
+
+pub returns-in_err-done-clause-err : goal.returns-in_err-done-clause-err
+returns-in_err-done-clause-err g c = at_err c.from_residual-in_err-done.result (λ s is. (is.right, c.in_err-done.ensures.unknown s))

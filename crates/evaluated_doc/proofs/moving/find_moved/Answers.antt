@@ -1,4 +1,4 @@
-use Rattle.std.proofs.Common.{◌≡◌, true, ◌∙◌, sym, ap, subst}
+use Rattle.std.proofs.Common.{◌≡◌, true, false, ◌∙◌, sym, ap, subst}
 use Rattle.cell_types.specs.declared.cell.CellId.{CellId}
 use Rattle.doc_model.specs.Rows.{IsAscending}
 use Rattle.doc_readers.specs.Parts.{grid_at}
@@ -10,7 +10,8 @@ use Rattle.affected_search.specs.ExactNotes.{HasNotes}
 use Rattle.affected_search.specs.Noted.{HoldsNotes}
 use Rattle.affected_search.specs.Sheets.{is_found}
 use Rattle.affected_values.specs.Carried.{HasCellsWith}
-use Rattle.evaluated_doc.proofs.SpentLemmas.{named_affected}
+use Rattle.affected_search.proofs.ExactNotes.{exact}
+use Rattle.evaluated_doc.proofs.SpentLemmas.{named_affected, not_true}
 use Rattle.evaluated_doc.proofs.moving.find_moved.Goals as goal
 
 pub returns-clause-found : goal.returns-clause-found
@@ -19,16 +20,17 @@ returns-clause-found g c =
     let a = c.args.action.now in
     let t = c.args.table.now in
     let rows = c.args.rows.now in
-    let graph = c.make_right.new.self.graph in
+    let graph = c.args.reads.now.graph in
     let found = c.in_ok-found.found in
     let same = c.found_by_records.ensures.same in
-    let held : HoldsNotes c.graph.result.now (sheet_of s) = subst (λ gr. HoldsNotes gr (sheet_of s)) (sym c.graph.ensures) c.in_ok-make_right.ensures.ok in
-    let has : HasNotes c.graph.result.now (sheet_of s) = subst (λ gr. HasNotes gr (sheet_of s)) (sym c.graph.ensures) c.in_ok-make_right.ensures.exact in
-    let finds : FindsAffected s c.graph-2.result.now a found = subst (λ gr. FindsAffected s gr a found) (c.graph.ensures ∙ sym c.graph-2.ensures) (c.in_ok-found.ensures.only has) in
-    let keeps : KeepsOthers s graph a found = subst (λ gr. KeepsOthers s gr a found) c.graph.ensures (c.in_ok-found.ensures.others held) in
+    let all : c.args.reads.now.are_all_stale ≡ false = not_true c.args.reads.now.are_all_stale (sym c.is_known.ensures ∙ c.if-not-is_known.false) in
+    let has : HasNotes graph (sheet_of s) = c.requires.known.each all in
+    let held : HoldsNotes c.graph.result.now (sheet_of s) = subst (λ gr. HoldsNotes gr (sheet_of s)) (sym c.graph.ensures) (exact graph (sheet_of s) has).0 in
+    let finds : FindsAffected s c.graph-2.result.now a found = subst (λ gr. FindsAffected s gr a found) (c.graph.ensures ∙ sym c.graph-2.ensures)
+    (c.in_ok-found.ensures.only (subst (λ gr. HasNotes gr (sheet_of s)) (sym c.graph.ensures) has)) in
     record {
-      keeps = subst (λ gr. KeepsOthers s gr a found) (sym c.reserve.ensures.graph) keeps;
-      noted = subst (λ gr. (d : CellId) → is_found gr found d ≡ true → on c.in_ok-noted.noted.items d ≡ true) (c.graph-2.ensures ∙ sym c.reserve.ensures.graph) c.in_ok-noted.ensures.found;
+      keeps = subst (λ gr. KeepsOthers s gr a found) c.graph.ensures (c.in_ok-found.ensures.others held);
+      noted = subst (λ gr. (d : CellId) → is_found gr found d ≡ true → on c.in_ok-noted.noted.items d ≡ true) c.graph-2.ensures c.in_ok-noted.ensures.found;
       only = named_affected s a c.graph-2.result.now found c.in_ok-noted.noted.items finds c.in_ok-noted.ensures.only;
       moved = subst (λ d. HasCellsWith (grid_at d t).columns t rows c.in_ok-moved.moved.items) same c.in_ok-moved.ensures;
       were = c.in_ok-rows.ensures.items ∙ c.rows_in.ensures.value ∙ ap (λ d. (grid_at d t).rows) same;

@@ -1,4 +1,4 @@
-use Rattle.std.proofs.Common.{◌≡◌, true, sym, ◌∙◌, subst}
+use Rattle.std.proofs.Common.{◌≡◌, true, false, sym, ◌∙◌, subst}
 use Rattle.cell_types.specs.declared.cell.CellId.{CellId}
 use Rattle.recalc.specs.Evaluated.{sheet_of}
 use Rattle.recalc.specs.Stack.{on}
@@ -7,21 +7,25 @@ use Rattle.affected_search.specs.ByAction.{FindsAffected}
 use Rattle.affected_search.specs.ExactNotes.{HasNotes}
 use Rattle.affected_search.specs.Noted.{HoldsNotes}
 use Rattle.affected_search.specs.Sheets.{is_found}
-use Rattle.evaluated_doc.proofs.SpentLemmas.{named_affected}
+use Rattle.affected_search.proofs.ExactNotes.{exact}
+use Rattle.evaluated_doc.proofs.SpentLemmas.{named_affected, not_true}
 use Rattle.evaluated_doc.proofs.updating.find_affected.Goals as goal
 
 pub returns-clause-found : goal.returns-clause-found
 returns-clause-found g c =
     let s = g.D.DocReader.document c.args.tables.now in
     let a = c.args.action.now in
+    let graph = c.args.reads.now.graph in
     let found = c.in_ok-found.found in
     let cells = c.in_ok-cells.cells.items in
-    let held : HoldsNotes c.graph.result.now (sheet_of s) = subst (λ gr. HoldsNotes gr (sheet_of s)) (sym c.graph.ensures) c.in_ok-make_right.ensures.ok in
-    let has : HasNotes c.graph.result.now (sheet_of s) = subst (λ gr. HasNotes gr (sheet_of s)) (sym c.graph.ensures) c.in_ok-make_right.ensures.exact in
-    let keeps : KeepsOthers s c.reserve.new.self.graph a found = subst (λ gr. KeepsOthers s gr a found) (c.graph.ensures ∙ sym c.reserve.ensures.graph) (c.in_ok-found.ensures.others held) in
-    let finds : FindsAffected s c.graph-2.result.now a found = subst (λ gr. FindsAffected s gr a found) (c.graph.ensures ∙ sym c.graph-2.ensures) (c.in_ok-found.ensures.only has) in
+    let all : c.args.reads.now.are_all_stale ≡ false = not_true c.args.reads.now.are_all_stale (sym c.is_known.ensures ∙ c.if-not-is_known.false) in
+    let has : HasNotes graph (sheet_of s) = c.requires.known.each all in
+    let held : HoldsNotes c.graph.result.now (sheet_of s) = subst (λ gr. HoldsNotes gr (sheet_of s)) (sym c.graph.ensures) (exact graph (sheet_of s) has).0 in
+    let keeps : KeepsOthers s graph a found = subst (λ gr. KeepsOthers s gr a found) c.graph.ensures (c.in_ok-found.ensures.others held) in
+    let finds : FindsAffected s c.graph-2.result.now a found = subst (λ gr. FindsAffected s gr a found) (c.graph.ensures ∙ sym c.graph-2.ensures)
+    (c.in_ok-found.ensures.only (subst (λ gr. HasNotes gr (sheet_of s)) (sym c.graph.ensures) has)) in
     record {
       found = keeps;
-      cells = record { found = found; keeps = keeps; named = subst (λ gr. (d : CellId) → is_found gr found d ≡ true → on cells d ≡ true) (c.graph-2.ensures ∙ sym c.reserve.ensures.graph) c.in_ok-cells.ensures.found };
+      cells = record { found = found; keeps = keeps; named = subst (λ gr. (d : CellId) → is_found gr found d ≡ true → on cells d ≡ true) c.graph-2.ensures c.in_ok-cells.ensures.found };
       only = named_affected s a c.graph-2.result.now found cells finds c.in_ok-cells.ensures.only;
     }

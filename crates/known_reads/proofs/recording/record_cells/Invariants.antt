@@ -1,3 +1,4 @@
+use Rattle.std.proofs.Common.{◌+◌, ◌≤◌}
 use Rattle.recalc.specs.Evaluated.{sheet_of}
 use Rattle.recalc.specs.Indexes.{AreIndexes}
 use Rattle.recalc.proofs.Progress.{EachOf}
@@ -8,5 +9,6 @@ abbrev pub invariant-loop-cell : goal.invariant-loop-cell
 invariant-loop-cell g l = record {
   indexed : AreIndexes (sheet_of (g.D.DocReader.document l.tables)) l.indexes.items;
   keeps : KeepsReads (sheet_of (g.D.DocReader.document l.tables)) l.initial.graph l.graph;
+  steps : l.steps ≤ l.initial.steps + l.cell-index;
   read : EachOf (IsRead (g.D.DocReader.document l.tables) l.graph) l.cells l.cell-index;
 }

@@ -25,7 +25,7 @@ returns-in_err-index_lookups-clause-err g c =
     let cell = c.args.cell.now in
     let text = text_there (formula_at s cell) c.requires.there in
     at_err c.from_residual-in_err-index_lookups.result (c.in_ok-notes.ensures.ok (sheet_of s) text.0 text.1
-    (sym (c.as_ref.ensures.value ∙ sym (tree_found ks cell c.in-Some.column.now (sym c.in-Some.ensures)) ∙ tree_kept s ks c.requires.evaluated.of_document cell text.0 text.1))
+    (sym (c.as_ref-tree.ensures.value ∙ sym (tree_found ks cell c.in-Some.column.now (sym c.in-Some.ensures)) ∙ tree_kept s ks c.requires.evaluated.of_document cell text.0 text.1))
     (over_known s ks c.requires.evaluated)).keeps
 
 pub returns-clause-ok : goal.returns-clause-ok
@@ -35,5 +35,5 @@ returns-clause-ok g c =
     let cell = c.args.cell.now in
     let text = text_there (formula_at s cell) c.requires.there in
     c.in_ok-notes.ensures.ok (sheet_of s) text.0 text.1
-    (sym (c.as_ref.ensures.value ∙ sym (tree_found ks cell c.in-Some.column.now (sym c.in-Some.ensures)) ∙ tree_kept s ks c.requires.evaluated.of_document cell text.0 text.1))
+    (sym (c.as_ref-tree.ensures.value ∙ sym (tree_found ks cell c.in-Some.column.now (sym c.in-Some.ensures)) ∙ tree_kept s ks c.requires.evaluated.of_document cell text.0 text.1))
     (over_known s ks c.requires.evaluated)

@@ -3,7 +3,8 @@ use Rattle.recalc.specs.Evaluated.{sheet_of}
 use Rattle.recalc.specs.Kept.{held_at}
 use Rattle.recalc.proofs.Progress.{each_more, further_next}
 use Rattle.affected_values.proofs.RefreshedLemmas.{IsHeldOf, held_stays, taken_known}
-use Rattle.known_reads.proofs.BoundLemmas.{spent_next, spent_within, within_next}
+use Rattle.known_reads.specs.Attempts.{due}
+use Rattle.known_reads.proofs.BoundLemmas.{due_within, spent_next, spent_within, within_next}
 use Rattle.known_reads.proofs.RecordedLemmas.{recording_next}
 use Rattle.known_reads.proofs.refreshing.settle_each.Goals as goal
 
@@ -26,7 +27,7 @@ loop-held-preserved g c =
       remembered = c.in_ok-settle_cell.ensures.remembered;
       recording = recording_next s (held_at s c.args.kept.now.items) (held_at s c.loop-held.kept.items) (held_at s c.settle_cell.new.kept.items) c.args.reads.now c.loop-held.reads c.settle_cell.new.reads
           c.loop-held.invariant.recording c.settle_cell.ensures.recording;
-      attempts = spent_next (sheet_of s) (held_at s c.args.kept.now.items) (held_at s c.loop-held.kept.items) (held_at s c.settle_cell.new.kept.items) [] [] [] c.args.steps.now c.loop-held.steps c.settle_cell.new.steps
+      attempts = spent_next (sheet_of s) (held_at s c.args.kept.now.items) (held_at s c.loop-held.kept.items) (held_at s c.settle_cell.new.kept.items) [] [] [] (due c.args.steps.now c.args.reads.now) (due c.loop-held.steps c.loop-held.reads) (due c.settle_cell.new.steps c.settle_cell.new.reads)
           c.loop-held.invariant.further.stays c.loop-held.invariant.attempts c.in_ok-settle_cell.ensures.attempts;
     }
 
@@ -38,10 +39,16 @@ returns-clause-known g c =
 pub returns-in_err-settle_cell-clause-attempts : goal.returns-in_err-settle_cell-clause-attempts
 returns-in_err-settle_cell-clause-attempts g c =
     let s = g.D.DocReader.document c.args.tables.now in
-    within_next (sheet_of s) (held_at s c.args.kept.now.items) (held_at s c.loop-held.kept.items) c.args.steps.now c.loop-held.steps c.settle_cell.new.steps
+    within_next (sheet_of s) (held_at s c.args.kept.now.items) (held_at s c.loop-held.kept.items) (due c.args.steps.now c.args.reads.now) (due c.loop-held.steps c.loop-held.reads) c.settle_cell.new.steps
     c.loop-held.invariant.further.stays c.loop-held.invariant.attempts c.settle_cell.ensures.most
 
 pub returns-clause-attempts : goal.returns-clause-attempts
 returns-clause-attempts g c =
     let s = g.D.DocReader.document c.args.tables.now in
-    spent_within (sheet_of s) (held_at s c.args.kept.now.items) (held_at s c.loop-held.kept.items) [] c.args.steps.now c.loop-held.steps refl c.loop-held.invariant.attempts
+    due_within (sheet_of s) (held_at s c.args.kept.now.items) (due c.args.steps.now c.args.reads.now) c.loop-held.steps c.loop-held.reads
+    (spent_within (sheet_of s) (held_at s c.args.kept.now.items) (held_at s c.loop-held.kept.items) [] (due c.args.steps.now c.args.reads.now) (due c.loop-held.steps c.loop-held.reads) refl c.loop-held.invariant.attempts)
+
+pub returns-clause-due : goal.returns-clause-due
+returns-clause-due g c =
+    let s = g.D.DocReader.document c.args.tables.now in
+    spent_within (sheet_of s) (held_at s c.args.kept.now.items) (held_at s c.loop-held.kept.items) [] (due c.args.steps.now c.args.reads.now) (due c.loop-held.steps c.loop-held.reads) refl c.loop-held.invariant.attempts

@@ -5,7 +5,7 @@ use Rattle.recalc.specs.Kept.{IsFurther, held_at}
 use Rattle.recalc.specs.Remembered.{IsRemembered}
 use Rattle.recalc.proofs.Progress.{EachOf}
 use Rattle.affected_values.proofs.RefreshedLemmas.{IsHeldOf}
-use Rattle.known_reads.specs.Attempts.{IsSpent}
+use Rattle.known_reads.specs.Attempts.{IsSpent, due}
 use Rattle.known_reads.specs.Recorded.{IsRecording}
 use Rattle.known_reads.proofs.refreshing.settle_each.Given as goal
 
@@ -17,6 +17,6 @@ invariant-loop-held g l = record {
   remembered : IsRemembered (sheet_of (g.D.DocReader.document l.tables)) l.last;
   recording : IsRecording (g.D.DocReader.document l.tables) (held_at (g.D.DocReader.document l.tables) l.initial.kept.items) l.initial.reads
       (held_at (g.D.DocReader.document l.tables) l.kept.items) l.reads;
-  attempts : IsSpent (sheet_of (g.D.DocReader.document l.tables)) (held_at (g.D.DocReader.document l.tables) l.initial.kept.items) [] l.initial.steps
-      (held_at (g.D.DocReader.document l.tables) l.kept.items) [] l.steps;
+  attempts : IsSpent (sheet_of (g.D.DocReader.document l.tables)) (held_at (g.D.DocReader.document l.tables) l.initial.kept.items) [] (due l.initial.steps l.initial.reads)
+      (held_at (g.D.DocReader.document l.tables) l.kept.items) [] (due l.steps l.reads);
 }

@@ -5,8 +5,8 @@ use Rattle.recalc.specs.declared.kept.KeptTable.{KeptTable}
 use Rattle.recalc.specs.Evaluated.{sheet_of}
 use Rattle.recalc.specs.Kept.{IsFurther, held_at}
 use Rattle.recalc.proofs.Turns.{settling_done, settling_turn}
-use Rattle.known_reads.specs.Attempts.{IsSpent, height}
-use Rattle.known_reads.proofs.BoundLemmas.{some_left, spent_err, spent_next, spent_within}
+use Rattle.known_reads.specs.Attempts.{IsSpent, due, height}
+use Rattle.known_reads.proofs.BoundLemmas.{due_within, some_left, spent_err, spent_next, spent_within}
 use Rattle.known_reads.proofs.CountLemmas.{stack_few}
 use Rattle.known_reads.proofs.RecordedLemmas.{empty_list, recording_next}
 use Rattle.known_reads.proofs.settling.settle_cell.Goals as goal
@@ -24,7 +24,7 @@ settling-preserved g c =
       recording = recording_next s (held_at s c.args.kept.now.items) (held_at s c.settling.kept.items) (held_at s c.turn.new.kept.items) c.args.reads.now c.settling.reads c.turn.new.reads
           c.settling.invariant.recording c.turn.ensures.recording;
       naming = c.in_ok-turn.ensures.naming;
-      attempts = spent_next (sheet_of s) (held_at s c.args.kept.now.items) (held_at s c.settling.kept.items) (held_at s c.turn.new.kept.items) [] c.settling.stack.items c.turn.new.stack.items c.args.steps.now c.settling.steps c.turn.new.steps
+      attempts = spent_next (sheet_of s) (held_at s c.args.kept.now.items) (held_at s c.settling.kept.items) (held_at s c.turn.new.kept.items) [] c.settling.stack.items c.turn.new.stack.items (due c.args.steps.now c.args.reads.now) (due c.settling.steps c.settling.reads) (due c.turn.new.steps c.turn.new.reads)
           c.settling.invariant.stays c.settling.invariant.attempts c.in_ok-turn.ensures.attempts;
     }
 
@@ -54,18 +54,20 @@ returns-in_err-turn-clause-most g c =
     let size : length c.settling.stack.items ≡ vec_len c.settling.stack = search rules in
     let there : 0 < vec_len c.settling.stack = some_left (vec_len c.settling.stack) c.is_empty.result c.is_empty.ensures c.settling-test.true in
     let some : 0 < length c.settling.stack.items = omega (arith, size, there) in
-    spent_err (sheet_of s) (held_at s c.args.kept.now.items) (held_at s c.settling.kept.items) c.settling.stack.items c.args.steps.now c.settling.steps c.turn.new.steps c.settling.invariant.stays some
+    let step = c.turn.ensures.steps in
+    spent_err (sheet_of s) (held_at s c.args.kept.now.items) (held_at s c.settling.kept.items) c.settling.stack.items (due c.args.steps.now c.args.reads.now) (due c.settling.steps c.settling.reads) c.turn.new.steps c.settling.invariant.stays some
     (λ cells has. stack_few (sheet_of s) (held_at s c.settling.kept.items) cells has c.settling.stack.items c.settling.invariant.settling.working.each_open)
-    c.settling.invariant.attempts c.turn.ensures.steps
+    c.settling.invariant.attempts (omega (arith, step))
 
 pub returns-clause-attempts : goal.returns-clause-attempts
 returns-clause-attempts g c =
     let s = g.D.DocReader.document c.args.tables.now in
     let none : length c.settling.stack.items ≡ 0 = search rules in
-    subst (λ l. IsSpent (sheet_of s) (held_at s c.args.kept.now.items) [] c.args.steps.now (held_at s c.settling.kept.items) l c.settling.steps) (empty_list c.settling.stack.items none) c.settling.invariant.attempts
+    subst (λ l. IsSpent (sheet_of s) (held_at s c.args.kept.now.items) [] (due c.args.steps.now c.args.reads.now) (held_at s c.settling.kept.items) l (due c.settling.steps c.settling.reads)) (empty_list c.settling.stack.items none) c.settling.invariant.attempts
 
 pub returns-clause-most : goal.returns-clause-most
 returns-clause-most g c =
     let s = g.D.DocReader.document c.args.tables.now in
     let none : length c.settling.stack.items ≡ 0 = search rules in
-    spent_within (sheet_of s) (held_at s c.args.kept.now.items) (held_at s c.settling.kept.items) c.settling.stack.items c.args.steps.now c.settling.steps (ap height (empty_list c.settling.stack.items none)) c.settling.invariant.attempts
+    due_within (sheet_of s) (held_at s c.args.kept.now.items) (due c.args.steps.now c.args.reads.now) c.settling.steps c.settling.reads
+    (spent_within (sheet_of s) (held_at s c.args.kept.now.items) (held_at s c.settling.kept.items) c.settling.stack.items (due c.args.steps.now c.args.reads.now) (due c.settling.steps c.settling.reads) (ap height (empty_list c.settling.stack.items none)) c.settling.invariant.attempts)

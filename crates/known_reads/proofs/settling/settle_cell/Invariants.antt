@@ -5,7 +5,7 @@ use Rattle.recalc.specs.Kept.{IsKeptOf, held_at}
 use Rattle.recalc.specs.Remembered.{IsRemembered}
 use Rattle.recalc.specs.Stack.{work}
 use Rattle.recalc.specs.Turn.{IsSettling, StaysKnown}
-use Rattle.known_reads.specs.Attempts.{IsNaming, IsSpent}
+use Rattle.known_reads.specs.Attempts.{IsNaming, IsSpent, due}
 use Rattle.known_reads.specs.Recorded.{IsRecording}
 use Rattle.known_reads.proofs.settling.settle_cell.Given as goal
 
@@ -20,8 +20,8 @@ invariant-settling g l = record {
   recording : IsRecording (g.D.DocReader.document l.tables) (held_at (g.D.DocReader.document l.tables) l.initial.kept.items) l.initial.reads
       (held_at (g.D.DocReader.document l.tables) l.kept.items) l.reads;
   naming : IsNaming (sheet_of (g.D.DocReader.document l.tables)) l.stack.items;
-  attempts : IsSpent (sheet_of (g.D.DocReader.document l.tables)) (held_at (g.D.DocReader.document l.tables) l.initial.kept.items) [] l.initial.steps
-      (held_at (g.D.DocReader.document l.tables) l.kept.items) l.stack.items l.steps;
+  attempts : IsSpent (sheet_of (g.D.DocReader.document l.tables)) (held_at (g.D.DocReader.document l.tables) l.initial.kept.items) [] (due l.initial.steps l.initial.reads)
+      (held_at (g.D.DocReader.document l.tables) l.kept.items) l.stack.items (due l.steps l.reads);
 }
 
 abbrev pub decreases-settling : goal.decreases-settling

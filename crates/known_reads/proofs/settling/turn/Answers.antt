@@ -1,15 +1,15 @@
-use Rattle.std.proofs.Common.{[], ◌∷◌, ◌++◌, sym, ap, ◌∙◌, subst}
+use Rattle.std.proofs.Common.{[], ◌∷◌, ◌++◌, length, sym, ap, ◌∙◌, subst, arith}
 use Rattle.cell_types.specs.declared.value.CellValue.TheVariants.{Err}
 use Rattle.cell_types.specs.declared.value.ErrKind.TheVariants.{Circular}
 use Rattle.recalc.specs.Evaluated.{sheet_of}
 use Rattle.recalc.specs.Kept.{held_at}
-use Rattle.recalc.specs.Stack.{IsOpen}
+use Rattle.recalc.specs.Stack.{IsChain, IsOpen}
 use Rattle.recalc.proofs.Turns.{put_stays, turn_open, turn_value, turn_circular, turn_push}
+use Rattle.recalc.proofs.Moves.{circular_top}
 use Rattle.recalc.proofs.SheetLemmas.{is_sheet}
-use Rattle.known_reads.specs.Attempts.{IsNaming}
+use Rattle.known_reads.specs.Attempts.{IsNaming, due}
 use Rattle.known_reads.specs.Recorded.{IsTold}
-use Rattle.known_reads.proofs.BoundLemmas.{naming_front, naming_push, push_spent, put_spent}
-use Rattle.known_reads.proofs.CountLemmas.{open_less}
+use Rattle.known_reads.proofs.BoundLemmas.{close_spent, naming_front, naming_push, push_spent, put_spent}
 use Rattle.known_reads.proofs.RecordedLemmas.{noted_same, recording_put}
 use Rattle.known_reads.proofs.settling.turn.Goals as goal
 
@@ -73,7 +73,7 @@ returns-in-Value-clause-recording g c =
     let s = g.D.DocReader.document c.args.tables.now in
     let told = subst (λ l. IsTold (sheet_of s) (held_at s l) c.in-Some.top c.in_ok-value.field-0) c.deref.ensures.value c.in_ok-value.ensures.told in
     recording_put s (held_at s c.args.kept.now.items) (held_at s c.put_value.new.kept.items) c.args.reads.now c.keep_notes.new.self c.in-Some.top c.in-Value.value c.put_value.ensures.put
-    (c.keep_notes.ensures (sheet_of s) (rw c.in-Value.is at told).1)
+    (c.keep_notes.ensures.noted (sheet_of s) (rw c.in-Value.is at told).1)
 
 pub returns-in-Value-clause-naming : goal.returns-in-Value-clause-naming
 returns-in-Value-clause-naming g c =
@@ -98,8 +98,10 @@ returns-in-Value-clause-attempts g c =
     let k = held_at s c.args.kept.now.items in
     let j = held_at s c.put_value.new.kept.items in
     let opened = turn_open (sheet_of s) (is_sheet s) k c.args.stack.now.items c.pop.new.self.items c.in-Some.top c.in-Some.ensures.items c.requires.working in
-    put_spent (sheet_of s) k j c.in-Some.top c.in-Value.value c.put_value.ensures.put opened (open_less (sheet_of s) k j c.in-Some.top c.in-Value.value c.put_value.ensures.put opened)
-    c.pop.new.self.items c.args.stack.now.items c.in-Some.ensures.items c.requires.working.each_open c.requires.naming c.args.steps.now c.try_cell.new.steps c.try_cell.ensures.steps
+    let same = ap length c.keep_notes.ensures.list in
+    let step = c.try_cell.ensures.steps in
+    put_spent (sheet_of s) k j c.in-Some.top c.in-Value.value c.put_value.ensures.put opened c.pop.new.self.items c.args.stack.now.items c.in-Some.ensures.items c.requires.working.each_open c.requires.naming
+    (due c.args.steps.now c.args.reads.now) (due c.try_cell.new.steps c.keep_notes.new.self) (omega (arith, step, same))
 
 pub returns-then-is_on-clause-attempts : goal.returns-then-is_on-clause-attempts
 returns-then-is_on-clause-attempts g c =
@@ -107,11 +109,18 @@ returns-then-is_on-clause-attempts g c =
     let k = held_at s c.args.kept.now.items in
     let j = held_at s c.put_value-then-is_on.new.kept.items in
     let opened = turn_open (sheet_of s) (is_sheet s) k c.args.stack.now.items c.pop.new.self.items c.in-Some.top c.in-Some.ensures.items c.requires.working in
-    put_spent (sheet_of s) k j c.in-Some.top (Err Circular) c.put_value-then-is_on.ensures.put opened (open_less (sheet_of s) k j c.in-Some.top (Err Circular) c.put_value-then-is_on.ensures.put opened)
-    c.pop.new.self.items c.args.stack.now.items c.in-Some.ensures.items c.requires.working.each_open c.requires.naming c.args.steps.now c.try_cell.new.steps c.try_cell.ensures.steps
+    let told = subst (λ l. IsTold (sheet_of s) (held_at s l) c.in-Some.top c.in_ok-value.field-0) c.deref.ensures.value c.in_ok-value.ensures.told in
+    let waits = rw c.in-Need.is at told in
+    let circular = circular_top (sheet_of s) c.pop.new.self.items c.in-Some.top c.in-Need.cell (subst (IsChain (sheet_of s)) c.in-Some.ensures.items c.requires.working.chain) waits.0
+    (sym (rw c.deref-in-Need.ensures.value at c.is_on.ensures) ∙ c.if-is_on.true) in
+    let more = c.add_stale.ensures.list in
+    let step = c.try_cell.ensures.steps in
+    close_spent (sheet_of s) k j c.in-Some.top (Err Circular) c.put_value-then-is_on.ensures.put opened circular c.in-Need.cell waits.1 waits.2 c.pop.new.self.items c.args.stack.now.items c.in-Some.ensures.items
+    c.requires.working.each_open c.requires.naming (due c.args.steps.now c.args.reads.now) (due c.try_cell.new.steps c.add_stale.new.self) (omega (arith, step, more))
 
 pub returns-in_ok-push-in-Need-2-clause-attempts : goal.returns-in_ok-push-in-Need-2-clause-attempts
 returns-in_ok-push-in-Need-2-clause-attempts g c =
     let s = g.D.DocReader.document c.args.tables.now in
+    let step = c.try_cell.ensures.steps in
     push_spent (sheet_of s) (held_at s c.args.kept.now.items) c.pop.new.self.items c.args.stack.now.items c.push.new.self.items c.push-in-Need.new.self.items c.in-Some.top c.in-Need.cell
-    c.in-Some.ensures.items c.in_ok-push-in-Need.ensures.items c.in_ok-push-in-Need-2.ensures.items c.args.steps.now c.try_cell.new.steps c.try_cell.ensures.steps
+    c.in-Some.ensures.items c.in_ok-push-in-Need.ensures.items c.in_ok-push-in-Need-2.ensures.items (due c.args.steps.now c.args.reads.now) (due c.try_cell.new.steps c.args.reads.now) (omega (arith, step))

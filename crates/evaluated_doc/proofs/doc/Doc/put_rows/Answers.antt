@@ -12,7 +12,7 @@ use Rattle.recalc.specs.Kept.{IsEvaluated}
 use Rattle.recalc.specs.Lost.{all_cells, is_lost, lost}
 use Rattle.affected_search.specs.Narrow.{is_narrow}
 use Rattle.affected_values.specs.Indexing.{AreLeft}
-use Rattle.known_reads.specs.Beside.{KnowsOthers}
+use Rattle.known_reads.specs.Beside.{KnowsReads}
 use Rattle.evaluated_doc.specs.Gone.{IsGone}
 use Rattle.evaluated_doc.proofs.GoneLemmas.{is_gone}
 use Rattle.evaluated_doc.specs.Moved.{IsMoving}
@@ -43,7 +43,7 @@ returns-clause-cells g c =
     let next = g.D.DocReader.document c.put.new.self in
     let a = c.args.action.now in
     let ok : valid s a ≡ true = subst (λ d. valid (g.D.DocReader.document d) a ≡ true) (sym c.self.view_is) c.requires.valid in
-    let graph = c.find_moved-found.new.reads.graph in
+    let graph = c.self.inside.reads.graph in
     let x = c.in-Ok.moved in
     subst (λ d. c.keep_lost.new.cells.items ≡ lost (g.D.DocReader.document d) next a) c.self.view_is
     (c.keep_lost.ensures ∙ ap (filter (is_lost (filled next) a)) (c.in_ok-cells.ensures ∙ ap (λ gr. filter (is_narrow gr x.found (filled (g.D.DocReader.document c.find_moved-found.new.tables)) a) (all_cells (filled (g.D.DocReader.document c.find_moved-found.new.tables)))) c.graph.ensures
@@ -52,28 +52,28 @@ returns-clause-cells g c =
 
 pub invariant_of-self : goal.invariant_of-self
 invariant_of-self g c =
-    subst (λ d. IsWhole d × IsCurrent d (option_map (λ (v : Vec KeptTable Global). v.items) c.self.inside.kept) × KnowsOthers d c.find_moved-found.new.reads × AreIndexes (sheet_of d) c.take_indexes-indexes.new.indexes.items) (sym c.find_moved-found.ensures.same)
-    (c.self.invariant.0, c.self.invariant.1, c.find_moved-found.ensures.others, c.take_indexes-indexes.ensures.left (sheet_of (g.D.DocReader.document c.self.inside.tables)))
+    subst (λ d. IsWhole d × IsCurrent d (option_map (λ (v : Vec KeptTable Global). v.items) c.self.inside.kept) × KnowsReads d c.self.inside.reads × AreIndexes (sheet_of d) c.take_indexes-indexes.new.indexes.items) (sym c.find_moved-found.ensures.same)
+    (c.self.invariant.0, c.self.invariant.1, c.self.invariant.2, c.take_indexes-indexes.ensures.left (sheet_of (g.D.DocReader.document c.self.inside.tables)))
 
 pub invariant_of-self-in-Err-NoMemory : goal.invariant_of-self-in-Err-NoMemory
 invariant_of-self-in-Err-NoMemory g c =
-    subst (λ d. IsWhole d × IsCurrent d (option_map (λ (v : Vec KeptTable Global). v.items) c.self.inside.kept) × KnowsOthers d c.find_moved-found.new.reads × AreIndexes (sheet_of d) c.take_indexes-indexes.new.indexes.items) (sym c.find_moved-found.ensures.same)
-    (c.self.invariant.0, c.self.invariant.1, c.find_moved-found.ensures.others, c.take_indexes-indexes.ensures.left (sheet_of (g.D.DocReader.document c.self.inside.tables)))
+    subst (λ d. IsWhole d × IsCurrent d (option_map (λ (v : Vec KeptTable Global). v.items) c.self.inside.kept) × KnowsReads d c.self.inside.reads × AreIndexes (sheet_of d) c.take_indexes-indexes.new.indexes.items) (sym c.find_moved-found.ensures.same)
+    (c.self.invariant.0, c.self.invariant.1, c.self.invariant.2, c.take_indexes-indexes.ensures.left (sheet_of (g.D.DocReader.document c.self.inside.tables)))
 
 pub invariant_of-self-2 : goal.invariant_of-self-2
 invariant_of-self-2 g c =
-    subst (λ d. IsWhole d × IsCurrent d (option_map (λ (v : Vec KeptTable Global). v.items) c.self.inside.kept) × KnowsOthers d c.find_moved-found.new.reads × AreIndexes (sheet_of d) c.take_indexes-indexes.new.indexes.items) (sym c.find_moved-found.ensures.same)
-    (c.self.invariant.0, c.self.invariant.1, c.find_moved-found.ensures.others, c.take_indexes-indexes.ensures.left (sheet_of (g.D.DocReader.document c.self.inside.tables)))
+    subst (λ d. IsWhole d × IsCurrent d (option_map (λ (v : Vec KeptTable Global). v.items) c.self.inside.kept) × KnowsReads d c.self.inside.reads × AreIndexes (sheet_of d) c.take_indexes-indexes.new.indexes.items) (sym c.find_moved-found.ensures.same)
+    (c.self.invariant.0, c.self.invariant.1, c.self.invariant.2, c.take_indexes-indexes.ensures.left (sheet_of (g.D.DocReader.document c.self.inside.tables)))
 
 pub invariant_of-self-in_err-cells : goal.invariant_of-self-in_err-cells
 invariant_of-self-in_err-cells g c =
-    subst (λ d. IsWhole d × IsCurrent d (option_map (λ (v : Vec KeptTable Global). v.items) c.self.inside.kept) × KnowsOthers d c.find_moved-found.new.reads × AreIndexes (sheet_of d) c.take_indexes-indexes.new.indexes.items) (sym c.find_moved-found.ensures.same)
-    (c.self.invariant.0, c.self.invariant.1, c.find_moved-found.ensures.others, c.take_indexes-indexes.ensures.left (sheet_of (g.D.DocReader.document c.self.inside.tables)))
+    subst (λ d. IsWhole d × IsCurrent d (option_map (λ (v : Vec KeptTable Global). v.items) c.self.inside.kept) × KnowsReads d c.self.inside.reads × AreIndexes (sheet_of d) c.take_indexes-indexes.new.indexes.items) (sym c.find_moved-found.ensures.same)
+    (c.self.invariant.0, c.self.invariant.1, c.self.invariant.2, c.take_indexes-indexes.ensures.left (sheet_of (g.D.DocReader.document c.self.inside.tables)))
 
 pub invariant_of-self-in_err-undo : goal.invariant_of-self-in_err-undo
 invariant_of-self-in_err-undo g c =
-    subst (λ d. IsWhole d × IsCurrent d (option_map (λ (v : Vec KeptTable Global). v.items) c.self.inside.kept) × KnowsOthers d c.find_moved-found.new.reads × AreIndexes (sheet_of d) c.take_indexes-indexes.new.indexes.items) (sym (c.in_err-undo.ensures.err ∙ c.find_moved-found.ensures.same))
-    (c.self.invariant.0, c.self.invariant.1, c.find_moved-found.ensures.others, c.take_indexes-indexes.ensures.left (sheet_of (g.D.DocReader.document c.self.inside.tables)))
+    subst (λ d. IsWhole d × IsCurrent d (option_map (λ (v : Vec KeptTable Global). v.items) c.self.inside.kept) × KnowsReads d c.self.inside.reads × AreIndexes (sheet_of d) c.take_indexes-indexes.new.indexes.items) (sym (c.in_err-undo.ensures.err ∙ c.find_moved-found.ensures.same))
+    (c.self.invariant.0, c.self.invariant.1, c.self.invariant.2, c.take_indexes-indexes.ensures.left (sheet_of (g.D.DocReader.document c.self.inside.tables)))
 
 pub refresh_moved-done-requires-clause-moving : goal.refresh_moved-done-requires-clause-moving
 refresh_moved-done-requires-clause-moving g c =
@@ -82,14 +82,14 @@ refresh_moved-done-requires-clause-moving g c =
     let a = c.args.action.now in
     let ok : valid s a ≡ true = subst (λ d. valid (g.D.DocReader.document d) a ≡ true) (sym c.self.view_is) c.requires.valid in
     let done : next ≡ apply s a = c.in_ok-undo.ensures.done ∙ ap (λ d. apply d a) c.find_moved-found.ensures.same in
-    let before : IsEvaluated s c.in-Some-kept.kept.items = rw c.in-Some-kept.is at c.self.invariant.1 in
-    let moving : IsMoving s next c.args.table.now c.args.rows.now c.in-Some-kept.kept.items c.find_moved-found.new.reads c.in-Ok.moved = record {
+    let before : IsEvaluated s c.in-Some.kept.items = rw c.in-Some.is at c.self.invariant.1 in
+    let moving : IsMoving s next c.args.table.now c.args.rows.now c.in-Some.kept.items c.self.inside.reads c.in-Ok.moved = record {
       moved = record { whole = c.self.invariant.0; action = a; moved = c.requires.table; ok = ok; done = done };
       these = c.requires.rows;
       found = c.in-Ok.ensures.found;
       right = before;
-      others = c.find_moved-found.ensures.others;
-      none = c.in-Ok.ensures.none;
+      reads = c.self.invariant.2;
+      recorded = c.in-Ok.ensures.each;
     } in
     (s, moving)
 
@@ -100,17 +100,17 @@ invariant_of-self-in_default-done g c =
     let a = c.args.action.now in
     let ok : valid s a ≡ true = subst (λ d. valid (g.D.DocReader.document d) a ≡ true) (sym c.self.view_is) c.requires.valid in
     let done : next ≡ apply s a = c.in_ok-undo.ensures.done ∙ ap (λ d. apply d a) c.find_moved-found.ensures.same in
-    let before : IsEvaluated s c.in-Some-kept.kept.items = rw c.in-Some-kept.is at c.self.invariant.1 in
-    let moving : IsMoving s next c.args.table.now c.args.rows.now c.in-Some-kept.kept.items c.find_moved-found.new.reads c.in-Ok.moved = record {
+    let before : IsEvaluated s c.in-Some.kept.items = rw c.in-Some.is at c.self.invariant.1 in
+    let moving : IsMoving s next c.args.table.now c.args.rows.now c.in-Some.kept.items c.self.inside.reads c.in-Ok.moved = record {
       moved = record { whole = c.self.invariant.0; action = a; moved = c.requires.table; ok = ok; done = done };
       these = c.requires.rows;
       found = c.in-Ok.ensures.found;
       right = before;
-      others = c.find_moved-found.ensures.others;
-      none = c.in-Ok.ensures.none;
+      reads = c.self.invariant.2;
+      recorded = c.in-Ok.ensures.each;
     } in
     let left = c.in_default-done.ensures.err s moving in
-    subst (λ d. IsWhole d × IsEvaluated d c.refresh_moved-done.new.kept.items × KnowsOthers d c.refresh_moved-done.new.reads × AreIndexes (sheet_of d) c.take_indexes-indexes.new.indexes.items) (sym (c.take_back.ensures ∙ c.in_ok-undo.ensures.back ∙ c.find_moved-found.ensures.same))
+    subst (λ d. IsWhole d × IsEvaluated d c.refresh_moved-done.new.kept.items × KnowsReads d c.refresh_moved-done.new.reads × AreIndexes (sheet_of d) c.take_indexes-indexes.new.indexes.items) (sym (c.take_back.ensures ∙ c.in_ok-undo.ensures.back ∙ c.find_moved-found.ensures.same))
     (c.self.invariant.0, left.0, left.1, c.take_indexes-indexes.ensures.left (sheet_of s))
 
 pub invariant_of-self-3 : goal.invariant_of-self-3
@@ -132,14 +132,14 @@ returns-clause-way g c =
     let a = c.args.action.now in
     let ok : valid s a ≡ true = subst (λ d. valid (g.D.DocReader.document d) a ≡ true) (sym c.self.view_is) c.requires.valid in
     let done : next ≡ apply s a = c.in_ok-undo.ensures.done ∙ ap (λ d. apply d a) c.find_moved-found.ensures.same in
-    let before : IsEvaluated s c.in-Some-kept.kept.items = rw c.in-Some-kept.is at c.self.invariant.1 in
-    let moving : IsMoving s next c.args.table.now c.args.rows.now c.in-Some-kept.kept.items c.find_moved-found.new.reads c.in-Ok.moved = record {
+    let before : IsEvaluated s c.in-Some.kept.items = rw c.in-Some.is at c.self.invariant.1 in
+    let moving : IsMoving s next c.args.table.now c.args.rows.now c.in-Some.kept.items c.self.inside.reads c.in-Ok.moved = record {
       moved = record { whole = c.self.invariant.0; action = a; moved = c.requires.table; ok = ok; done = done };
       these = c.requires.rows;
       found = c.in-Ok.ensures.found;
       right = before;
-      others = c.find_moved-found.ensures.others;
-      none = c.in-Ok.ensures.none;
+      reads = c.self.invariant.2;
+      recorded = c.in-Ok.ensures.each;
     } in
     record {
       fit = c.in_ok-undo.ensures.fit;
@@ -155,14 +155,14 @@ returns-clause-spent g c =
     let a = c.args.action.now in
     let ok : valid s a ≡ true = subst (λ d. valid (g.D.DocReader.document d) a ≡ true) (sym c.self.view_is) c.requires.valid in
     let done : next ≡ apply s a = c.in_ok-undo.ensures.done ∙ ap (λ d. apply d a) c.find_moved-found.ensures.same in
-    let before : IsEvaluated s c.in-Some-kept.kept.items = rw c.in-Some-kept.is at c.self.invariant.1 in
-    let moving : IsMoving s next c.args.table.now c.args.rows.now c.in-Some-kept.kept.items c.find_moved-found.new.reads c.in-Ok.moved = record {
+    let before : IsEvaluated s c.in-Some.kept.items = rw c.in-Some.is at c.self.invariant.1 in
+    let moving : IsMoving s next c.args.table.now c.args.rows.now c.in-Some.kept.items c.self.inside.reads c.in-Ok.moved = record {
       moved = record { whole = c.self.invariant.0; action = a; moved = c.requires.table; ok = ok; done = done };
       these = c.requires.rows;
       found = c.in-Ok.ensures.found;
       right = before;
-      others = c.find_moved-found.ensures.others;
-      none = c.in-Ok.ensures.none;
+      reads = c.self.invariant.2;
+      recorded = c.in-Ok.ensures.each;
     } in
     subst (λ d. HasSpent (g.D.DocReader.document d) a c.in-Ok-done.before c.args.steps.now c.refresh_moved-done.new.steps) c.self.view_is
     (spent_any s a c.in-Ok-done.before c.args.steps.now c.refresh_moved-done.new.steps c.in-Ok-done.ensures.part (c.refresh_moved-done.ensures.spent s moving))

@@ -10,7 +10,7 @@ use Rattle.recalc.specs.Indexes.{AreIndexes}
 use Rattle.recalc.specs.Lost.{all_cells, lost}
 use Rattle.recalc.specs.MayLose.{may_lose}
 use Rattle.recalc.proofs.MayLoseCells.{plain_kept}
-use Rattle.known_reads.specs.Beside.{KnowsOthers}
+use Rattle.known_reads.specs.Beside.{KnowsReads}
 use Rattle.evaluated_doc.specs.declared.trace.Before.TheVariants.{Whole}
 use Rattle.evaluated_doc.specs.Spent.{HasSpent}
 use Rattle.evaluated_doc.proofs.StartLemmas.{whole_spent}
@@ -25,7 +25,7 @@ watched_cells-requires g c none =
 pub invariant_of-self-in_default : goal.invariant_of-self-in_default
 invariant_of-self-in_default g c =
     let s = g.D.DocReader.document c.self.inside.tables in
-    subst (λ d. IsWhole d × IsCurrent d (option_map (λ (v : Vec KeptTable Global). v.items) c.self.inside.kept) × KnowsOthers d c.self.inside.reads × AreIndexes (sheet_of d) c.self.inside.indexes.items)
+    subst (λ d. IsWhole d × IsCurrent d (option_map (λ (v : Vec KeptTable Global). v.items) c.self.inside.kept) × KnowsReads d c.self.inside.reads × AreIndexes (sheet_of d) c.self.inside.indexes.items)
     (sym (c.take_back.ensures ∙ c.in_ok-back.ensures.back)) (c.self.invariant.0, c.self.invariant.1, c.self.invariant.2, c.self.invariant.3)
 
 pub invariant_of-self-2 : goal.invariant_of-self-2

@@ -66,11 +66,15 @@ fn are_found(alloc: Global, bucket: u64, rows: &[u32]) -> Result<bool, AllocErro
     Ok(graph.rows_of(read, column_of(alloc, &graph, "Total")?) == rows)
 }
 
-fn columns_found(alloc: Global, row: u32) -> Result<usize, AllocError> {
+// How many cells of the first column that is told read the amount in this row.
+fn readers_found(alloc: Global, row: u32) -> Result<usize, AllocError> {
     let graph = graph_of(alloc)?;
     let column = column_of(alloc, &graph, "Amount")?;
     let read = ReadNumber::Cell(CellNumber { column, row });
-    Ok(graph.columns_of(read).len())
+    match graph.columns_of(read).first() {
+        Some(column) => Ok(graph.rows_of(read, *column).len()),
+        None => Ok(0),
+    }
 }
 
 #[test]
@@ -82,6 +86,6 @@ fn finds_the_cells_that_look_a_value_up(rt: HostRuntime) {
             row.0
         );
     }
-    assert!(rt; columns_found(rt.alloc(), 1) == Ok(1));
-    assert!(rt; columns_found(rt.alloc(), 4) == Ok(0));
+    assert!(rt; readers_found(rt.alloc(), 1) == Ok(1));
+    assert!(rt; readers_found(rt.alloc(), 4) == Ok(0));
 }

@@ -1,6 +1,6 @@
 //! Texts that grow up to the bound of a text in a cell.
 
-ghost use Rattle.std.specs.Prelude.{◌≡◌, ◌≤◌, ◌++◌, [], map, length, string_bytes, codes};
+ghost use Rattle.std.specs.Prelude.{IfOk, ◌≡◌, ◌≤◌, ◌++◌, [], map, length, string_bytes, codes};
 ghost use Rattle.std.specs.Fmt.{decimal, signed_decimal};
 ghost use Rattle.cell_types.specs.TextBound.{Adds, text_bound};
 ghost use Rattle.cell_types.specs.ValueText.{item_text, row_text, date_text, bool_text, comma_joined, after_commas, value_text};
@@ -60,11 +60,11 @@ impl BoundedText {
     }
 
     /// The text, which is within the bound.
-    pub fn into_text(self) -> CellText
-        ensures value { result ≡ self }
+    pub fn into_text(self) -> Result<CellText, AllocError>
+        ensures value { IfOk result (λ t. t ≡ self) }
         ensures bound { length self ≤ text_bound }
     {
-        CellText::from(self.text)
+        CellText::from_string(self.text)
     }
 
     /// Adds a piece; at an error the text may have any part of it.

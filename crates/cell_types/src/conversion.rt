@@ -28,12 +28,12 @@ pub fn convert(alloc: Global, ty: &ColType, value: &CellValue) -> Result<CellVal
 /// What a new cell of a column of the type holds.
 ///
 /// Memory: none.
-pub fn default_of(alloc: Global, ty: &ColType) -> CellValue
+pub fn default_of(ty: &ColType) -> CellValue
     ensures { result ≡ default_value ty.now }
 {
     match ty {
         ColType::Any | ColType::Date | ColType::RefList(_) => CellValue::Null,
-        ColType::Text => CellValue::Text(CellText::empty(alloc)),
+        ColType::Text => CellValue::Text(CellText::empty()),
         ColType::Int | ColType::Ref(_) => CellValue::Int(0),
         ColType::Bool => CellValue::Bool(false),
     }
@@ -52,7 +52,7 @@ pub(crate) fn shown(alloc: Global, ty: &ColType, value: &CellValue) -> Result<Ce
 {
     match text_of(alloc, value)? {
         Some(text) => Ok(CellValue::Text(text)),
-        None => Ok(default_of(alloc, ty)),
+        None => Ok(default_of(ty)),
     }
 }
 

@@ -11,86 +11,91 @@ use crate::{Same, Sequence};
 use std::alloc::{AllocError, Global};
 use std::cmp::Ordering;
 use std::marker::Model;
+use std::sync::ArcStr;
 
 /// A text of any length. Contracts see its bytes; they are UTF-8.
+///
+/// A text shares its bytes with its copies, so that a copy takes no memory.
 #[derive(Clone, Debug, Drop)]
 pub struct CellText {
-    text: String,
+    // Nothing where the text has no bytes.
+    shared: Option<ArcStr>,
 }
 
 /// Texts in order.
 pub type TextList = Sequence<CellText>;
 
 impl Model for CellText {
-    ghost use Rattle.std.specs.Prelude.{List, ℕ, string_bytes};
+    ghost use Rattle.std.specs.Prelude.{List, ℕ, []};
+    ghost use Rattle.std.specs.Arc.{arc_str_bytes};
+    ghost use Rattle.std.specs.Option.{option_map_or};
 
     ghost Value = { List ℕ };
 
-    ghost view = { λ t. string_bytes t.text };
+    ghost view = { λ t. option_map_or arc_str_bytes t.shared [] };
 }
 
 impl CellText {
     /// The text of no bytes.
     ///
     /// Memory: none.
-    pub fn empty(alloc: Global) -> Self
+    pub fn empty() -> Self
         ensures { result ≡ [] }
     {
-        CellText {
-            text: String::new(alloc),
-        }
+        CellText { shared: None }
     }
 
     /// A copy of a text.
     pub fn copy_of(alloc: Global, text: &str) -> Result<Self, AllocError>
         ensures { IfOk result (λ t. t ≡ text.now) }
     {
-        let text = String::from_str(alloc, text)?;
-        Ok(CellText { text })
+        if text.is_empty() {
+            return Ok(CellText::empty());
+        }
+        let shared = ArcStr::from_str(alloc, text)?;
+        Ok(CellText {
+            shared: Some(shared),
+        })
+    }
+
+    /// The text of a string, whose bytes it takes over.
+    pub fn from_string(text: String) -> Result<Self, AllocError>
+        ensures { IfOk result (λ t. t ≡ string_bytes text) }
+    {
+        let shared = ArcStr::from_string(text)?;
+        Ok(CellText {
+            shared: Some(shared),
+        })
     }
 
     /// The text as a slice.
     pub fn as_str(&self) -> &str
         ensures { result.now ≡ self.now }
     {
-        self.text.as_str()
+        match &self.shared {
+            Some(text) => text.as_str(),
+            None => "",
+        }
     }
 
     /// How many bytes the text has.
     pub fn len(&self) -> usize
         ensures { result ≡ length self.now }
     {
-        self.text.len()
+        self.as_str().len()
     }
 
     /// Whether the text has no bytes.
     pub fn is_empty(&self) -> bool
         ensures { IsTrue result ↔ (self.now ≡ []) }
     {
-        self.text.as_str().is_empty()
-    }
-
-    /// The string that the text was made of.
-    ///
-    /// Memory: none.
-    pub fn into_string(self) -> String
-        ensures { string_bytes result ≡ self }
-    {
-        self.text
-    }
-}
-
-impl From<String> for CellText {
-    ghost from_gives = { λ text made. made ≡ string_bytes text };
-
-    fn from(text: String) -> CellText {
-        CellText { text }
+        self.as_str().is_empty()
     }
 }
 
 impl Same for CellText {
     fn same_as(&self, other: &CellText) -> bool {
-        self.text.as_str() == other.text.as_str()
+        self.as_str() == other.as_str()
     }
 }
 
@@ -100,7 +105,7 @@ impl PartialEq for CellText {
     ghost laws = { Prim.search (comparing, rules) };
 
     fn eq(&self, other: &CellText) -> bool {
-        self.text.as_str() == other.text.as_str()
+        self.as_str() == other.as_str()
     }
 }
 
@@ -118,7 +123,7 @@ impl Ord for CellText {
     ghost matches_eq = { Prim.search (comparing, rules) };
 
     fn cmp(&self, other: &CellText) -> Ordering {
-        self.text.as_str().cmp(other.text.as_str())
+        self.as_str().cmp(other.as_str())
     }
 }
 

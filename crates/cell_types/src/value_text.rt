@@ -17,7 +17,7 @@ pub fn text_of(alloc: Global, value: &CellValue) -> Result<Option<CellText>, All
 {
     let mut text = BoundedText::new(alloc);
     match text.write_value(value) {
-        Ok(()) => Ok(Some(text.into_text())),
+        Ok(()) => Ok(Some(text.into_text()?)),
         Err(TextEnd::TooLong) => Ok(None),
         Err(TextEnd::NoMemory) => Err(AllocError),
     }

@@ -28,5 +28,5 @@ fn joined(alloc: Global, word: &str, table: &Name) -> Result<CellText, AllocErro
 {
     let mut text = String::from_str(alloc, word)?;
     text.push_str(table.as_str())?;
-    Ok(CellText::from(text))
+    CellText::from_string(text)
 }

@@ -135,7 +135,7 @@ fn column(alloc: Global, id: &str, row: u32) -> Result<ColDef, AllocError> {
     let info = ColInfo {
         ty: ColType::Any,
         is_formula: false,
-        formula: CellText::empty(alloc),
+        formula: CellText::empty(),
     };
     Ok(ColDef { id, info, row })
 }

@@ -239,7 +239,7 @@ fn argument_at<R: CellReader, N: NoteKeeper>(
 {
     match formula_at(arguments, place) {
         Some(formula) => value_of(alloc, reader, at, formula, notes),
-        None => Ok(CellValue::Text(CellText::empty(alloc))),
+        None => Ok(CellValue::Text(CellText::empty())),
     }
 }
 
@@ -443,7 +443,7 @@ fn contained<R: CellReader, N: NoteKeeper>(
 {
     match formula.node() {
         Node::Call(_, arguments) => argument_at(alloc, reader, at, arguments, 0, notes),
-        _ => Ok(CellValue::Text(CellText::empty(alloc))),
+        _ => Ok(CellValue::Text(CellText::empty())),
     }
 }
 

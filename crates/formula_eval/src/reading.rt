@@ -89,7 +89,7 @@ fn known(alloc: Global, ty: &ColType, value: &CellValue) -> Result<CellValue, Ha
 fn default_read(alloc: Global, ty: &ColType) -> Result<CellValue, AllocError>
     ensures { IfOk result (λ v. v ≡ as_read ty.now (default_value ty.now)) }
 {
-    let value = default_of(alloc, ty);
+    let value = default_of(ty);
     as_read(alloc, ty, &value)
 }
 

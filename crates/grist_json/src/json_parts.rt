@@ -2,7 +2,10 @@
 ghost use Rattle.std.specs.Prelude.{◌≡◌, IfOk, [], ◌∷◌, ◌++◌, map};
 ghost use Rattle.serde_json.specs.Data.{array, object, string, no_members, member, put};
 ghost use Rattle.serde_json.specs.View.{view, items_of, members_view};
+ghost use Rattle.doc_model.specs.Schema.{type_text};
 
+use cell_types::ColType;
+use doc_model::type_text;
 use serde_json::{Map, Value};
 use std::alloc::{AllocError, Global};
 
@@ -51,6 +54,14 @@ pub fn with_member(
     let mut members = members;
     serde_json::put(&mut members, alloc, key, value)?;
     Ok(members)
+}
+
+/// The text of a type.
+pub fn type_value(alloc: Global, ty: &ColType) -> Result<Value, AllocError>
+    ensures { IfOk result (λ v. view v ≡ string (type_text ty.now)) }
+{
+    let text = type_text(alloc, ty)?;
+    Value::try_from_str(alloc, text.as_str())
 }
 
 // The object of one member.

@@ -29,7 +29,7 @@ mod writers;
 
 pub use doc_model::{RetIdList, RetValue, RetValueList, Verdict};
 pub use frames::{Frame, read_frame};
-pub use json_parts::{array_with, texts_of_two, with, with_member};
+pub use json_parts::{array_with, texts_of_two, type_value, with, with_member};
 pub use json_text::json_of;
 pub use laws::{frame_law, one_reading_law};
 pub use line::Line;

@@ -6,10 +6,10 @@ ghost use Rattle.serde_json.specs.View.{view, members_view};
 ghost use Rattle.grist_json.specs.Actions.{action_of, formula_data, column_data, info_members, info_data, infos_data, columns_data, action_data, actions_data};
 ghost use Rattle.grist_json.specs.Values.{rows_data};
 
-use crate::json_parts::{array_with, texts_of_two, with, with_member};
+use crate::json_parts::{array_with, texts_of_two, type_value, with, with_member};
 use crate::printed_values::{rows_value, values_value};
 use cell_types::{CellText, Name, RowList};
-use doc_model::{CellColumn, ColumnList, ViewAction, ViewCol, ViewColList, type_text};
+use doc_model::{CellColumn, ColumnList, ViewAction, ViewCol, ViewColList};
 use serde_json::{Map, Value};
 use std::alloc::{AllocError, Global};
 
@@ -29,8 +29,8 @@ fn info_members(alloc: Global, column: &ViewCol) -> Result<Map<String, Value>, A
     let formula = formula_value(alloc, &column.formula)?;
     let info = with_member(alloc, Map::new(alloc), "formula", formula)?;
     let info = with_member(alloc, info, "isFormula", Value::Bool(column.is_formula))?;
-    let ty = type_text(alloc, &column.ty)?.into_string();
-    with_member(alloc, info, "type", Value::String(ty))
+    let ty = type_value(alloc, &column.ty)?;
+    with_member(alloc, info, "type", ty)
 }
 
 fn info_value(alloc: Global, column: &ViewCol) -> Result<Value, AllocError>

@@ -14,5 +14,5 @@ pub fn session_name(alloc: Global, lane: u32, connection: u64) -> Result<Name, A
     ensures { IfOk result (λ name. name ≡ session_name lane connection) }
 {
     let text = format!(in alloc; "l{lane}c{connection}")?;
-    Ok(Name::new(CellText::from(text)))
+    Ok(Name::new(CellText::from_string(text)?))
 }

@@ -59,5 +59,5 @@ fn numbered_text(alloc: Global, text: &str, number: u64) -> Result<CellText, All
     let room = MAX_NAME_CHARACTERS - digits.len();
     let mut made: String = text.chars().take(room).collect(alloc)?;
     made.push_str(digits.as_str())?;
-    Ok(CellText::from(made))
+    CellText::from_string(made)
 }

@@ -30,7 +30,7 @@ struct Indexes {
     start: CellValue,
 }
 
-fn indexes_of(alloc: Global, before: &ViewTable, after: &ViewTable, column: &ViewCol) -> Indexes
+fn indexes_of(before: &ViewTable, after: &ViewTable, column: &ViewCol) -> Indexes
     ensures before { result.before ≡ column_index before.now.columns column.now.id }
     ensures after { result.after ≡ column_index after.now.columns column.now.id }
     ensures start { result.start ≡ shown_start column.now }
@@ -38,7 +38,7 @@ fn indexes_of(alloc: Global, before: &ViewTable, after: &ViewTable, column: &Vie
     Indexes {
         before: index_of(before.columns.as_slice(), &column.id),
         after: index_of(after.columns.as_slice(), &column.id),
-        start: default_of(alloc, &column.ty),
+        start: default_of(&column.ty),
     }
 }
 
@@ -68,7 +68,7 @@ fn told_rows(
     ensures { IfOk result
         (λ l. l ≡ filter (is_told (grid before.now) (grid after.now) column.now) after.now.rows) }
 {
-    let indexes = indexes_of(alloc, before, after, column);
+    let indexes = indexes_of(before, after, column);
     rows_told(alloc, before, after, &indexes)
 }
 

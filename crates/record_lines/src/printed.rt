@@ -8,10 +8,10 @@ ghost use Rattle.record_lines.specs.Infos.{info_data, described_members, added_d
 ghost use Rattle.record_lines.specs.Printed.{doc_action_data, doc_actions_data, record_data};
 
 use cell_types::Name;
-use doc_model::{ColDef, ColDefList, ColInfo, DocAction, DocActionList, type_text};
+use doc_model::{ColDef, ColDefList, ColInfo, DocAction, DocActionList};
 use grist_json::{
     array_with, cells_action, removed_column_action, removed_rows_action, removed_table_action,
-    texts_of_two, with, with_member,
+    texts_of_two, type_value, with, with_member,
 };
 use serde_json::{Map, Value};
 use std::alloc::{AllocError, Global};
@@ -22,8 +22,8 @@ fn info_value(alloc: Global, info: &ColInfo) -> Result<Value, AllocError>
     let formula = Value::try_from_str(alloc, info.formula.as_str())?;
     let members = with_member(alloc, Map::new(alloc), "formula", formula)?;
     let members = with_member(alloc, members, "isFormula", Value::Bool(info.is_formula))?;
-    let ty = type_text(alloc, &info.ty)?.into_string();
-    Ok(Value::Object(with_member(alloc, members, "type", Value::String(ty))?))
+    let ty = type_value(alloc, &info.ty)?;
+    Ok(Value::Object(with_member(alloc, members, "type", ty)?))
 }
 
 // What stands behind a column's id.
@@ -33,8 +33,8 @@ fn described_members(alloc: Global, column: &ColDef) -> Result<Map<String, Value
     let flag = Value::Bool(column.info.is_formula);
     let members = with_member(alloc, Map::new(alloc), "isFormula", flag)?;
     let members = with_member(alloc, members, "row", Value::from(column.row))?;
-    let ty = type_text(alloc, &column.info.ty)?.into_string();
-    with_member(alloc, members, "type", Value::String(ty))
+    let ty = type_value(alloc, &column.info.ty)?;
+    with_member(alloc, members, "type", ty)
 }
 
 // The members of a column that is named beside them.

@@ -52,11 +52,11 @@ fn joined(alloc: Global, old: &Name, new: &Name, names: &[Name]) -> Result<CellT
     ensures { IfOk result (λ t. t ≡ joined (map (moved_id old.now new.now) names.now)) }
 {
     let Some((first, others)) = names.split_first() else {
-        return Ok(CellText::empty(alloc));
+        return Ok(CellText::empty());
     };
     let mut text = String::from_str(alloc, moved_id(old, new, first).as_str())?;
     write_others(&mut text, old, new, others)?;
-    Ok(CellText::from(text))
+    CellText::from_string(text)
 }
 
 // The text that was made where a cell may hold it, or else a copy of the other one.

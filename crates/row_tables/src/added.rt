@@ -21,29 +21,24 @@ use std::alloc::{AllocError, Global};
 /// What a new cell of the column holds.
 ///
 /// Memory: none.
-pub(crate) fn start_of(alloc: Global, column: &ColDef) -> CellValue
+pub(crate) fn start_of(column: &ColDef) -> CellValue
     ensures { result ≡ start_of column.now }
 {
     if column.info.is_formula {
         CellValue::Null
     } else {
-        default_of(alloc, &column.info.ty)
+        default_of(&column.info.ty)
     }
 }
 
 // A cell of the new row at this index among the rows of an action.
-fn new_cell(
-    alloc: Global,
-    column: &ColDef,
-    values: &[CellColumn],
-    index: usize,
-) -> Result<CellValue, AllocError>
+fn new_cell(column: &ColDef, values: &[CellColumn], index: usize) -> Result<CellValue, AllocError>
     ensures { IfOk result
         (λ v. v ≡ unwrap_or (given_at values.now column.now.id index) (start_of column.now)) }
 {
     match given_value(values, &column.id, index) {
         Some(value) => copy_of(value),
-        None => Ok(start_of(alloc, column)),
+        None => Ok(start_of(column)),
     }
 }
 
@@ -57,11 +52,7 @@ fn new_row(
     ensures { IfOk result
         (λ l. l ≡ map (λ d. unwrap_or (given_at values.now d.id index) (start_of d)) columns.now) }
 {
-    let cells = all_made(
-        alloc,
-        columns,
-        |column| new_cell(alloc, column, values, index),
-    )?;
+    let cells = all_made(alloc, columns, |column| new_cell(column, values, index))?;
     Ok(ValueList::from(cells))
 }
 

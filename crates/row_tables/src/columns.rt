@@ -118,7 +118,6 @@ fn changed(column: &ColDef, id: &Name, told: &Told) -> Result<ColDef, AllocError
 // A table with a new column.
 #[derive(Drop)]
 struct Widened<'a> {
-    alloc: Global,
     old: Kept<'a>,
     new: &'a ColDef,
 }
@@ -135,7 +134,7 @@ impl CellSource for Widened<'_> {
 
     fn value(&self, column: &ColDef, row: u32) -> Result<CellValue, AllocError> {
         if column.id.as_str() == self.new.id.as_str() {
-            Ok(start_of(self.alloc, self.new))
+            Ok(start_of(self.new))
         } else {
             self.old.value(column, row)
         }
@@ -173,7 +172,6 @@ impl RowTable {
         ensures { IfOk result (λ t. t ≡ on_grid (add_column new.now) self.now) }
     {
         let source = Widened {
-            alloc: self.alloc(),
             old: Kept::of(self),
             new,
         };

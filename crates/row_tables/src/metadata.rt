@@ -77,7 +77,7 @@ fn info_of(alloc: Global, ty: KnownType) -> Result<ColInfo, AllocError>
     Ok(ColInfo {
         ty: type_of(alloc, ty)?,
         is_formula: false,
-        formula: CellText::empty(alloc),
+        formula: CellText::empty(),
     })
 }
 

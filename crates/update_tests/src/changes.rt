@@ -211,7 +211,7 @@ fn add_references(alloc: Global) -> Result<DocAction, AllocError> {
     let info = ColInfo {
         ty: ColType::Ref(name(alloc, TABLE)?),
         is_formula: false,
-        formula: CellText::empty(alloc),
+        formula: CellText::empty(),
     };
     add_column(alloc, "R", 4, info)
 }
@@ -247,7 +247,7 @@ fn data_info(alloc: Global, ty: ColType) -> Result<ColInfo, AllocError> {
     Ok(ColInfo {
         ty,
         is_formula: false,
-        formula: CellText::empty(alloc),
+        formula: CellText::empty(),
     })
 }
 

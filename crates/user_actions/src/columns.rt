@@ -70,7 +70,7 @@ fn type_said(alloc: Global, other: &ColType, column: &UserCol) -> Result<ColType
     }
 }
 
-fn formula_said(alloc: Global, old: &ColInfo, column: &UserCol) -> Result<CellText, AllocError>
+fn formula_said(old: &ColInfo, column: &UserCol) -> Result<CellText, AllocError>
     ensures { IfOk result (λ f. f ≡ formula_said old.now column.now) }
 {
     if let Some(text) = &column.formula {
@@ -79,7 +79,7 @@ fn formula_said(alloc: Global, old: &ColInfo, column: &UserCol) -> Result<CellTe
     if kind_said(old.is_formula, column) {
         return old.formula.clone();
     }
-    Ok(CellText::empty(alloc))
+    Ok(CellText::empty())
 }
 
 /// What a column becomes as the user says.
@@ -95,18 +95,18 @@ pub(crate) fn info_said(
     Ok(ColInfo {
         ty: type_said(alloc, &old.ty, column)?,
         is_formula: kind_said(old.is_formula, column),
-        formula: formula_said(alloc, old, column)?,
+        formula: formula_said(old, column)?,
     })
 }
 
 // What a new column is where no more is said of it.
-fn new_info(alloc: Global, column: &UserCol) -> ColInfo
+fn new_info(column: &UserCol) -> ColInfo
     ensures { result ≡ new_info column.now }
 {
     ColInfo {
         ty: ColType::Any,
         is_formula: gives_formula(column),
-        formula: CellText::empty(alloc),
+        formula: CellText::empty(),
     }
 }
 
@@ -116,6 +116,6 @@ fn new_info(alloc: Global, column: &UserCol) -> ColInfo
 pub(crate) fn new_info_said(alloc: Global, column: &UserCol) -> Result<ColInfo, AllocError>
     ensures { IfOk result (λ i. i ≡ info_said (new_info column.now) column.now) }
 {
-    let start = new_info(alloc, column);
+    let start = new_info(column);
     info_said(alloc, &start, column)
 }

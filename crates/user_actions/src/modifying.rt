@@ -91,7 +91,7 @@ fn add_filled<D: DocTables>(
     let rows = rows_in(tables, table);
     let (id, ty) = (&known.id, &info.ty);
     if known.info.is_formula {
-        let default = |_: &CellValue| Ok(default_of(alloc, ty));
+        let default = |_: &CellValue| Ok(default_of(ty));
         return add_update(alloc, tables, table, id, rows, default, steps);
     }
     let fitting = |value: &CellValue| convert(alloc, ty, value);

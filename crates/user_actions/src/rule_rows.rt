@@ -66,12 +66,12 @@ fn fitted_shown(
     }
 }
 
-fn default_shown(alloc: Global, table: &ViewTable, column: &str) -> CellValue
+fn default_shown(table: &ViewTable, column: &str) -> CellValue
     ensures { result ≡ default_value (type_shown table.now column.now) }
 {
     match find_column(table.columns.as_slice(), column) {
-        Some(shown) => default_of(alloc, &shown.ty),
-        None => default_of(alloc, &ColType::Any),
+        Some(shown) => default_of(&shown.ty),
+        None => default_of(&ColType::Any),
     }
 }
 
@@ -93,7 +93,6 @@ fn cell_of(columns: &[ViewCol], cells: &[CellValue], column: &str) -> Result<Cel
 
 // The cell that is there before.
 fn cell_before(
-    alloc: Global,
     table: &ViewTable,
     before: Option<&[CellValue]>,
     column: &str,
@@ -102,7 +101,7 @@ fn cell_before(
 {
     match before {
         Some(cells) => cell_of(table.columns.as_slice(), cells, column),
-        None => Ok(default_shown(alloc, table, column)),
+        None => Ok(default_shown(table, column)),
     }
 }
 
@@ -114,7 +113,7 @@ impl RowCells for RowAfter<'_> {
     fn cell(&self, alloc: Global, column: &str) -> Result<CellValue, AllocError> {
         match value_given(self.given, self.index, column) {
             Some(value) => fitted_shown(alloc, self.table, column, value),
-            None => cell_before(alloc, self.table, self.before, column),
+            None => cell_before(self.table, self.before, column),
         }
     }
 }

@@ -48,7 +48,7 @@ fn join_texts(alloc: Global, left: &str, right: &str) -> Result<CellValue, OpFau
     let mut text = String::with_capacity(alloc, left.len() + right.len())?;
     text.push_str(left)?;
     text.push_str(right)?;
-    Ok(CellValue::Text(CellText::from(text)))
+    Ok(CellValue::Text(CellText::from_string(text)?))
 }
 
 fn join_lists(alloc: Global, left: &[CellItem], right: &[CellItem]) -> Result<CellValue, OpFault>

@@ -263,7 +263,7 @@ static DEFAULTS: [(Kind, &str); 7] = [
 ];
 
 fn is_default(alloc: Global, ty: &ColType, want: &str) -> bool {
-    is_shown(alloc, &default_of(alloc, ty), want)
+    is_shown(alloc, &default_of(ty), want)
 }
 
 fn has_default(alloc: Global, kind: Kind, want: &str) -> bool {

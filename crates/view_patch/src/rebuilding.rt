@@ -30,19 +30,14 @@ struct Source {
 }
 
 // Where a column's cells come from.
-fn source_of(
-    alloc: Global,
-    before: &[ViewCol],
-    given: &[CellColumn],
-    column: &ViewCol,
-) -> Result<Source, AllocError>
-    ensures { IfOk result (λ s. s ≡ source_of before.now given.now column.now) }
+fn source_of(before: &[ViewCol], given: &[CellColumn], column: &ViewCol) -> Source
+    ensures { result ≡ source_of before.now given.now column.now }
 {
-    Ok(Source {
+    Source {
         before: index_of(before, &column.id),
         given: named_index(given, &column.id),
-        start: default_of(alloc, &column.ty),
-    })
+        start: default_of(&column.ty),
+    }
 }
 
 // The same of columns.
@@ -57,7 +52,7 @@ fn sources_of(
     all_made(
         alloc,
         columns,
-        |column| source_of(alloc, before, given, column),
+        |column| Ok(source_of(before, given, column)),
     )
 }
 

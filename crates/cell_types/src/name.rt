@@ -65,6 +65,7 @@ impl Name {
     }
 
     /// The name as a slice.
+    #[inline]
     pub fn as_str(&self) -> &str
         ensures value { result.now ≡ self.now }
         ensures length { HasNameLength self.now }

@@ -69,6 +69,7 @@ impl CellText {
     }
 
     /// The text as a slice.
+    #[inline]
     pub fn as_str(&self) -> &str
         ensures { result.now ≡ self.now }
     {

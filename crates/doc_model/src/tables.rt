@@ -1,11 +1,12 @@
 //! What a document that is kept answers, and what a store of one does.
 
-ghost use Rattle.std.specs.Prelude.{◌≡◌, ◌<◌, ◌^◌, true, None, Some, IfOk, IfSome, MatchOption, OnErr, OnOk};
+ghost use Rattle.std.specs.Prelude.{◌≡◌, ◌<◌, ◌^◌, true, None, Some, IfOk, IfSome, MatchOption, OnErr, OnOk, map};
+ghost use Rattle.std.specs.Option.{option_copied};
 ghost use Rattle.doc_model.specs.Rows.{IsAscending};
 
 use crate::{ColDef, DocAction};
 use cell_types::{CellValue, Name};
-use std::alloc::AllocError;
+use std::alloc::{AllocError, Global};
 
 /// A document that can be read, however it is kept. A store's cells are base cells; where formulas
 /// are evaluated, a formula column's cells are its values.
@@ -49,6 +50,27 @@ pub trait DocReader {
     fn cell(&self, table: &Name, column: &Name, row: u32) -> Option<&CellValue>
         ensures { MatchOption result (cell_at (document self.now) table.now column.now row ≡ None)
             (λ value. cell_at (document self.now) table.now column.now row ≡ Some value.now) };
+
+    /// The cells of a table at a column and at each of these rows.
+    ///
+    /// Errors: out of memory.
+    /// Memory: a place for each row. Cost: a store may look the column up once for all rows.
+    fn cells(
+        &self,
+        alloc: Global,
+        table: &Name,
+        column: &Name,
+        rows: &[u32],
+    ) -> Result<Vec<Option<&CellValue>>, AllocError>
+        ensures { IfOk result (λ cells. map option_copied cells.items
+            ≡ map (cell_at (document self.now) table.now column.now) rows.now) }
+    {
+        let mut cells = Vec::with_capacity(alloc, rows.len())?;
+        for row in rows {
+            cells.push(self.cell(table, column, *row))?;
+        }
+        Ok(cells)
+    }
 }
 
 /// A store of a document with its base cells, which applies actions and takes them back.

@@ -59,5 +59,6 @@ fn numbered_text(alloc: Global, text: &str, number: u64) -> Result<CellText, All
     let room = MAX_NAME_CHARACTERS - digits.len();
     let mut made: String = text.chars().take(room).collect(alloc)?;
     made.push_str(digits.as_str())?;
-    CellText::from_string(made)
+    let made = CellText::from_string(made)?;
+    Ok(made)
 }

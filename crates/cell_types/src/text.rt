@@ -16,7 +16,7 @@ use std::sync::ArcStr;
 /// A text of any length. Contracts see its bytes; they are UTF-8.
 ///
 /// A text shares its bytes with its copies, so that a copy takes no memory.
-#[derive(Clone, Debug, Drop)]
+#[derive(Debug, Drop)]
 pub struct CellText {
     // Nothing where the text has no bytes.
     shared: Option<ArcStr>,
@@ -91,6 +91,19 @@ impl CellText {
         ensures { IsTrue result ↔ (self.now ≡ []) }
     {
         self.as_str().is_empty()
+    }
+}
+
+impl Clone for CellText {
+    ghost is_clone = { λ text copy. copy ≡ text };
+
+    fn clone(&self) -> Result<CellText, AllocError> {
+        match &self.shared {
+            Some(text) => Ok(CellText {
+                shared: Some(text.clone()?),
+            }),
+            None => Ok(CellText::empty()),
+        }
     }
 }
 

@@ -5,7 +5,7 @@ use Rattle.formula_eval.specs.declared.reader.Reading.{Reading}
 use Rattle.formula_eval.specs.declared.reader.Reading.TheVariants as reading
 use Rattle.formula_eval.specs.declared.reader.Matching.{Matching}
 use Rattle.formula_eval.specs.declared.reader.Matching.TheVariants as matching
-use Rattle.formula_eval.specs.Reader.{Told, known, no_table, no_column, no_row, needed}
+use Rattle.formula_eval.specs.Reader.{Reader, Told, cell_at, known, no_table, no_column, no_row, needed}
 use Rattle.formula_eval.specs.Run.{Out, gives, raises, stops, circular, MayName}
 
 -- what is told of a cell
@@ -15,6 +15,10 @@ told_of reading.NoTable = no_table
 told_of reading.NoColumn = no_column
 told_of reading.NoRow = no_row
 told_of reading.Need = needed
+
+-- what a reader tells of the cell of a column in a row
+abbrev pub told_at : Reader → List ℕ → List ℕ → ℕ → Told
+told_at reader t c r = reader.cell (cell_at t c r)
 
 -- the answer tells which rows meet keys; of the cells that are needed it names any
 abbrev pub IsMatching : Matching → Out (List ℕ) → Type 0

@@ -1,18 +1,19 @@
 //! Attributes of records and sets of records, and what may stand in a list.
 
-ghost use Rattle.std.specs.Prelude.{◌≡◌, ◌++◌, ◌∷◌, [], None, Some, IfOk, MatchOption, map};
+ghost use Rattle.std.specs.Prelude.{◌≡◌, ◌++◌, ◌∷◌, [], None, Some, IfOk, MatchOption, length, map};
 ghost use Rattle.cell_types.specs.Reference.{row_items};
 ghost use Rattle.value_ops.specs.Joined.{bounded_list};
 ghost use Rattle.formula_parse.specs.Lexemes.{is_id, id_word};
-ghost use Rattle.formula_eval.specs.Reader.{cell_at};
+ghost use Rattle.formula_eval.specs.Asked.{told_at, told_of};
+ghost use Rattle.formula_eval.specs.Reader.{Reader, cell_at};
 ghost use Rattle.formula_eval.specs.Run.{done, out_of, collect};
 ghost use Rattle.formula_eval.specs.Reading.{read_cell};
 ghost use Rattle.formula_eval.specs.Attribute.{item_of, as_item, listed, column_runs, attribute_of};
 ghost use Rattle.formula_eval.specs.Halted.{Comes, ComesAs, IsOut, IsOutAs};
 
 use crate::halt::Halt;
-use crate::reading::{read_cell, read_typed};
-use crate::{CellReader, NoteKeeper};
+use crate::reading::{read_cell, read_told};
+use crate::{CellReader, NoteKeeper, Reading};
 use cell_types::{CellItem, CellList, CellValue, ColType, ErrKind, Name, RowRef, RowSet};
 use std::alloc::{AllocError, Global};
 use value_ops::MAX_JOINED_ITEMS;
@@ -126,27 +127,51 @@ fn column_items<R: CellReader, N: NoteKeeper>(
         (collect (map as_item (column_runs (R.told reader.now) table.now column.now rows.now))) }
 {
     let ty = reader.ty(table, column);
+    let told = reader.cells(alloc, table, column, rows)?;
+    read_items(alloc, table, column, ty, rows, &told, notes)
+}
+
+// The same, where the type of the column and what is told of the cells are at hand.
+fn read_items<N: NoteKeeper>(
+    alloc: Global,
+    table: &Name,
+    column: &Name,
+    ty: Option<&ColType>,
+    rows: &[u32],
+    told: &[Reading<'_>],
+    notes: &mut N,
+) -> Result<Vec<CellItem>, Halt>
+    requires { length told.now ≡ length rows.now }
+    ensures { (reader : Reader)
+        → MatchOption ty.entry (reader.kind table.now column.now ≡ None)
+        (λ ty. reader.kind table.now column.now ≡ Some ty.now)
+        → map told_of told.now ≡ map (told_at reader table.now column.now) rows.now
+        → ComesAs (λ v. v.items) result (N.noted notes.old) (N.noted notes.new)
+        (collect (map as_item (column_runs reader table.now column.now rows.now))) }
+{
     let mut items = Vec::with_capacity(alloc, rows.len())?;
-    for row in rows {
-        let item = read_item(alloc, reader, table, column, ty, *row, notes)?;
+    for (index, row) in rows.iter().enumerate() {
+        let item = read_item(alloc, table, column, ty, *row, &told[index], notes)?;
         items.push(item)?;
     }
     Ok(items)
 }
 
-fn read_item<R: CellReader, N: NoteKeeper>(
+fn read_item<N: NoteKeeper>(
     alloc: Global,
-    reader: &R,
     table: &Name,
     column: &Name,
     ty: Option<&ColType>,
     row: u32,
+    told: &Reading<'_>,
     notes: &mut N,
 ) -> Result<CellItem, Halt>
-    requires { MatchOption ty ((R.told reader.now).kind table.now column.now ≡ None)
-        (λ ty. (R.told reader.now).kind table.now column.now ≡ Some ty.now) }
-    ensures { ComesAs (λ i. i) result (N.noted notes.old) (N.noted notes.new)
-        (as_item (read_cell (R.told reader.now) (cell_at table.now column.now row))) }
+    ensures { (reader : Reader)
+        → MatchOption ty.entry (reader.kind table.now column.now ≡ None)
+        (λ ty. reader.kind table.now column.now ≡ Some ty.now)
+        → told_of told.now ≡ told_at reader table.now column.now row
+        → ComesAs (λ i. i) result (N.noted notes.old) (N.noted notes.new)
+        (as_item (read_cell reader (cell_at table.now column.now row))) }
 {
-    item_of(read_typed(alloc, reader, table, column, ty, row, notes)?)
+    item_of(read_told(alloc, table, column, ty, row, told, notes)?)
 }

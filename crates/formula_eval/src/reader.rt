@@ -1,8 +1,8 @@
 //! What a formula asks of the cells around it.
 
-ghost use Rattle.std.specs.Prelude.{◌≡◌, None, Some, IfOk, IfSome, MatchOption};
+ghost use Rattle.std.specs.Prelude.{◌≡◌, None, Some, IfOk, IfSome, MatchOption, map};
 ghost use Rattle.formula_eval.specs.Reader.{Reader, cell_at};
-ghost use Rattle.formula_eval.specs.Asked.{told_of, IsMatching};
+ghost use Rattle.formula_eval.specs.Asked.{told_of, told_at, IsMatching};
 ghost use Rattle.formula_eval.specs.Lookup.{matched};
 ghost use Rattle.doc_model.specs.Rows.{IsAscending};
 
@@ -58,6 +58,27 @@ pub trait CellSource {
     /// Memory: none.
     fn cell(&self, table: &Name, column: &Name, row: u32) -> Reading<'_>
         ensures { told_of result ≡ (told self.now).cell (cell_at table.now column.now row) };
+
+    /// What is told of the cells of a column in these rows.
+    ///
+    /// Errors: want of memory.
+    /// Memory: a place for each row. Cost: a source may look the column up once for all rows.
+    fn cells(
+        &self,
+        alloc: Global,
+        table: &Name,
+        column: &Name,
+        rows: &[u32],
+    ) -> Result<Vec<Reading<'_>>, AllocError>
+        ensures { IfOk result (λ cells. map told_of cells.items
+            ≡ map (told_at (told self.now) table.now column.now) rows.now) }
+    {
+        let mut cells = Vec::with_capacity(alloc, rows.len())?;
+        for row in rows {
+            cells.push(self.cell(table, column, *row))?;
+        }
+        Ok(cells)
+    }
 }
 
 /// A source of cells that also answers lookups. `scan` is an answer for every source; one with an

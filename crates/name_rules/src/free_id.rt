@@ -59,6 +59,6 @@ fn numbered_text(alloc: Global, text: &str, number: u64) -> Result<CellText, All
     let room = MAX_NAME_CHARACTERS - digits.len();
     let mut made: String = text.chars().take(room).collect(alloc)?;
     made.push_str(digits.as_str())?;
-    let made = CellText::from_string(made)?;
-    Ok(made)
+    let name = CellText::from_string(made)?;
+    Ok(name)
 }

@@ -17,4 +17,4 @@ returns c =
     let collected : IfOk c.collect.result (λ w. string_bytes w ≡ front) = text_from_collect c.collect.result c.collect.ensures.ran
     (YieldsList-from_take kept (YieldsList-from_chars c.args.text.now c.utf8.text (cc)) room) in
     let begins : string_bytes c.in_ok-made.made ≡ front = subst (λ r. IfOk r (λ w. string_bytes w ≡ front)) c.in_ok-made.was collected in
-    cc (begins, c.in_ok-push_str.ensures.bytes, c.in_ok-digits.ensures.ok)
+    cc (begins, c.in_ok-name.ensures, c.in_ok-push_str.ensures.bytes, c.in_ok-digits.ensures.ok)

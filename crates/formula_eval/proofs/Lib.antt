@@ -10,6 +10,7 @@ pub mod TextLaws
 pub mod Collects
 mod Scans
 mod Items
+mod ItemsRead
 mod Lookups
 mod LookupEnds
 mod Halts

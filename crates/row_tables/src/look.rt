@@ -1,8 +1,9 @@
 //! Cells found by their rows and columns.
 
-ghost use Rattle.std.specs.Prelude.{◌≡◌, true, nat_eq, [], None, Some, slice_get, unwrap_or};
+ghost use Rattle.std.specs.Prelude.{◌≡◌, true, nat_eq, [], None, Some, List, option_and_then, slice_get, unwrap_or};
 ghost use Rattle.std.specs.Option.{option_copied};
 ghost use Rattle.std.specs.Str.{bytes_eq};
+ghost use Rattle.cell_types.specs.declared.value.CellValue.{CellValue};
 ghost use Rattle.doc_model.specs.Column.{column_id};
 ghost use Rattle.doc_model.specs.Grid.{beside};
 ghost use Rattle.doc_model.specs.Rows.{IsAscending};
@@ -83,6 +84,30 @@ pub(crate) fn is_same_id(left: &Name, right: &Name) -> bool
     left.len() == right.len() && left == right
 }
 
+/// The place of the cells of a column among the cells of each row, where there is such a column.
+///
+/// Memory: none. Cost: linear in the columns.
+pub(crate) fn column_place(columns: &[ColDef], id: &Name) -> Option<usize>
+    ensures { (cells : List CellValue) → option_and_then (slice_get cells) result
+        ≡ found_beside (λ d. bytes_eq (column_id d) id.now) columns.now cells }
+{
+    for (index, column) in columns.iter().enumerate() {
+        if is_same_id(&column.id, id) {
+            return Some(index);
+        }
+    }
+    None
+}
+
+/// The cell at a place, where there is one.
+///
+/// Memory: none.
+pub(crate) fn cell_at_place(cells: &[CellValue], place: Option<usize>) -> Option<&CellValue>
+    ensures { option_copied result ≡ option_and_then (slice_get cells.now) place }
+{
+    cells.get(place?)
+}
+
 /// The cell of a column among the cells of a row; nothing where there is no such column.
 ///
 /// Memory: none. Cost: linear in the columns.
@@ -94,10 +119,5 @@ pub(crate) fn cell_in_row<'a>(
     ensures { option_copied result
         ≡ found_beside (λ d. bytes_eq (column_id d) id.now) columns.now cells.now }
 {
-    for (index, column) in columns.iter().enumerate() {
-        if is_same_id(&column.id, id) {
-            return cells.get(index);
-        }
-    }
-    None
+    cell_at_place(cells, column_place(columns, id))
 }

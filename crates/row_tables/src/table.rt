@@ -1,15 +1,17 @@
 //! One table.
 
-ghost use Rattle.std.specs.Prelude.{◌≡◌, true, IfOk};
+ghost use Rattle.std.specs.Prelude.{◌≡◌, ℕ, List, true, IfOk, map, option_and_then, slice_get};
 ghost use Rattle.std.specs.Option.{option_copied};
+ghost use Rattle.std.specs.Str.{bytes_eq};
+ghost use Rattle.cell_types.specs.declared.value.CellValue.{CellValue};
 ghost use Rattle.doc_model.specs.Column.{column_id};
 ghost use Rattle.doc_model.specs.Grid.{cell, grid_of};
 ghost use Rattle.doc_model.specs.Rows.{IsAscending};
-ghost use Rattle.row_tables.specs.Kept.{kept};
+ghost use Rattle.row_tables.specs.Kept.{found_beside, kept};
 
 use crate::copies::{copy_of_cells, copy_of_name};
 use crate::fill::{CellSource, filled};
-use crate::look::{cell_in_row, cells_of_row, search_cells};
+use crate::look::{cell_at_place, cell_in_row, cells_of_row, column_place, search_cells};
 use cell_types::{CellValue, Name, ValueList, copy_of};
 use doc_model::ColDef;
 use std::alloc::{AllocError, Global};
@@ -63,6 +65,40 @@ impl RowTable {
     {
         let cells = search_cells(&self.rows, &self.cells, row);
         cell_in_row(&self.columns, cells, column)
+    }
+
+    // The cell at a place among those of one of ascending rows.
+    fn cell_in_place(&self, place: Option<usize>, row: u32) -> Option<&CellValue>
+        requires { IsAscending self.now.grid.rows }
+        ensures { (column : List ℕ)
+            → ((cells : List CellValue) → option_and_then (slice_get cells) place
+            ≡ found_beside (λ d. bytes_eq (column_id d) column) self.now.grid.columns cells)
+            → option_copied result ≡ kept self.now.grid column row }
+    {
+        cell_at_place(search_cells(&self.rows, &self.cells, row), place)
+    }
+
+    /// The cells of a column in some rows, of which there are no others than ascending ones; nothing
+    /// where there is none.
+    ///
+    /// Errors: out of memory. Memory: a place for each row.
+    /// Cost: linear in the columns, once, and for each row the logarithm of the rows of the table.
+    pub(crate) fn column_cells(
+        &self,
+        alloc: Global,
+        column: &Name,
+        rows: &[u32],
+    ) -> Result<Vec<Option<&CellValue>>, AllocError>
+        requires { IsAscending self.now.grid.rows }
+        ensures { IfOk result (λ cells. map option_copied cells.items
+            ≡ map (kept self.now.grid column.now) rows.now) }
+    {
+        let place = column_place(&self.columns, column);
+        let mut cells = Vec::with_capacity(alloc, rows.len())?;
+        for row in rows {
+            cells.push(self.cell_in_place(place, *row))?;
+        }
+        Ok(cells)
     }
 
     // The same, by search where the rows are known to ascend.

@@ -1,6 +1,6 @@
 //! A whole document as plain tables.
 
-ghost use Rattle.std.specs.Prelude.{◌≡◌, ◌∷◌, [], IfOk, map};
+ghost use Rattle.std.specs.Prelude.{◌≡◌, ◌∷◌, [], IfOk, None, map};
 ghost use Rattle.std.specs.Option.{option_copied};
 ghost use Rattle.doc_model.specs.ByIds.{find_id};
 ghost use Rattle.doc_model.specs.Document.{table_id};
@@ -74,6 +74,17 @@ fn find_table<'a>(tables: &'a [RowTable], id: &Name) -> Option<&'a RowTable>
     tables.iter().find(|table| is_same_id(table.id(), id))
 }
 
+// No cell for each row.
+fn no_cells<'a>(alloc: Global, rows: &[u32]) -> Result<Vec<Option<&'a CellValue>>, AllocError>
+    ensures { IfOk result (λ cells. map option_copied cells.items ≡ map (λ _. None) rows.now) }
+{
+    let mut cells = Vec::with_capacity(alloc, rows.len())?;
+    for _row in rows {
+        cells.push(None)?;
+    }
+    Ok(cells)
+}
+
 impl RowTables {
     /// The new document: `Table1` with columns `A`, `B` and `C`, and no rows but those that
     /// describe it.
@@ -118,6 +129,19 @@ impl DocReader for RowTables {
 
     fn cell(&self, table: &Name, column: &Name, row: u32) -> Option<&CellValue> {
         find_table(&self.tables, table)?.search_cell(column, row)
+    }
+
+    fn cells(
+        &self,
+        alloc: Global,
+        table: &Name,
+        column: &Name,
+        rows: &[u32],
+    ) -> Result<Vec<Option<&CellValue>>, AllocError> {
+        match find_table(&self.tables, table) {
+            Some(found) => found.column_cells(alloc, column, rows),
+            None => no_cells(alloc, rows),
+        }
     }
 }
 

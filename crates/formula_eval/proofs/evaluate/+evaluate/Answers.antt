@@ -9,7 +9,7 @@ use Rattle.formula_parse.specs.TreeSize.{tree_size, trees_size, keys_size}
 use Rattle.formula_eval.specs.Reader.{Reader}
 use Rattle.value_ops.specs.Truth.{truth_of}
 use Rattle.formula_eval.specs.Run.{Run, after, collect, done, gives, seq}
-use Rattle.formula_eval.specs.Attribute.{as_item, attribute_of}
+use Rattle.formula_eval.specs.Attribute.{as_item, attribute_of, item_of}
 use Rattle.formula_eval.specs.Operator.{is_decided, operated, prefixed}
 use Rattle.formula_eval.specs.Call.{argument}
 use Rattle.formula_eval.specs.Eval.{ev, ev_each, ev_key, ev_keys, form_of, forms_of}
@@ -218,3 +218,10 @@ pub caught-returns-in_default : goal.caught-returns-in_default
 caught-returns-in_default g t c =
     let rd : Reader = g.R.CellSource.told c.args.reader.now in
     search (rules, caught_halts (argument (ev_each rd c.args.at.now (from_list c.args.arguments.now)) 0) (argument (ev_each rd c.args.at.now (from_list c.args.arguments.now)) 1))
+
+pub item-returns-in_err-value_of : goal.item-returns-in_err-value_of
+item-returns-in_err-value_of g t c =
+    let p = err_from_is_err_and c.from_residual.result c.from_residual.ensures.1 in
+    rw (p.1, p.2)
+    (seq_halts (λ (v : CellValue). v) (λ (i : CellItem). i) c.in_err-value_of.field-0.0 (ev (g.R.CellSource.told c.args.reader.now) c.args.at.now c.args.formula.now)
+    (λ (v : CellValue). done (item_of v)) (g.N.NoteKeeper.noted c.args.notes.now) (g.N.NoteKeeper.noted c.value_of.new.notes) c.in_err-value_of.ensures)

@@ -1,5 +1,5 @@
 -- Lookups by data columns find the same rows, whatever is known of formula cells.
-use Rattle.std.proofs.Common.{ℕ, true, false, cond, List, [], ◌∷◌, ◌&&◌, Option, Some, None, IfSome, pos, ◌≡◌, refl, sym, ap, ◌∙◌}
+use Rattle.std.proofs.Common.{ℕ, true, cond, List, [], ◌∷◌, ◌&&◌, Option, Some, None, IfSome, pos, ◌≡◌, refl, sym, ap, ◌∙◌}
 use Rattle.std.proofs.lemmas.Bool.{false≢true}
 use Rattle.std.specs.List.{list_all}
 use Rattle.std.specs.Option.{is_some}

@@ -1,6 +1,8 @@
 -- What a document and what is kept of it tell of a cell.
 use Rattle.std.proofs.Common.{ℕ, zero, suc, Bool, true, false, cond, ◌&&◌, List, [], ◌∷◌, slice_get, ◌≡◌, refl, sym, ap, ◌∙◌, Option, Some, None}
-use Rattle.std.specs.Option.{is_some}
+use Rattle.std.specs.Borrow.{Bor}
+use Rattle.std.specs.Prelude.{map}
+use Rattle.std.specs.Option.{is_some, option_copied}
 use Rattle.cell_types.specs.declared.value.CellValue.{CellValue}
 use Rattle.doc_model.specs.declared.column.ColDef.{ColDef}
 use Rattle.doc_model.proofs.ByIdsLaws.{has_id-find}
@@ -17,7 +19,7 @@ use Rattle.recalc.specs.Cells.{cell_of}
 use Rattle.recalc.specs.declared.kept.KeptColumn.{KeptColumn}
 use Rattle.recalc.specs.declared.kept.KeptTable.{KeptTable}
 use Rattle.recalc.specs.Evaluated.{formula_in, base_in, sheet_of}
-use Rattle.recalc.specs.Kept.{ColumnShape, IsKeptOf, held_at, held_column, held_in, held_table, kept_column_id, kept_table_id}
+use Rattle.recalc.specs.Kept.{ColumnShape, IsKeptOf, column_at, held_at, held_column, held_in, held_table, kept_column_id, kept_table_id}
 use Rattle.recalc.specs.Seen.{told_or_needed, told_or_no_row, joined}
 use Rattle.recalc.specs.Sheet.{over, told_by}
 use Rattle.recalc.proofs.KeptLemmas.{find_table, find_column, table_of, column_of, match_none, shape_kept, shape_blank, column_kept, column_blank}
@@ -105,3 +107,27 @@ module _ (s : Document) (ks : List KeptTable) (kept : IsKeptOf s ks) (t c : List
           by_value : (u : Table) (d : ColDef) (o : Option CellValue) → told_or_needed o ≡ told_by (Some d.info.formula) (known (cell column_id u.grid c r)) o
           by_value u d None = refl
           by_value u d (Some v) = refl
+
+-- the cells of a data column of which something is kept
+pub column_told : (s : Document) (ks : List KeptTable) → IsKeptOf s ks → (t c : List ℕ) (e : KeptColumn) → Some e ≡ column_at ks t c → false ≡ e.is_formula
+    → (r : ℕ) → told_or_no_row (cell_at s t c r) ≡ (over (sheet_of s) (held_at s ks)).cell (cell_of t c r)
+column_told s ks kept t c e there is r =
+    elim (find_id kept_table_id t ks) as (λ x. Some e ≡ column_in c x → x ≡ find_id kept_table_id t ks → told_or_no_row (cell_at s t c r) ≡ told s ks kept t c r) [
+      | None ↦ λ found _. absurd (cc)
+      | Some k ↦ λ found here. data_told s ks kept t c r k here e found is
+    ] there refl
+  where
+    column_in : List ℕ → Option KeptTable → Option KeptColumn
+    column_in c None = None
+    column_in c (Some k) = find_id kept_column_id c k.columns.items
+
+-- what is told of cells that were looked up
+pub mapped_told : (cells : List (Option (Bor CellValue))) (at : ℕ → Option CellValue) (asked : ℕ → Told) (rows : List ℕ) → map option_copied cells ≡ map at rows
+    → ((r : ℕ) → told_or_no_row (at r) ≡ asked r) → map (λ cell. told_or_no_row (option_copied cell)) cells ≡ map asked rows
+mapped_told [] at asked [] e h = refl
+mapped_told [] at asked (r ∷ rows) e h = absurd (cc)
+mapped_told (x ∷ cells) at asked [] e h = absurd (cc)
+mapped_told (x ∷ cells) at asked (r ∷ rows) e h =
+    let here : option_copied x ≡ at r = cc in
+    let others : map option_copied cells ≡ map at rows = cc in
+    ap (λ v. v ∷ map (λ cell. told_or_no_row (option_copied cell)) cells) (ap told_or_no_row here ∙ h r) ∙ ap (λ l. asked r ∷ l) (mapped_told cells at asked rows others h)

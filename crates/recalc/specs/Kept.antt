@@ -15,7 +15,6 @@ use Rattle.doc_readers.specs.Parts.{grid_at}
 use Rattle.recalc.specs.declared.kept.KeptColumn.{KeptColumn}
 use Rattle.recalc.specs.declared.kept.KeptTable.{KeptTable}
 use Rattle.recalc.specs.Evaluated.{formula_at, sheet_of, value_of}
-use Rattle.recalc.specs.Sheet.{Values}
 use Rattle.recalc.specs.Stack.{IsSound}
 use Rattle.recalc.specs.Turn.{StaysKnown}
 

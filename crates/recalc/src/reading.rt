@@ -1,10 +1,10 @@
 //! What a document and the values known of it tell a formula.
 
-ghost use Rattle.std.specs.Prelude.{◌≡◌, Some};
+ghost use Rattle.std.specs.Prelude.{◌≡◌, Some, IfOk, map};
 ghost use Rattle.std.specs.Option.{option_copied, option_map};
 ghost use Rattle.doc_model.specs.DocumentLaws.{IsWhole};
 ghost use Rattle.doc_model.specs.Readers.{cell_at};
-ghost use Rattle.formula_eval.specs.Asked.{told_of};
+ghost use Rattle.formula_eval.specs.Asked.{told_at, told_of};
 ghost use Rattle.recalc.specs.Cells.{cell_of};
 ghost use Rattle.recalc.specs.Evaluated.{sheet_of};
 ghost use Rattle.recalc.specs.Kept.{IsKeptOf, column_at, held_at};
@@ -68,15 +68,21 @@ fn needed_or(value: Option<&CellValue>) -> Reading<'_>
     }
 }
 
+fn base_reading(cell: Option<&CellValue>) -> Reading<'_>
+    ensures { told_of result ≡ told_or_no_row (option_copied cell.entry) }
+{
+    match cell {
+        Some(value) => Reading::Known(value),
+        None => Reading::NoRow,
+    }
+}
+
 // What is told of a cell of a data column.
 fn base_told<'a, D: DocTables>(tables: &'a D, table: &Name, column: &Name, row: u32) -> Reading<'a>
     ensures { told_of result
         ≡ told_or_no_row (cell_at (D.document tables.now) table.now column.now row) }
 {
-    match tables.cell(table, column, row) {
-        Some(value) => Reading::Known(value),
-        None => Reading::NoRow,
-    }
+    base_reading(tables.cell(table, column, row))
 }
 
 /// What is told of a cell.
@@ -110,6 +116,67 @@ pub fn cell_told<'a, D: DocTables>(
     }
 }
 
+// What is told of cells of a data column that were looked up in the tables.
+fn base_readings<'a>(
+    alloc: Global,
+    cells: &[Option<&'a CellValue>],
+) -> Result<Vec<Reading<'a>>, AllocError>
+    ensures { IfOk result (λ told. map told_of told.items
+        ≡ map (λ cell. told_or_no_row (option_copied cell)) cells.now) }
+{
+    let mut told = Vec::with_capacity(alloc, cells.len())?;
+    for cell in cells {
+        told.push(base_reading(*cell))?;
+    }
+    Ok(told)
+}
+
+// What is told of the cells of a column, each looked up by itself.
+fn each_told<'a, D: DocTables>(
+    alloc: Global,
+    tables: &'a D,
+    kept: &'a [KeptTable],
+    table: &Name,
+    column: &Name,
+    rows: &[u32],
+) -> Result<Vec<Reading<'a>>, AllocError>
+    requires whole { IsWhole (D.document tables.now) }
+    requires of_document { IsKeptOf (D.document tables.now) kept.now }
+    ensures { IfOk result (λ told. map told_of told.items
+        ≡ map (told_at (over (sheet_of (D.document tables.now))
+        (held_at (D.document tables.now) kept.now)) table.now column.now) rows.now) }
+{
+    let mut told = Vec::with_capacity(alloc, rows.len())?;
+    for row in rows {
+        told.push(cell_told(tables, kept, table, column, *row))?;
+    }
+    Ok(told)
+}
+
+// What is told of the cells of a column; a data column is looked up once.
+fn cells_told<'a, D: DocTables>(
+    alloc: Global,
+    tables: &'a D,
+    kept: &'a [KeptTable],
+    table: &Name,
+    column: &Name,
+    rows: &[u32],
+) -> Result<Vec<Reading<'a>>, AllocError>
+    requires whole { IsWhole (D.document tables.now) }
+    requires of_document { IsKeptOf (D.document tables.now) kept.now }
+    ensures { IfOk result (λ told. map told_of told.items
+        ≡ map (told_at (over (sheet_of (D.document tables.now))
+        (held_at (D.document tables.now) kept.now)) table.now column.now) rows.now) }
+{
+    match column_at(kept, table, column) {
+        Some(held) if !held.is_formula => {
+            let cells = tables.cells(alloc, table, column, rows)?;
+            base_readings(alloc, &cells)
+        }
+        _ => each_told(alloc, tables, kept, table, column, rows),
+    }
+}
+
 // The type that is kept of a column.
 fn kept_type<'a>(kept: &'a [KeptTable], table: &Name, column: &Name) -> Option<&'a ColType>
     ensures { option_copied result
@@ -136,6 +203,16 @@ impl<'a, D: DocTables> CellSource for KnownReader<'a, D> {
 
     fn cell(&self, table: &Name, column: &Name, row: u32) -> Reading<'_> {
         cell_told(self.tables, self.kept, table, column, row)
+    }
+
+    fn cells(
+        &self,
+        alloc: Global,
+        table: &Name,
+        column: &Name,
+        rows: &[u32],
+    ) -> Result<Vec<Reading<'_>>, AllocError> {
+        cells_told(alloc, self.tables, self.kept, table, column, rows)
     }
 }
 

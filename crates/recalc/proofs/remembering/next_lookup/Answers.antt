@@ -1,4 +1,4 @@
-use Rattle.std.proofs.Common.{IfSome, [], ◌∷◌, ◌≡◌, ◌∙◌, sym, subst}
+use Rattle.std.proofs.Common.{IfSome, ◌≡◌, ◌∙◌, sym, subst}
 use Rattle.formula_eval.specs.Lookup.{matched}
 use Rattle.formula_eval.specs.Run.{gives}
 use Rattle.recalc.specs.Evaluated.{sheet_of}

@@ -1,6 +1,8 @@
 -- The formula cells of rows.
-use Rattle.std.proofs.Common.{ℕ, zero, suc, ◌≤◌, length, slice_get, arith, Bool, true, false, cond, ◌&&◌, ◌||◌, nat_eq, List, [], ◌∷◌, ◌++◌, map, ◌≡◌, refl, sym, ap, ◌∙◌, subst, Option, Some, None}
+use Rattle.std.proofs.Common.{ℕ, zero, suc, ◌+◌, ◌<◌, ◌≤◌, append_assoc, get_or, reverse, take, length, slice_get, arith, Bool, true, false, cond, ◌&&◌, ◌||◌, nat_eq, List, [], ◌∷◌, ◌++◌, map, ◌≡◌, refl, sym, ap, ◌∙◌, subst, Option, Some, None}
 use Rattle.std.proofs.lemmas.Bool.{eq-eqb, false≢true}
+use Rattle.std.proofs.lemmas.List.{reverse-append, take_more}
+use Rattle.std.proofs.lemmas.List.Folds.{list_any-append}
 use Rattle.std.proofs.lemmas.Slice.Eq.{bytes_eq-Decides}
 use Rattle.std.specs.List.{AllByRecursion}
 use Rattle.std.specs.Option.{is_some}
@@ -122,3 +124,24 @@ module _ (s : Document) (t rows : List ℕ) (cells : List CellId) (all : AllByRe
   cells_there c h there =
       let p = parts (bytes_eq c.table t) (has rows c.row) h in
       by_table c ((bytes_eq-Decides c.table t).0 p.0) p.1 (find_id table_id c.table s) refl there
+
+-- the same rows from the last one on
+pub has_reverse : (rows : List ℕ) (r : ℕ) → has (reverse rows) r ≡ has rows r
+has_reverse [] r = refl
+has_reverse (q ∷ rows) r =
+    ap (λ l. has l r) (reverse-append (q ∷ []) rows) ∙ list_any-append (λ x. nat_eq x r) (reverse rows) (q ∷ [])
+    ∙ ap (λ b. b || (nat_eq q r || false)) (has_reverse rows r) ∙ swapped (has rows r) (nat_eq q r)
+  where
+    swapped : (a b : Bool) → (a || (b || false)) ≡ (b || a)
+    swapped true true = refl
+    swapped true false = refl
+    swapped false true = refl
+    swapped false false = refl
+
+-- one more of them put last
+pub pushed_back : (t c : List ℕ) (old new : List CellId) (rows : List ℕ) (i : ℕ) (d : ℕ) → i < length rows → new ≡ old ++ cell_of t c (get_or rows i d) ∷ []
+    → new ++ map (cell_of t c) (reverse (take i rows)) ≡ old ++ map (cell_of t c) (reverse (take (i + 1) rows))
+pushed_back t c old new rows i d within is =
+    ap (λ l. l ++ map (cell_of t c) (reverse (take i rows))) is ∙ append_assoc old (cell_of t c (get_or rows i d) ∷ []) (map (cell_of t c) (reverse (take i rows)))
+    ∙ ap (λ l. old ++ map (cell_of t c) l) (sym (reverse-append (take i rows) (get_or rows i d ∷ [])))
+    ∙ ap (λ l. old ++ map (cell_of t c) (reverse l)) (sym (take_more rows i d within))

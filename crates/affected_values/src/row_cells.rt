@@ -1,6 +1,6 @@
 //! The formula cells of rows.
 
-ghost use Rattle.std.specs.Prelude.{◌≡◌, ◌&&◌, ◌++◌, true, false, map, OnOk};
+ghost use Rattle.std.specs.Prelude.{◌≡◌, ◌&&◌, ◌++◌, true, false, map, reverse, OnOk};
 ghost use Rattle.std.specs.Str.{bytes_eq};
 ghost use Rattle.cell_types.specs.declared.cell.CellId.{CellId};
 ghost use Rattle.doc_model.specs.Rows.{has};
@@ -14,7 +14,8 @@ use doc_model::{ColDef, DocTables};
 use recalc::cell_id;
 use std::alloc::AllocError;
 
-// Puts the cells of a column in these rows last.
+// Puts the cells of a column in these rows last, the last row first: whoever takes cells from the
+// end takes them in the order of their rows.
 fn push_column_cells(
     table: &Name,
     column: &Name,
@@ -22,15 +23,17 @@ fn push_column_cells(
     cells: &mut Vec<CellId>,
 ) -> Result<(), AllocError>
     ensures { OnOk result (cells.new.items
-        ≡ cells.old.items ++ map (cell_of table.now column.now) rows.now) }
+        ≡ cells.old.items ++ map (cell_of table.now column.now) (reverse rows.now)) }
 {
-    for row in rows {
-        cells.push(cell_id(table, column, *row)?)?;
+    let mut index = rows.len();
+    while index > 0 {
+        index -= 1;
+        cells.push(cell_id(table, column, rows[index])?)?;
     }
     Ok(())
 }
 
-/// Puts the cells of a column in these rows last, where it is a formula column.
+/// Puts the cells of a column in these rows last, the last row first, where it is a formula column.
 pub(crate) fn push_where(
     table: &Name,
     column: &ColDef,
@@ -54,7 +57,7 @@ pub(crate) fn push_where(
 }
 
 /// Puts the cells of the formula columns of a table in these rows last, and no others, whether the
-/// rows are there or not.
+/// rows are there or not: of each column the last row first.
 ///
 /// Errors: out of memory; some are then there. Memory: the cells.
 /// Cost: linear in the columns of the table and in the cells.

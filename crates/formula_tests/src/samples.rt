@@ -74,7 +74,7 @@ fn letters(alloc: Global, count: usize) -> Result<CellValue, AllocError> {
     for _ in 0..count {
         text.push('a')?;
     }
-    Ok(CellValue::Text(CellText::from(text)))
+    Ok(CellValue::Text(CellText::from_string(text)?))
 }
 
 fn slot(alloc: Global, held: Held) -> Result<Slot, AllocError> {

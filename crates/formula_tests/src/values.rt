@@ -284,7 +284,7 @@ fn quoted(alloc: Global, text: &str) -> Result<String, AllocError> {
 
 fn plain(alloc: Global, value: &CellValue) -> Result<String, AllocError> {
     match text_of(alloc, value)? {
-        Some(text) => Ok(text.into_string()),
+        Some(text) => String::from_str(alloc, text.as_str()),
         None => String::from_str(alloc, "long"),
     }
 }

@@ -40,7 +40,7 @@ fn letters(alloc: Global, count: usize) -> Result<CellText, AllocError> {
     for _ in 0..count {
         text.push('a')?;
     }
-    Ok(CellText::from(text))
+    CellText::from_string(text)
 }
 
 fn record(alloc: Global, table: &str, row: u32) -> Result<CellItem, AllocError> {
@@ -127,7 +127,7 @@ fn quoted(alloc: Global, text: &str) -> Result<String, AllocError> {
 /// The value's text; `long` where it has none.
 pub fn text(alloc: Global, value: &CellValue) -> Result<String, AllocError> {
     match text_of(alloc, value)? {
-        Some(text) => Ok(text.into_string()),
+        Some(text) => String::from_str(alloc, text.as_str()),
         None => String::from_str(alloc, "long"),
     }
 }

@@ -2,17 +2,18 @@
 //! (`changes_ask_for_what_they_affect`): an edit at the end of a chain, one at its start, a value
 //! that lookups sum up, and a key by which they find it; first ones after a change that was taken
 //! back, which leaves nothing to do. Evaluation afresh asks for each cell that a formula reads, and
-//! an index made anew for each cell of its column, so both would show. Out of memory counts as
-//! false.
+//! an index made anew for each cell of its column, so both would show. And that a touched cell is
+//! evaluated anew with those that it affects, and no others (`touched_cells_are_evaluated_anew`).
+//! Out of memory counts as false.
 
 ghost use Rattle.std.specs.Prelude.{◌≡◌};
 
 use crate::changes::{modify, name};
 use crate::counted::CountedTables;
-use cell_types::{CellValue, RowList, ValueList};
+use cell_types::{CellId, CellIdList, CellValue, ReadList, RowList, ValueList};
 use doc_model::laws::new_document_law;
 use doc_model::{CellColumn, ColumnList, DocAction, DocReader};
-use evaluated_doc::Doc;
+use evaluated_doc::{Doc, Touched};
 use std::alloc::{AllocError, Global};
 
 const ROWS: u32 = 10_000;
@@ -199,4 +200,50 @@ fn are_sums_cheap(alloc: Global) -> bool {
 fn changes_ask_for_what_they_affect(rt: HostRuntime) {
     assert!(rt; is_chain_cheap(rt.alloc()));
     assert!(rt; are_sums_cheap(rt.alloc()));
+}
+
+// A cell of `C` that may have changed, and nothing else.
+fn touched_cell(alloc: Global, row: u32) -> Result<Touched, AllocError> {
+    let table = name(alloc, "Table1")?;
+    let column = name(alloc, "C")?;
+    let mut cells = CellIdList::new(alloc);
+    cells.push(CellId { table, column, row })?;
+    Ok(Touched {
+        reads: ReadList::new(alloc),
+        cells,
+    })
+}
+
+// How often a cell is asked for where that cell, and what it affects, is evaluated anew.
+fn asked_anew(alloc: Global, doc: &mut Doc<CountedTables>, row: u32) -> Option<u64> {
+    let before = doc.tables().asked();
+    let touched = touched_cell(alloc, row).ok()?;
+    if doc.refresh(alloc, &touched).is_ok() {
+        Some(doc.tables().asked().wrapping_sub(before))
+    } else {
+        None
+    }
+}
+
+// Each of them reads a value of its row: the last one alone, the last two, and a hundred.
+fn are_touched_cells_cheap(alloc: Global) -> bool {
+    let Some(mut doc) = loaded(
+        alloc,
+        "IF($id == 1, 0, Table1.lookupOne(id=$id - 1).C) + $B",
+    ) else {
+        return false;
+    };
+    let last = asked_anew(alloc, &mut doc, 10_000);
+    let two = asked_anew(alloc, &mut doc, 9_999);
+    let hundred = asked_anew(alloc, &mut doc, 9_901);
+    last == Some(1)
+        && two == Some(2)
+        && hundred == Some(100)
+        && is_cell(alloc, &doc, 9_999, 10_000)
+        && is_cell(alloc, &doc, 10_000, 10_001)
+}
+
+#[test]
+fn touched_cells_are_evaluated_anew(rt: HostRuntime) {
+    assert!(rt; are_touched_cells_cheap(rt.alloc()));
 }

@@ -93,3 +93,9 @@ runs_more runs i x l e =
     more [] i l e = absurd (omega arith)
     more (y ∷ runs) zero l e = ap notes_of e ∙ sym (append_none (notes_of y))
     more (y ∷ runs) (suc i) l e = append_assoc (notes_of y) (notes_in (take i runs)) (notes_of x) ∙ ap (λ r. notes_of y ++ r) (more runs i (omega arith) e)
+
+-- reads of the cells of a column that stand together
+pub notes_together : (run : NoteRun) (t c : List ℕ) (r : ℕ) (others rows : List ℕ) → run.note ≡ note.Read (Cell (cell_at t c r)) → run.more.items ≡ others → rows ≡ r ∷ others
+    → notes_of run ≡ more_cells t c rows
+notes_together run t c r others rows is more all =
+    ap (λ n. n ∷ notes_after n run.more.items) is ∙ ap (λ l. more_cells t c (r ∷ l)) more ∙ ap (more_cells t c) (sym all)

@@ -1,6 +1,6 @@
 //! Notes of which those of cells of one column, one after the other, stand together.
 
-ghost use Rattle.std.specs.Prelude.{◌≡◌, ◌++◌, ◌∷◌, [], ℕ, true, OnOk};
+ghost use Rattle.std.specs.Prelude.{◌≡◌, ◌++◌, ◌∷◌, [], ℕ, true, IfOk, OnOk};
 ghost use Rattle.cell_types.specs.declared.cell.Read.TheVariants.{Cell};
 ghost use Rattle.formula_eval.specs.declared.note.Note.{Note};
 ghost use Rattle.formula_eval.specs.Reader.{cell_at};
@@ -68,10 +68,17 @@ impl NoteRuns {
         ensures { OnOk result (self.new
             ≡ self.old ++ Note.Read (Cell (cell_at table.now column.now row)) ∷ []) }
     {
-        let table = table.clone()?;
-        let column = column.clone()?;
-        self.push(Note::Read(Read::Cell(CellId { table, column, row })))
+        self.push(read_of(table, column, row)?)
     }
+}
+
+// The note of a read of a cell.
+fn read_of(table: &Name, column: &Name, row: u32) -> Result<Note, AllocError>
+    ensures { IfOk result (λ n. n ≡ Note.Read (Cell (cell_at table.now column.now row))) }
+{
+    let table = table.clone()?;
+    let column = column.clone()?;
+    Ok(Note::Read(Read::Cell(CellId { table, column, row })))
 }
 
 // Whether the note is a read of a cell of the column.
@@ -120,6 +127,16 @@ impl NoteKeeper for NoteRuns {
             }
         }
         self.push_cell(table, column, row)
+    }
+
+    fn cells(&mut self, table: &Name, column: &Name, rows: &[u32]) -> Result<(), AllocError> {
+        let Some((first, others)) = rows.split_first() else {
+            return Ok(());
+        };
+        let more = Vec::from_slice(self.alloc, others)?;
+        let note = read_of(table, column, *first)?;
+        self.runs.push(NoteRun { note, more })?;
+        Ok(())
     }
 
     fn met(&mut self, table: &Name, keys: KeyList) -> Result<(), AllocError> {

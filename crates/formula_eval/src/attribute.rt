@@ -1,10 +1,11 @@
 //! Attributes of records and sets of records, and what may stand in a list.
 
-ghost use Rattle.std.specs.Prelude.{◌≡◌, ◌++◌, ◌∷◌, [], None, Some, IfOk, MatchOption, length, map};
+ghost use Rattle.std.specs.Prelude.{◌≡◌, ◌++◌, ◌∷◌, [], None, Some, IfOk, MatchOption, ◌≤◌, List, length, map, take};
 ghost use Rattle.cell_types.specs.Reference.{row_items};
 ghost use Rattle.value_ops.specs.Joined.{bounded_list};
 ghost use Rattle.formula_parse.specs.Lexemes.{is_id, id_word};
-ghost use Rattle.formula_eval.specs.Asked.{told_at, told_of};
+ghost use Rattle.formula_eval.specs.declared.note.Note.{Note};
+ghost use Rattle.formula_eval.specs.Asked.{read_note, told_at, told_of};
 ghost use Rattle.formula_eval.specs.Reader.{Reader, cell_at};
 ghost use Rattle.formula_eval.specs.Run.{done, out_of, collect};
 ghost use Rattle.formula_eval.specs.Reading.{read_cell};
@@ -12,7 +13,7 @@ ghost use Rattle.formula_eval.specs.Attribute.{item_of, as_item, listed, column_
 ghost use Rattle.formula_eval.specs.Halted.{Comes, ComesAs, IsOut, IsOutAs};
 
 use crate::halt::Halt;
-use crate::reading::{read_cell, read_told};
+use crate::reading::{read_cell, told_value};
 use crate::{CellReader, NoteKeeper, Reading};
 use cell_types::{CellItem, CellList, CellValue, ColType, ErrKind, Name, RowRef, RowSet};
 use std::alloc::{AllocError, Global};
@@ -149,29 +150,62 @@ fn read_items<N: NoteKeeper>(
         → ComesAs (λ v. v.items) result (N.noted notes.old) (N.noted notes.new)
         (collect (map as_item (column_runs reader table.now column.now rows.now))) }
 {
+    let mut count = 0;
+    let items = items_told(alloc, table, column, ty, rows, told, &mut count);
+    match notes.cells(table, column, &rows[..count]) {
+        Ok(()) => items,
+        Err(_) => {
+            drop(items);
+            Err(Halt::NoMemory)
+        }
+    }
+}
+
+// The items of the cells, and how many cells are read for them: none behind the first one that
+// halts.
+fn items_told(
+    alloc: Global,
+    table: &Name,
+    column: &Name,
+    ty: Option<&ColType>,
+    rows: &[u32],
+    told: &[Reading<'_>],
+    count: &mut usize,
+) -> Result<Vec<CellItem>, Halt>
+    requires told { length told.now ≡ length rows.now }
+    requires count { count.old ≡ 0 }
+    ensures count { count.new ≤ length rows.now }
+    ensures items { (reader : Reader)
+        → MatchOption ty.entry (reader.kind table.now column.now ≡ None)
+        (λ ty. reader.kind table.now column.now ≡ Some ty.now)
+        → map told_of told.now ≡ map (told_at reader table.now column.now) rows.now
+        → ComesAs (λ v. v.items) result []
+        (map (read_note table.now column.now) (take count.new rows.now))
+        (collect (map as_item (column_runs reader table.now column.now rows.now))) }
+{
     let mut items = Vec::with_capacity(alloc, rows.len())?;
     for (index, row) in rows.iter().enumerate() {
-        let item = read_item(alloc, table, column, ty, *row, &told[index], notes)?;
+        *count = index + 1;
+        let item = item_told(alloc, table, column, ty, *row, &told[index])?;
         items.push(item)?;
     }
     Ok(items)
 }
 
-fn read_item<N: NoteKeeper>(
+fn item_told(
     alloc: Global,
     table: &Name,
     column: &Name,
     ty: Option<&ColType>,
     row: u32,
     told: &Reading<'_>,
-    notes: &mut N,
 ) -> Result<CellItem, Halt>
-    ensures { (reader : Reader)
+    ensures { (reader : Reader) (old : List Note)
         → MatchOption ty.entry (reader.kind table.now column.now ≡ None)
         (λ ty. reader.kind table.now column.now ≡ Some ty.now)
         → told_of told.now ≡ told_at reader table.now column.now row
-        → ComesAs (λ i. i) result (N.noted notes.old) (N.noted notes.new)
+        → ComesAs (λ i. i) result old (old ++ read_note table.now column.now row ∷ [])
         (as_item (read_cell reader (cell_at table.now column.now row))) }
 {
-    item_of(read_told(alloc, table, column, ty, row, told, notes)?)
+    item_of(told_value(alloc, table, column, ty, row, told)?)
 }

@@ -1,7 +1,8 @@
 //! Where the notes of a run go.
 
-ghost use Rattle.std.specs.Prelude.{◌≡◌, ◌++◌, ◌∷◌, [], List, OnOk};
+ghost use Rattle.std.specs.Prelude.{◌≡◌, ◌++◌, ◌∷◌, [], List, map, OnOk};
 ghost use Rattle.cell_types.specs.declared.cell.Read.TheVariants.{Cell, Key, Rows};
+ghost use Rattle.formula_eval.specs.Asked.{read_note};
 ghost use Rattle.formula_eval.specs.Reader.{cell_at};
 
 use crate::reading::cell_id;
@@ -34,6 +35,17 @@ pub trait NoteKeeper {
     fn cell(&mut self, table: &Name, column: &Name, row: u32) -> Result<(), AllocError>
         ensures { OnOk result (noted self.new
             ≡ noted self.old ++ Note.Read (Cell (cell_at table.now column.now row)) ∷ []) };
+
+    /// Reads of the cells of a column in these rows.
+    fn cells(&mut self, table: &Name, column: &Name, rows: &[u32]) -> Result<(), AllocError>
+        ensures { OnOk result (noted self.new
+            ≡ noted self.old ++ map (read_note table.now column.now) rows.now) }
+    {
+        for row in rows {
+            self.cell(table, column, *row)?;
+        }
+        Ok(())
+    }
 
     /// A lookup with the values of its keys.
     fn met(&mut self, table: &Name, keys: KeyList) -> Result<(), AllocError>

@@ -1,9 +1,10 @@
 //! The reads of cells.
 
-ghost use Rattle.std.specs.Prelude.{◌≡◌, ◌++◌, ◌∷◌, [], Err, None, Some, IfOk, MatchOption, OnOk, OnErr, option_map, ⊤};
+ghost use Rattle.std.specs.Prelude.{List, ◌≡◌, ◌++◌, ◌∷◌, [], Err, None, Some, IfOk, MatchOption, OnOk, OnErr, option_map, ⊤};
 ghost use Rattle.cell_types.specs.Conversion.{default_value};
 ghost use Rattle.cell_types.specs.Reference.{row_number, no_zero};
-ghost use Rattle.formula_eval.specs.Asked.{told_at, told_of};
+ghost use Rattle.formula_eval.specs.declared.note.Note.{Note};
+ghost use Rattle.formula_eval.specs.Asked.{read_note, told_at, told_of};
 ghost use Rattle.formula_eval.specs.Reader.{Reader, cell_at};
 ghost use Rattle.formula_eval.specs.Run.{done};
 ghost use Rattle.formula_eval.specs.Reading.{as_read, as_record, as_records, read_cell, row_of_item, rows_of_items, value_out};
@@ -36,29 +37,29 @@ pub(crate) fn read_cell<R: CellReader, N: NoteKeeper>(
     ensures { Comes result (N.noted notes.old) (N.noted notes.new)
         (read_cell (R.told reader.now) (cell_at table.now column.now row)) }
 {
+    notes.cell(table, column, row)?;
     let ty = reader.ty(table, column);
     let told = reader.cell(table, column, row);
-    read_told(alloc, table, column, ty, row, &told, notes)
+    told_value(alloc, table, column, ty, row, &told)
 }
 
-/// The same, where the type of the column and what is told of the cell are at hand.
-pub(crate) fn read_told<N: NoteKeeper>(
+/// The same, where the type of the column and what is told of the cell are at hand, and the read
+/// is noted elsewhere.
+pub(crate) fn told_value(
     alloc: Global,
     table: &Name,
     column: &Name,
     ty: Option<&ColType>,
     row: u32,
     told: &Reading<'_>,
-    notes: &mut N,
 ) -> Result<CellValue, Halt>
-    ensures { (reader : Reader)
+    ensures { (reader : Reader) (old : List Note)
         → MatchOption ty.entry (reader.kind table.now column.now ≡ None)
         (λ ty. reader.kind table.now column.now ≡ Some ty.now)
         → told_of told.now ≡ told_at reader table.now column.now row
-        → Comes result (N.noted notes.old) (N.noted notes.new)
+        → Comes result old (old ++ read_note table.now column.now row ∷ [])
         (read_cell reader (cell_at table.now column.now row)) }
 {
-    notes.cell(table, column, row)?;
     match told {
         Reading::Need => Err(Halt::Need(cell_id(table, column, row)?)),
         Reading::Known(CellValue::Err(ErrKind::Circular)) => Err(Halt::Circular),

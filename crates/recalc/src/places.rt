@@ -32,7 +32,7 @@ fn ends_alike(left: &[u8], right: &[u8]) -> bool
 
 /// Whether two ids are the same.
 #[tactic(auto, using(crate::proofs::PlaceLemmas::other_lengths, crate::proofs::PlaceLemmas::other_ends))]
-#[inline]
+#[inline(always)]
 pub(crate) fn is_same_id(left: &Name, right: &Name) -> bool
     ensures { result ≡ bytes_eq left.now right.now }
 {

@@ -75,7 +75,7 @@ pub(crate) fn search_cells<'a>(rows: &[u32], cells: &'a [ValueList], row: u32) -
 
 /// Whether two ids are the same.
 #[tactic(auto, using(crate::proofs::Walks::lengths_first, crate::proofs::Walks::other_lengths))]
-#[inline]
+#[inline(always)]
 pub(crate) fn is_same_id(left: &Name, right: &Name) -> bool
     ensures { result ≡ bytes_eq left.now right.now }
 {

@@ -78,8 +78,8 @@ impl RowTable {
         cell_at_place(search_cells(&self.rows, &self.cells, row), place)
     }
 
-    /// The cells of a column in some rows, of which there are no others than ascending ones; nothing
-    /// where there is none.
+    /// The cells of a column in some rows, where those of the table ascend; nothing where there is
+    /// none.
     ///
     /// Errors: out of memory. Memory: a place for each row.
     /// Cost: linear in the columns, once, and for each row the logarithm of the rows of the table.

@@ -20,7 +20,7 @@ use Rattle.recalc.specs.declared.kept.KeptColumn.{KeptColumn}
 use Rattle.recalc.specs.declared.kept.KeptTable.{KeptTable}
 use Rattle.recalc.specs.Evaluated.{formula_in, base_in, sheet_of}
 use Rattle.recalc.specs.Kept.{ColumnShape, IsKeptOf, column_at, held_at, held_column, held_in, held_table, kept_column_id, kept_table_id}
-use Rattle.recalc.specs.Seen.{told_or_needed, told_or_no_row, joined}
+use Rattle.recalc.specs.Seen.{told_beside, told_or_needed, told_or_no_row, joined}
 use Rattle.recalc.specs.Sheet.{over, told_by}
 use Rattle.recalc.proofs.KeptLemmas.{find_table, find_column, table_of, column_of, match_none, shape_kept, shape_blank, column_kept, column_blank}
 use Rattle.recalc.proofs.PlaceLemmas.{held-get}
@@ -32,6 +32,12 @@ grid_found s t u h = ap (λ (o : Option Table). elim o as (λ _. Grid ColDef) [ 
 pub held_found : (s : Document) (ks : List KeptTable) (t c : List ℕ) (r : ℕ) (k : KeptTable) → Some k ≡ find_id kept_table_id t ks → (e : KeptColumn) → Some e ≡ find_id kept_column_id c k.columns.items
     → held_in (grid_at s t).rows e.values.items r ≡ held_at s ks (cell_of t c r)
 held_found s ks t c r k h e g = ap (held_column (grid_at s t).rows r) g ∙ ap (held_table (grid_at s t).rows c r) h
+
+has_at : (rows : List ℕ) (r i : ℕ) → slice_get rows i ≡ Some r → has rows r ≡ true
+has_at [] r zero h = absurd (cc)
+has_at [] r (suc i) h = absurd (cc)
+has_at (q ∷ rows) r zero h = let same : q ≡ r = cc in ap (λ b. Rattle.std.specs.Prelude.◌||◌ b (has rows r)) (Rattle.std.proofs.lemmas.Bool.eq-eqb q r same)
+has_at (q ∷ rows) r (suc i) h = Rattle.std.proofs.lemmas.Bool.or_right (Rattle.std.specs.Prelude.nat_eq q r) (has rows r) (has_at rows r i h)
 
 module _ (s : Document) (ks : List KeptTable) (kept : IsKeptOf s ks) (t c : List ℕ) (r : ℕ) where
   abbrev pub told : Told
@@ -88,25 +94,23 @@ module _ (s : Document) (ks : List KeptTable) (kept : IsKeptOf s ks) (t c : List
           ∙ ap (λ b. in_bools u.0 d.0 b (has u.0.grid.rows r)) (is ∙ kind u.0.grid.rows d.0 d.2)
           ∙ by_column u.0 u.1 d.0 d.1
 
-      has_at : (rows : List ℕ) (i : ℕ) → slice_get rows i ≡ Some r → has rows r ≡ true
-      has_at [] zero h = absurd (cc)
-      has_at [] (suc i) h = absurd (cc)
-      has_at (q ∷ rows) zero h = let same : q ≡ r = cc in ap (λ b. Rattle.std.specs.Prelude.◌||◌ b (has rows r)) (Rattle.std.proofs.lemmas.Bool.eq-eqb q r same)
-      has_at (q ∷ rows) (suc i) h = Rattle.std.proofs.lemmas.Bool.or_right (Rattle.std.specs.Prelude.nat_eq q r) (has rows r) (has_at rows i h)
-
-      pub value_there : true ≡ e.is_formula → (i : ℕ) → IsAscending (grid_at s t).rows → slice_get (grid_at s t).rows i ≡ Some r → told_or_needed (joined (slice_get e.values.items i)) ≡ told
-      value_there is i ascends at =
+      pub value_held : true ≡ e.is_formula → has (grid_at s t).rows r ≡ true → told_or_needed (held_in (grid_at s t).rows e.values.items r) ≡ told
+      value_held is h =
           let u = table_of s ks kept t k here in
           let d = column_of k u.0 u.2 c e found in
-          ap told_or_needed (held-get (grid_at s t).rows e.values.items i r ascends at ∙ held_found s ks t c r k here e found)
+          ap told_or_needed (held_found s ks t c r k here e found)
           ∙ by_value u.0 d.0 (held_at s ks (cell_of t c r))
-          ∙ ap (λ b. in_bools u.0 d.0 true b) (sym (ap (λ (g : Grid ColDef). has g.rows r) (sym (grid_found s t u.0 u.1)) ∙ has_at (grid_at s t).rows i at))
+          ∙ ap (λ b. in_bools u.0 d.0 true b) (sym (ap (λ (g : Grid ColDef). has g.rows r) (sym (grid_found s t u.0 u.1)) ∙ h))
           ∙ ap (λ b. in_bools u.0 d.0 b (has u.0.grid.rows r)) (is ∙ kind u.0.grid.rows d.0 d.2)
           ∙ by_column u.0 u.1 d.0 d.1
         where
           by_value : (u : Table) (d : ColDef) (o : Option CellValue) → told_or_needed o ≡ told_by (Some d.info.formula) (known (cell column_id u.grid c r)) o
           by_value u d None = refl
           by_value u d (Some v) = refl
+
+      pub value_there : true ≡ e.is_formula → (i : ℕ) → IsAscending (grid_at s t).rows → slice_get (grid_at s t).rows i ≡ Some r → told_or_needed (joined (slice_get e.values.items i)) ≡ told
+      value_there is i ascends at =
+          ap told_or_needed (held-get (grid_at s t).rows e.values.items i r ascends at) ∙ value_held is (has_at (grid_at s t).rows r i at)
 
 -- the cells of a data column of which something is kept
 pub column_told : (s : Document) (ks : List KeptTable) → IsKeptOf s ks → (t c : List ℕ) (e : KeptColumn) → Some e ≡ column_at ks t c → false ≡ e.is_formula
@@ -131,3 +135,34 @@ mapped_told (x ∷ cells) at asked (r ∷ rows) e h =
     let here : option_copied x ≡ at r = cc in
     let others : map option_copied cells ≡ map at rows = cc in
     ap (λ v. v ∷ map (λ cell. told_or_no_row (option_copied cell)) cells) (ap told_or_no_row here ∙ h r) ∙ ap (λ l. asked r ∷ l) (mapped_told cells at asked rows others h)
+
+-- a row that is there, and one that is not, beside the values of a column
+pub beside_there : (rows : List ℕ) (vs : List (Option CellValue)) (r i : ℕ) → IsAscending rows → slice_get rows i ≡ Some r → told_or_needed (joined (slice_get vs i)) ≡ told_beside rows vs r
+beside_there rows vs r i ascends at =
+    ap told_or_needed (held-get rows vs i r ascends at) ∙ ap (λ b. cond b (told_or_needed (held_in rows vs r)) no_row) (sym (has_at rows r i at))
+
+pub beside_absent : (rows : List ℕ) (vs : List (Option CellValue)) (r : ℕ) → has rows r ≡ false → no_row ≡ told_beside rows vs r
+beside_absent rows vs r h = ap (λ b. cond b (told_or_needed (held_in rows vs r)) no_row) (sym h)
+
+-- the cells of a formula column
+pub beside_told : (s : Document) (ks : List KeptTable) → IsKeptOf s ks → (t c : List ℕ) (e : KeptColumn) → Some e ≡ column_at ks t c → true ≡ e.is_formula
+    → (r : ℕ) → told_beside (grid_at s t).rows e.values.items r ≡ (over (sheet_of s) (held_at s ks)).cell (cell_of t c r)
+beside_told s ks kept t c e there is r =
+    elim (find_id kept_table_id t ks) as (λ x. Some e ≡ column_in c x → x ≡ find_id kept_table_id t ks → told_beside (grid_at s t).rows e.values.items r ≡ told s ks kept t c r) [
+      | None ↦ λ found _. absurd (cc)
+      | Some k ↦ λ found here. by_row k here found (has (grid_at s t).rows r) refl
+    ] there refl
+  where
+    column_in : List ℕ → Option KeptTable → Option KeptColumn
+    column_in c None = None
+    column_in c (Some k) = find_id kept_column_id c k.columns.items
+
+    by_row : (k : KeptTable) → Some k ≡ find_id kept_table_id t ks → Some e ≡ find_id kept_column_id c k.columns.items → (b : Bool) → has (grid_at s t).rows r ≡ b
+        → told_beside (grid_at s t).rows e.values.items r ≡ told s ks kept t c r
+    by_row k here found true h = ap (λ b. cond b (told_or_needed (held_in (grid_at s t).rows e.values.items r)) no_row) h ∙ value_held s ks kept t c r k here e found is h
+    by_row k here found false h = ap (λ b. cond b (told_or_needed (held_in (grid_at s t).rows e.values.items r)) no_row) h ∙ row_absent s ks kept t c r k here e found is h
+
+-- what is told of each row alike
+pub told_alike : (f g : ℕ → Told) (rows : List ℕ) → ((r : ℕ) → f r ≡ g r) → map f rows ≡ map g rows
+told_alike f g [] h = refl
+told_alike f g (r ∷ rows) h = ap (λ v. v ∷ map f rows) (h r) ∙ ap (λ l. g r ∷ l) (told_alike f g rows h)

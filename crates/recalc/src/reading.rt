@@ -8,12 +8,13 @@ ghost use Rattle.formula_eval.specs.Asked.{told_at, told_of};
 ghost use Rattle.recalc.specs.Cells.{cell_of};
 ghost use Rattle.recalc.specs.Evaluated.{sheet_of};
 ghost use Rattle.recalc.specs.Kept.{IsKeptOf, column_at, held_at};
-ghost use Rattle.recalc.specs.Seen.{told_or_needed, told_or_no_row};
+ghost use Rattle.doc_model.specs.Rows.{IsAscending};
+ghost use Rattle.recalc.specs.Seen.{told_beside, told_or_needed, told_or_no_row};
 ghost use Rattle.recalc.specs.Sheet.{over};
 
 use crate::candidates::candidates;
 use crate::indexes::ColumnIndex;
-use crate::kept::KeptTable;
+use crate::kept::{KeptColumn, KeptTable};
 use crate::places::{column_at, find_column, find_table, row_index, value_at};
 use crate::remembering::{LastLookup, remembered};
 use cell_types::{CellValue, ColType, KeyList, Name, RowList};
@@ -116,6 +117,35 @@ pub fn cell_told<'a, D: DocTables>(
     }
 }
 
+// What is told of the cell of a formula column in a row, where its values stand beside these rows.
+fn told_beside<'a>(held: &'a KeptColumn, rows: &[u32], row: u32) -> Reading<'a>
+    requires { IsAscending rows.now }
+    ensures { told_of result ≡ told_beside rows.now held.now.values.items row }
+{
+    match row_index(rows, row) {
+        Some(index) => needed_or(value_at(&held.values, index)),
+        None => Reading::NoRow,
+    }
+}
+
+// The same of some rows among these.
+fn kept_readings<'a>(
+    alloc: Global,
+    held: &'a KeptColumn,
+    rows: &[u32],
+    some: &[u32],
+) -> Result<Vec<Reading<'a>>, AllocError>
+    requires { IsAscending rows.now }
+    ensures { IfOk result (λ told. map told_of told.items
+        ≡ map (told_beside rows.now held.now.values.items) some.now) }
+{
+    let mut told = Vec::with_capacity(alloc, some.len())?;
+    for row in some {
+        told.push(told_beside(held, rows, *row))?;
+    }
+    Ok(told)
+}
+
 // What is told of cells of a data column that were looked up in the tables.
 fn base_readings<'a>(
     alloc: Global,
@@ -153,7 +183,7 @@ fn each_told<'a, D: DocTables>(
     Ok(told)
 }
 
-// What is told of the cells of a column; a data column is looked up once.
+// What is told of the cells of a column, which is looked up once.
 fn cells_told<'a, D: DocTables>(
     alloc: Global,
     tables: &'a D,
@@ -169,11 +199,14 @@ fn cells_told<'a, D: DocTables>(
         (held_at (D.document tables.now) kept.now)) table.now column.now) rows.now) }
 {
     match column_at(kept, table, column) {
-        Some(held) if !held.is_formula => {
+        Some(held) if held.is_formula => {
+            kept_readings(alloc, held, rows_in(tables, table), rows)
+        }
+        Some(_) => {
             let cells = tables.cells(alloc, table, column, rows)?;
             base_readings(alloc, &cells)
         }
-        _ => each_told(alloc, tables, kept, table, column, rows),
+        None => each_told(alloc, tables, kept, table, column, rows),
     }
 }
 

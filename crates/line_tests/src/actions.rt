@@ -9,48 +9,48 @@ use serde_json::Value;
 use std::alloc::{AllocError, Global};
 
 const ACTIONS: &str = concat!(
-    r#"["AddRecord","T",null,{}] => [Add { table: CellText { text: "T" }, single: true, count: "#,
-    r#"1, has_row_ids: false, columns: Sequence { items: [] } }]
-["AddRecord","T",-5,{"b":2,"a":1,"b":3}] => [Add { table: CellText { text: "T" }, single: true, "#,
-    r#"count: 1, has_row_ids: true, columns: Sequence { items: [UserColumn { id: CellText { "#,
-    r#"text: "a" }, values: Sequence { items: [Int(1)] } }, UserColumn { id: CellText { text: "#,
-    r#""b" }, values: Sequence { items: [Int(3)] } }] } }]
-["BulkAddRecord","T",[null,7],{"B":[1,2],"A":["x",null]}] => [Add { table: CellText { text: "T" "#,
-    r#"}, single: false, count: 2, has_row_ids: true, columns: Sequence { items: [UserColumn { "#,
-    r#"id: CellText { text: "A" }, values: Sequence { items: [Text(CellText { text: "x" }), "#,
-    r#"Null] } }, UserColumn { id: CellText { text: "B" }, values: Sequence { items: [Int(1), "#,
-    r#"Int(2)] } }] } }]
-["BulkAddRecord","",[],{"A":[]}] => [Add { table: CellText { text: "" }, single: false, count: "#,
-    r#"0, has_row_ids: false, columns: Sequence { items: [UserColumn { id: CellText { text: "A" "#,
-    r#"}, values: Sequence { items: [] } }] } }]
-["UpdateRecord","T",3,{"A":false}] => [Update { table: CellText { text: "T" }, single: true, "#,
-    r#"rows: Sequence { items: [3] }, columns: Sequence { items: [UserColumn { id: CellText { "#,
-    r#"text: "A" }, values: Sequence { items: [Bool(false)] } }] } }]
-["BulkUpdateRecord","T",[2,-1],{"A":[5,6]}] => [Update { table: CellText { text: "T" }, single: "#,
-    r#"false, rows: Sequence { items: [2, -1] }, columns: Sequence { items: [UserColumn { id: "#,
-    r#"CellText { text: "A" }, values: Sequence { items: [Int(5), Int(6)] } }] } }]
-["RemoveRecord","T",3] => [Remove { table: CellText { text: "T" }, single: true, rows: Sequence "#,
-    r#"{ items: [3] } }]
-["BulkRemoveRecord","T",[3,3,0]] => [Remove { table: CellText { text: "T" }, single: false, "#,
-    r#"rows: Sequence { items: [3, 3, 0] } }]
+    r#"["AddRecord","T",null,{}] => [Add { table: CellText { shared: Some("T") }, single: true, "#,
+    r#"count: 1, has_row_ids: false, columns: Sequence { items: [] } }]
+["AddRecord","T",-5,{"b":2,"a":1,"b":3}] => [Add { table: CellText { shared: Some("T") }, "#,
+    r#"single: true, count: 1, has_row_ids: true, columns: Sequence { items: [UserColumn { id: "#,
+    r#"CellText { shared: Some("a") }, values: Sequence { items: [Int(1)] } }, UserColumn { id: "#,
+    r#"CellText { shared: Some("b") }, values: Sequence { items: [Int(3)] } }] } }]
+["BulkAddRecord","T",[null,7],{"B":[1,2],"A":["x",null]}] => [Add { table: CellText { shared: "#,
+    r#"Some("T") }, single: false, count: 2, has_row_ids: true, columns: Sequence { items: "#,
+    r#"[UserColumn { id: CellText { shared: Some("A") }, values: Sequence { items: "#,
+    r#"[Text(CellText { shared: Some("x") }), Null] } }, UserColumn { id: CellText { shared: "#,
+    r#"Some("B") }, values: Sequence { items: [Int(1), Int(2)] } }] } }]
+["BulkAddRecord","",[],{"A":[]}] => [Add { table: CellText { shared: None }, single: false, "#,
+    r#"count: 0, has_row_ids: false, columns: Sequence { items: [UserColumn { id: CellText { "#,
+    r#"shared: Some("A") }, values: Sequence { items: [] } }] } }]
+["UpdateRecord","T",3,{"A":false}] => [Update { table: CellText { shared: Some("T") }, single: "#,
+    r#"true, rows: Sequence { items: [3] }, columns: Sequence { items: [UserColumn { id: "#,
+    r#"CellText { shared: Some("A") }, values: Sequence { items: [Bool(false)] } }] } }]
+["BulkUpdateRecord","T",[2,-1],{"A":[5,6]}] => [Update { table: CellText { shared: Some("T") }, "#,
+    r#"single: false, rows: Sequence { items: [2, -1] }, columns: Sequence { items: [UserColumn "#,
+    r#"{ id: CellText { shared: Some("A") }, values: Sequence { items: [Int(5), Int(6)] } }] } }]
+["RemoveRecord","T",3] => [Remove { table: CellText { shared: Some("T") }, single: true, rows: "#,
+    r#"Sequence { items: [3] } }]
+["BulkRemoveRecord","T",[3,3,0]] => [Remove { table: CellText { shared: Some("T") }, single: "#,
+    r#"false, rows: Sequence { items: [3, 3, 0] } }]
 ["AddTable","T",[{"id":"A"},{"id":"","type":"Int","isFormula":true,"formula":"1"}]] => [AddTable "#,
-    r#"{ table: CellText { text: "T" }, columns: Sequence { items: [UserCol { id: CellText { "#,
-    r#"text: "A" }, ty: None, is_formula: None, formula: None }, UserCol { id: CellText { text: "#,
-    r#""" }, ty: Some(CellText { text: "Int" }), is_formula: Some(true), formula: Some(CellText "#,
-    r#"{ text: "1" }) }] } }]
-["RemoveTable","T"] => [RemoveTable { table: CellText { text: "T" } }]
-["RenameTable","T","U"] => [RenameTable { table: CellText { text: "T" }, new: CellText { text: "#,
-    r#""U" } }]
-["AddColumn","T","D",{"type":"Text"}] => [AddColumn { table: CellText { text: "T" }, column: "#,
-    r#"UserCol { id: CellText { text: "D" }, ty: Some(CellText { text: "Text" }), is_formula: "#,
-    r#"None, formula: None } }]
-["RemoveColumn","T","D"] => [RemoveColumn { table: CellText { text: "T" }, column: CellText { "#,
-    r#"text: "D" } }]
-["RenameColumn","T","D","E"] => [RenameColumn { table: CellText { text: "T" }, column: CellText "#,
-    r#"{ text: "D" }, new: CellText { text: "E" } }]
+    r#"{ table: CellText { shared: Some("T") }, columns: Sequence { items: [UserCol { id: "#,
+    r#"CellText { shared: Some("A") }, ty: None, is_formula: None, formula: None }, UserCol { "#,
+    r#"id: CellText { shared: None }, ty: Some(CellText { shared: Some("Int") }), is_formula: "#,
+    r#"Some(true), formula: Some(CellText { shared: Some("1") }) }] } }]
+["RemoveTable","T"] => [RemoveTable { table: CellText { shared: Some("T") } }]
+["RenameTable","T","U"] => [RenameTable { table: CellText { shared: Some("T") }, new: CellText { "#,
+    r#"shared: Some("U") } }]
+["AddColumn","T","D",{"type":"Text"}] => [AddColumn { table: CellText { shared: Some("T") }, "#,
+    r#"column: UserCol { id: CellText { shared: Some("D") }, ty: Some(CellText { shared: "#,
+    r#"Some("Text") }), is_formula: None, formula: None } }]
+["RemoveColumn","T","D"] => [RemoveColumn { table: CellText { shared: Some("T") }, column: "#,
+    r#"CellText { shared: Some("D") } }]
+["RenameColumn","T","D","E"] => [RenameColumn { table: CellText { shared: Some("T") }, column: "#,
+    r#"CellText { shared: Some("D") }, new: CellText { shared: Some("E") } }]
 ["ModifyColumn","T","D",{"formula":"$A","isFormula":false}] => [ModifyColumn { table: CellText { "#,
-    r#"text: "T" }, column: UserCol { id: CellText { text: "D" }, ty: None, is_formula: "#,
-    r#"Some(false), formula: Some(CellText { text: "$A" }) } }]"#,
+    r#"shared: Some("T") }, column: UserCol { id: CellText { shared: Some("D") }, ty: None, "#,
+    r#"is_formula: Some(false), formula: Some(CellText { shared: Some("$A") }) } }]"#,
 );
 
 const NO_ACTIONS: &str = r#"["addRecord","T",null,{}]
@@ -102,10 +102,10 @@ true => [Bool(true)]
 -0 => -
 1.0 => -
 1e3 => -
-"é" => [Text(CellText { text: "é" })]
+"é" => [Text(CellText { shared: Some("é") })]
 ["L",null,1,"a",true,["d",5],["R","U",3]] => [List(Sequence { items: [Null, Int(1), "#,
-    r#"Text(CellText { text: "a" }), Bool(true), Date(5), Rec(RowRef { table: Name { text: "#,
-    r#"CellText { text: "U" } }, row: 3 })] })]
+    r#"Text(CellText { shared: Some("a") }), Bool(true), Date(5), Rec(RowRef { table: Name { "#,
+    r#"text: CellText { shared: Some("U") } }, row: 3 })] })]
 ["L",["L"]] => -
 ["L",["r","U",[]]] => -
 ["L",["C"]] => -
@@ -115,16 +115,16 @@ true => [Bool(true)]
 ["d"] => -
 ["d",1,2] => -
 ["R","éééééééééééééééééééééééééééééééééééééééééééééééééééééééééééééééé",4294967295] => "#,
-    r#"[Rec(RowRef { table: Name { text: CellText { text: "#,
-    r#""éééééééééééééééééééééééééééééééééééééééééééééééééééééééééééééééé" } }, row: 4294967295 "#,
-    r#"})]
+    r#"[Rec(RowRef { table: Name { text: CellText { shared: "#,
+    r#"Some("éééééééééééééééééééééééééééééééééééééééééééééééééééééééééééééééé") } }, row: "#,
+    r#"4294967295 })]
 ["R","ééééééééééééééééééééééééééééééééééééééééééééééééééééééééééééééééx",1] => -
 ["R","",1] => -
 ["R","U",4294967296] => -
 ["R","U",-1] => -
 ["R",5,1] => -
-["r","U",[2,1,0]] => [RecSet(RowSet { table: Name { text: CellText { text: "U" } }, rows: "#,
-    r#"Sequence { items: [2, 1, 0] } })]
+["r","U",[2,1,0]] => [RecSet(RowSet { table: Name { text: CellText { shared: Some("U") } }, "#,
+    r#"rows: Sequence { items: [2, 1, 0] } })]
 ["r","U",2] => -
 ["r","U",[-1]] => -
 ["E","KeyError"] => [Err(Key)]
@@ -195,9 +195,9 @@ fn update(alloc: Global, value: &str) -> Result<String, AllocError> {
 // What `Debug` shows of an action with these values.
 fn shown_update(alloc: Global, values: &str) -> Result<String, AllocError> {
     format!(in alloc;
-        "[Update {{ table: CellText {{ text: \"T\" }}, single: true, \
+        "[Update {{ table: CellText {{ shared: Some(\"T\") }}, single: true, \
             rows: Sequence {{ items: [1] }}, columns: Sequence {{ items: \
-            [UserColumn {{ id: CellText {{ text: \"A\" }}, \
+            [UserColumn {{ id: CellText {{ shared: Some(\"A\") }}, \
             values: Sequence {{ items: {values} }} }}] }} }}]"
     )
 }

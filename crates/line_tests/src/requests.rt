@@ -10,21 +10,22 @@ use grist_json::*;
 use std::alloc::{AllocError, Global};
 
 const REQUESTS: &str = concat!(
-    r#"{"method":"openDoc","token":"ta"} => Open { token: CellText { text: "ta" } }
-  {"token":"", "method":"openDoc"}  => Open { token: CellText { text: "" } }
+    r#"{"method":"openDoc","token":"ta"} => Open { token: CellText { shared: Some("ta") } }
+  {"token":"", "method":"openDoc"}  => Open { token: CellText { shared: None } }
 {"method":"sync"} => Sync
 {"method":"closeDoc"} => Close
-{"method":"fetchTable","table":"Table1"} => Fetch { table: CellText { text: "Table1" } }
-{"table":"no name", "method":"fetchTable"} => Fetch { table: CellText { text: "no name" } }
+{"method":"fetchTable","table":"Table1"} => Fetch { table: CellText { shared: Some("Table1") } }
+{"table":"no name", "method":"fetchTable"} => Fetch { table: CellText { shared: Some("no name") "#,
+    r#"} }
 {"bundle":0,"method":"undo"} => Undo { bundle: 0 }
 {"method":"undo","bundle":9223372036854775807} => Undo { bundle: 9223372036854775807 }
 {"actions":[],"method":"applyUserActions"} => Apply { actions: Sequence { items: [] } }
-{"method":"applyUserActions","actions":[["AddRecord","T",null,{"A":1.5,"B":7,"A":2}],"#,
-    r#"["RemoveTable","U"]]} => Apply { actions: Sequence { items: [Add { table: CellText { "#,
-    r#"text: "T" }, single: true, count: 1, has_row_ids: false, columns: Sequence { items: "#,
-    r#"[UserColumn { id: CellText { text: "A" }, values: Sequence { items: [Int(2)] } }, "#,
-    r#"UserColumn { id: CellText { text: "B" }, values: Sequence { items: [Int(7)] } }] } }, "#,
-    r#"RemoveTable { table: CellText { text: "U" } }] } }"#,
+{"method":"applyUserActions","actions":[["AddRecord","T",null,{"A":1.5,"B":7,"A":2}],["RemoveTabl"#,
+    r#"e","U"]]} => Apply { actions: Sequence { items: [Add { table: CellText { shared: "#,
+    r#"Some("T") }, single: true, count: 1, has_row_ids: false, columns: Sequence { items: "#,
+    r#"[UserColumn { id: CellText { shared: Some("A") }, values: Sequence { items: [Int(2)] } }, "#,
+    r#"UserColumn { id: CellText { shared: Some("B") }, values: Sequence { items: [Int(7)] } }] "#,
+    r#"} }, RemoveTable { table: CellText { shared: Some("U") } }] } }"#,
 );
 
 // The first is the empty line.
@@ -78,11 +79,11 @@ const FRAMES: &str = concat!(
     r#"=> s1 Bad
 {"line":[[[[[[[[[[[[[[[[[[[[[[[[[[[[[[[[[[[[[[[[[[[[[[[[[[[[[[[[[[[[[[[[[[[[[[[[[[[[[[[[[[[[[[[[["#,
     r#"[[[[[[[[[[[[[[[[[[[[[[[[[[[[[[[[[[[[[[]]]]]]]]]]]]]]]]]]]]]]]]]]]]]]]]]]]]]]]]]]]]]]]]]]]]"#,
-    r#"]]]]]]]]]]]]]]]]]]]]]]]]]]]]]]]]]]]]]]]]]]]]]]]]]]]]]]]]]]]]]]]]]]]]]]]]]]],"#,
-    r#""session":"s1"} => -
+    r#"]]]]]]]]]]]]]]]]]]]]]]]]]]]]]]]]]]]]]]]]]]]]]]]]]]]]]]]]]]]]]]]]]]]]]]]]]]],"session":"s1""#,
+    r#"} => -
 {"line":5,"session":"s9"} => s9 Bad
 {"line":{"method":"sync","method":"openDoc","token":"zz","token":"ta"},"session":"s1"} => s1 "#,
-    r#"Open { token: CellText { text: "ta" } }"#,
+    r#"Open { token: CellText { shared: Some("ta") } }"#,
 );
 
 const USERS: &str = concat!(

@@ -14,5 +14,6 @@ pub fn session_name(alloc: Global, lane: u32, connection: u64) -> Result<Name, A
     ensures { IfOk result (λ name. name ≡ session_name lane connection) }
 {
     let text = format!(in alloc; "l{lane}c{connection}")?;
-    Ok(Name::new(CellText::from_string(text)?))
+    let name = CellText::from_string(text)?;
+    Ok(Name::new(name))
 }

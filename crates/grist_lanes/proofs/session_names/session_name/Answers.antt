@@ -6,5 +6,5 @@ use Rattle.grist_lanes.proofs.session_names.session_name.Goals as goal
 
 pub new-requires : goal.new-requires
 new-requires c =
-    let is : c.from.result ≡ session_name c.args.lane c.args.connection = search rules in
+    let is : c.in_ok-name.name ≡ session_name c.args.lane c.args.connection = search rules in
     subst HasNameLength (sym is) (name_length c.args.lane c.args.connection (omega (arith, c.ranges.lane.fits)) c.ranges.connection.fits)

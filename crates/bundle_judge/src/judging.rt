@@ -34,8 +34,7 @@ use evaluated_doc::Doc;
 use rule_contexts::seen_law;
 use std::alloc::{AllocError, Global};
 use user_actions::refuse;
-use view_parts::requested_law;
-use view_refusals::asked_of;
+use view_refusals::{asked_of, requested_law};
 
 /// A bundle that is accepted: its steps, what its user actions created, which bundle it undoes, and
 /// the tally of the document after it.

@@ -6,20 +6,23 @@ ghost use Rattle.doc_model.specs.Changes.{IsView};
 ghost use Rattle.doc_model.specs.WellFormed.{has_whole_columns};
 ghost use Rattle.user_actions.specs.Allowed.{is_allowed};
 ghost use Rattle.user_actions.specs.Objections.{objection_to};
-ghost use Rattle.view_parts.specs.Shown.{view};
+ghost use Rattle.censored_view.specs.Readable.{whole};
+ghost use Rattle.censored_view.specs.View.{view};
 
 use Asked::{
     AddColumn, AddFullTable, AddRecord, AddTable, Give, Modify, RemoveColumn, RemoveRecord,
     RemoveTable, RenameTable,
 };
+use crate::everything::Everything;
 use cell_types::{CellText, CellValue, ValueList};
+use censored_view::whole_view;
 use doc_model::{
     IdList, Refusal, UserAction, UserCol, UserColList, UserColumn, UserColumnList, View,
 };
 use row_tables::RowTables;
 use std::alloc::{AllocError, Global};
 use user_actions::refuse;
-use view_parts::{Viewer, allowed_law, whole_view};
+use view_refusals::allowed_view_law;
 
 /// User actions: a new record or column `D` of `Table1`, a new table `New` of no columns or of that
 /// one, and what is removed or renamed, the table first. A column of `Table1` is modified as it is
@@ -203,13 +206,13 @@ fn is_unopposed(alloc: Global, view: &View, action: &UserAction) -> bool
     matches!(refuse(alloc, view, action), Ok(None))
 }
 
-// Whether nothing stands against the action in what a viewer sees.
+// Whether nothing stands against the action where everything is seen.
 #[tactic(auto, using(doc_model::proofs::LaidOutLaws::laid_out))]
-fn is_unrefused(alloc: Global, document: &RowTables, viewer: Viewer, action: &UserAction) -> bool
+fn is_unrefused(alloc: Global, document: &RowTables, action: &UserAction) -> bool
     requires { IsWhole document.now }
-    ensures { result ≡ true → objection_to (view viewer document.now) action.now ≡ None }
+    ensures { result ≡ true → objection_to (view (λ table. whole) document.now) action.now ≡ None }
 {
-    match whole_view(alloc, document, viewer) {
+    match whole_view(alloc, &Everything, document) {
         Ok(view) => is_unopposed(alloc, &view, action),
         Err(_) => false,
     }
@@ -222,8 +225,8 @@ pub(crate) fn may_be_done(alloc: Global, document: &RowTables, action: &UserActi
     ensures allowed { result ≡ true → is_allowed document.now action.now ≡ true }
     ensures whole_columns { result ≡ true → has_whole_columns action.now ≡ true }
 {
-    allowed_law();
-    is_unrefused(alloc, document, Viewer { is_owner: true }, action) && is_bare(action)
+    allowed_view_law();
+    is_unrefused(alloc, document, action) && is_bare(action)
 }
 
 // Whether this is the name of the refusal, or empty and there is none.
@@ -251,7 +254,7 @@ pub(crate) fn is_refused(
 ) -> bool
     requires { IsWhole document.now }
 {
-    match whole_view(alloc, document, Viewer { is_owner: true }) {
+    match whole_view(alloc, &Everything, document) {
         Ok(view) => is_refused_in(alloc, &view, action, want),
         Err(_) => false,
     }

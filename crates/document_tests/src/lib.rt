@@ -2,9 +2,9 @@
 //! user actions, and evaluated documents.
 //!
 //! Stands on `cell_types`, `doc_model`, `name_rules`, `row_tables`, `action_inverse`,
-//! `doc_actions`, `evaluated_doc`, `user_actions`, `action_limits` and `view_parts`. Nothing stands
-//! on it; it is a crate of its own, so that no crate of the engine depends on a store that only its
-//! tests need.
+//! `doc_actions`, `evaluated_doc`, `user_actions`, `action_limits`, `censored_view` and
+//! `view_refusals`. Nothing stands on it; it is a crate of its own, so that no crate of the engine
+//! depends on a store that only its tests need.
 //!
 //! Promises: nothing. What is tested is what no clause says: that the definitions mean what is
 //! meant, against readings that were worked out by hand, and that calls succeed where there is
@@ -20,6 +20,8 @@ mod asked;
 mod bounds;
 #[cfg(test)]
 mod evaluated_tests;
+#[cfg(test)]
+mod everything;
 #[cfg(test)]
 mod limit_tests;
 #[cfg(test)]

@@ -3,7 +3,7 @@
 //! Stands on `doc_model` (documents, views and user actions), `doc_readers` (what a store tells),
 //! `acl_rows` (good rows of the access rules), `renamed_resources` (what rules are about after
 //! renames), `plain_view` (cells of views), `name_rules` (free ids), `cell_types` and `list_ops`.
-//! Used by `view_parts`, `action_limits` and the core.
+//! Used by `view_refusals`, `action_limits` and the core.
 //!
 //! Promises: `refuse` answers the first objection of specs/Objections.antt, from the action and the
 //! view alone; `asked_law` says that the view of the table that the action names is enough, and for

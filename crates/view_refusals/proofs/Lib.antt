@@ -1,2 +1,2 @@
 mod AllowedViews
-mod WithoutRules
+mod RequestedLemmas

@@ -5,7 +5,7 @@ ghost use Rattle.doc_model.specs.Changes.{IsView};
 ghost use Rattle.doc_model.specs.LaidOut.{IsLaidOut};
 ghost use Rattle.doc_model.specs.Rows.{IsAscending};
 ghost use Rattle.censored_view.specs.View.{view};
-ghost use Rattle.view_parts.specs.Parts.{is_row_requested, requested_part, rows_requested};
+ghost use Rattle.view_refusals.specs.Parts.{is_row_requested, requested_part, rows_requested};
 
 use cell_types::Name;
 use censored_view::{Lets, Selection, part, rows_among};
@@ -52,7 +52,7 @@ struct Asked<'a> {
 
 impl Selection for Asked<'_> {
     ghost use Rattle.user_actions.specs.ObjectionLaws.{asks_for};
-    ghost use Rattle.view_parts.specs.Parts.{is_row_requested};
+    ghost use Rattle.view_refusals.specs.Parts.{is_row_requested};
 
     ghost takes = { λ x table. asks_for x.action.now table };
 

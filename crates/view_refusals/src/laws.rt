@@ -1,8 +1,15 @@
 //! Laws over refusals, each proved as the contract of a function that does nothing.
 
-ghost use Rattle.view_refusals.specs.RefusalLaws.{AllowedLaw, TodayLaw};
+ghost use Rattle.view_refusals.specs.RefusalLaws.{AllowedLaw, RequestedLaw};
 
-use user_actions::unopposed_law;
+use user_actions::{asked_law, unopposed_law};
+
+/// What stands against a user action rests on the tables and the rows alone that it asks for.
+pub fn requested_law()
+    ensures { RequestedLaw }
+{
+    asked_law();
+}
 
 /// A document allows what nothing stands against in what a context shows of it, or of what it
 /// evaluates to.
@@ -11,8 +18,3 @@ pub fn allowed_view_law()
 {
     unopposed_law();
 }
-
-/// Where rules hide nothing, a context shows what a viewer sees without rules.
-pub fn without_rules_law()
-    ensures { TodayLaw }
-{}

@@ -1,17 +1,19 @@
 //! Refusals by what a context lets a user see.
 //!
-//! Stands on `censored_view` (what a context shows), `user_actions` (what stands against a user
-//! action) and `view_parts` (what an action asks for, and views without rules).
+//! Stands on `censored_view` (what a context shows) and `user_actions` (what stands against a user
+//! action). Used by `rule_contexts` and the core.
 //!
-//! Promises: `asked_of` is the part of what a context shows that the refusal of a user action rests
-//! on (`requested_law` of `view_parts`), made of its rows alone. `allowed_view_law`: a document
-//! allows what nothing stands against in what a context shows of it, or of what it evaluates to.
-//! `without_rules_law`: where rules hide nothing, a context shows what a viewer sees without rules.
-//! Read first: specs/RefusalLaws.antt, then asked.rt.
+//! Promises: `asked_of` is the part of what a context shows that a user action asks for, made of
+//! its rows alone, and `requested_law` says that the refusal of the action rests on it.
+//! `allowed_view_law`: a document allows what nothing stands against in what a context shows of it,
+//! or of what it evaluates to.
+//! Costs: `asked_of` costs the rows that are named, not those of the table, and the square of a
+//! table's columns.
+//! Read first: specs/Parts.antt and specs/RefusalLaws.antt, then asked.rt.
 #![tactic(auto)]
 
 mod asked;
 mod laws;
 
 pub use asked::asked_of;
-pub use laws::{allowed_view_law, without_rules_law};
+pub use laws::{allowed_view_law, requested_law};

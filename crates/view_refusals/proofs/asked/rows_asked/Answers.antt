@@ -2,12 +2,9 @@ use Rattle.std.proofs.Common.{◌≡◌, ◌∙◌, true, false, not, ◌||◌, 
 use Rattle.std.specs.Str.{bytes_eq}
 use Rattle.doc_model.specs.Rows.{has}
 use Rattle.user_actions.specs.Kinds.{table_of}
-use Rattle.view_parts.specs.Parts.{rows_requested}
+use Rattle.view_refusals.specs.Parts.{rows_requested}
+use Rattle.view_refusals.proofs.RequestedLemmas.{every_row}
 use Rattle.view_refusals.proofs.asked.rows_asked.Goals as goal
-
-every_row : (rows : List ℕ) → filter (λ r. true) rows ≡ rows
-every_row [] = refl
-every_row (r ∷ rows) = ap (λ l. r ∷ l) (every_row rows)
 
 pub returns-then-ne : goal.returns-then-ne
 returns-then-ne c =

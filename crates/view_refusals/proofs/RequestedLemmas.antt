@@ -20,15 +20,22 @@ use Rattle.doc_model.proofs.RowsLaws.{number_itself, has-filter}
 use Rattle.doc_model.specs.declared.refusal.Refusal.{Refusal}
 use Rattle.doc_model.specs.declared.refusal.Refusal.TheVariants as refusal
 use Rattle.plain_view.specs.PartsOfViews.{passing}
+use Rattle.plain_view.proofs.PartLemmas.{find-mapped}
 use Rattle.plain_view.proofs.PartLemmasCells.{cell_passed}
 use Rattle.user_actions.specs.Kinds.{table_of}
 use Rattle.user_actions.specs.Objections.{against, have_no_duplicates, in_records, in_schema, is_row, objection_to, on_columns, on_rows, on_rules, on_values, to_records, to_schema}
 use Rattle.user_actions.specs.RuleRows.{cell_before, given_or, resource_rows, row_after, row_named, type_shown, value_given}
 use Rattle.user_actions.specs.Steps.{row_ids}
 use Rattle.user_actions.proofs.ObjectionLemmas.{in_records-same, in_schema-same, on_rules-same}
-use Rattle.view_parts.specs.Parts.{rows_requested}
-use Rattle.view_parts.proofs.SeenParts.{cut, cut_named}
-use Rattle.view_parts.proofs.ViewLemmas.{find-mapped}
+use Rattle.view_refusals.specs.Parts.{is_row_requested, rows_requested}
+
+-- a table with the rows of it that an action asks for
+abbrev cut : UserAction → ViewTable → ViewTable
+cut a t = passing (is_row_requested a t.id) t
+
+-- the table that it names is cut to the rows that it names
+cut_named : (a : UserAction) (t : ViewTable) → bytes_eq t.id (table_of a) ≡ true → cut a t ≡ passing (has (rows_requested a)) t
+cut_named a t is = ap (λ b. passing (λ r. not b || has (rows_requested a) r) t) is
 
 -- ---- the rows that an action names
 

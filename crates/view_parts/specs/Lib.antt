@@ -1,5 +1,0 @@
-pub mod Shown
-pub mod Parts
-pub mod PartLaws
-pub mod Wanted
-pub mod Viewers

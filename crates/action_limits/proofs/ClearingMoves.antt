@@ -43,7 +43,7 @@ use Rattle.action_limits.proofs.ExpansionLemmas.{IsExact, TellsSums, has_named-v
 use Rattle.user_actions.specs.declared.referrers.Referrer.{Referrer}
 use Rattle.user_actions.specs.CellUpdates.{column_changed, rows_changed}
 use Rattle.user_actions.specs.Marked.{direct, indirect}
-use Rattle.user_actions.specs.Objections.{is_row}
+use Rattle.user_actions.specs.Given.{is_row}
 use Rattle.user_actions.specs.References.{cleared, cleared_list, clearings, is_gone, list_or_null, name_gone, referrers, rows_staying}
 use Rattle.user_actions.specs.StepLaws.{action_of}
 use Rattle.user_actions.proofs.ApartLemmas.{AreApart, apart_referrers, same_key}

@@ -38,7 +38,7 @@ use Rattle.undo_bundles.proofs.LogLaws.{noted_own}
 use Rattle.user_actions.specs.Allowed.{is_allowed}
 use Rattle.user_actions.specs.FreshIds.{HasFewIds, StepsLaw, new_columns_of}
 use Rattle.user_actions.specs.Kinds.{table_of}
-use Rattle.user_actions.specs.Objections.{objection_to}
+use Rattle.user_objections.specs.Objections.{objection_to}
 use Rattle.user_actions.specs.StepLaws.{action_of}
 use Rattle.user_actions.specs.Steps.{steps_of}
 use Rattle.acl_rules.specs.declared.decision.Ctx.{Ctx}

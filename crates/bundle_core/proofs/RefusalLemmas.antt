@@ -12,7 +12,7 @@ use Rattle.doc_model.specs.Apply.{apply}
 use Rattle.doc_model.specs.Counts.{bound_of, over}
 use Rattle.doc_model.specs.Document.{Document}
 use Rattle.acl_rules.specs.declared.decision.Ctx.{Ctx}
-use Rattle.user_actions.specs.Objections.{objection_to}
+use Rattle.user_objections.specs.Objections.{objection_to}
 use Rattle.user_actions.specs.Steps.{steps_of}
 use Rattle.action_limits.specs.Tallies.{after}
 use Rattle.rule_contexts.specs.Context.{carry, carry_all, context, view, view_in}

@@ -8,7 +8,7 @@ use Rattle.doc_model.specs.declared.user.User.{User}
 use Rattle.doc_model.specs.declared.user_action.UserAction.{UserAction}
 use Rattle.doc_model.specs.declared.view.ViewTable.{ViewTable}
 use Rattle.doc_model.specs.Counts.{bound_of}
-use Rattle.user_actions.specs.Objections.{objection_to}
+use Rattle.user_objections.specs.Objections.{objection_to}
 use Rattle.rule_contexts.specs.Context.{view}
 use Rattle.bundle_judge.specs.declared.bare_verdict.BareVerdict.TheVariants.{Refused}
 use Rattle.bundle_core.specs.Mailbox.{says}

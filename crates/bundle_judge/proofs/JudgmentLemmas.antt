@@ -17,7 +17,7 @@ use Rattle.doc_model.specs.DocumentLaws.{IsWhole}
 use Rattle.doc_model.specs.Valid.{valid}
 use Rattle.doc_model.proofs.InverseLaws.{IsWhole-apply_all}
 use Rattle.action_limits.specs.declared.tally.Tally.{Tally}
-use Rattle.user_actions.specs.Objections.{objection_to}
+use Rattle.user_objections.specs.Objections.{objection_to}
 use Rattle.user_actions.specs.StepLaws.{action_of}
 use Rattle.user_actions.specs.Steps.{steps_of}
 use Rattle.acl_rules.specs.declared.decision.Ctx.{Ctx}

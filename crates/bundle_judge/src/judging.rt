@@ -4,7 +4,7 @@ ghost use Rattle.std.specs.Prelude.{◌≡◌, [], ◌≤◌, true, false, map, 
 ghost use Rattle.std.specs.List.{list_all};
 ghost use Rattle.doc_model.specs.DocumentLaws.{IsWhole};
 ghost use Rattle.user_actions.specs.Allowed.{is_allowed};
-ghost use Rattle.user_actions.specs.Objections.{objection_to};
+ghost use Rattle.user_objections.specs.Objections.{objection_to};
 ghost use Rattle.user_actions.specs.StepLaws.{action_of};
 ghost use Rattle.acl_checks.specs.Unchecked.{are_unchecked};
 ghost use Rattle.action_limits.specs.Tallies.{IsTally};
@@ -33,7 +33,7 @@ use doc_model::{DocTables, LimitKind, MAX_ACTIONS, Refusal, StepList, UserAction
 use evaluated_doc::Doc;
 use rule_contexts::seen_law;
 use std::alloc::{AllocError, Global};
-use user_actions::refuse;
+use user_objections::refuse;
 use view_refusals::{asked_of, requested_law};
 
 /// A bundle that is accepted: its steps, what its user actions created, which bundle it undoes, and

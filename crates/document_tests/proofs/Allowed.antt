@@ -5,7 +5,7 @@ use Rattle.doc_model.specs.Document.{Document}
 use Rattle.doc_model.specs.DocumentLaws.{IsWhole}
 use Rattle.doc_model.proofs.LaidOutLaws.{laid_out}
 use Rattle.user_actions.specs.Allowed.{is_allowed}
-use Rattle.user_actions.specs.Objections.{objection_to}
+use Rattle.user_objections.specs.Objections.{objection_to}
 use Rattle.censored_view.specs.Readable.{Readable, whole}
 use Rattle.censored_view.specs.View.{view}
 use Rattle.view_refusals.specs.RefusalLaws.{AllowedLaw}

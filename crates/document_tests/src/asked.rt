@@ -5,15 +5,15 @@ ghost use Rattle.doc_model.specs.DocumentLaws.{IsWhole};
 ghost use Rattle.doc_model.specs.Changes.{IsView};
 ghost use Rattle.doc_model.specs.WellFormed.{has_whole_columns};
 ghost use Rattle.user_actions.specs.Allowed.{is_allowed};
-ghost use Rattle.user_actions.specs.Objections.{objection_to};
+ghost use Rattle.user_objections.specs.Objections.{objection_to};
 ghost use Rattle.censored_view.specs.Readable.{whole};
 ghost use Rattle.censored_view.specs.View.{view};
 
+use crate::everything::Everything;
 use Asked::{
     AddColumn, AddFullTable, AddRecord, AddTable, Give, Modify, RemoveColumn, RemoveRecord,
     RemoveTable, RenameTable,
 };
-use crate::everything::Everything;
 use cell_types::{CellText, CellValue, ValueList};
 use censored_view::whole_view;
 use doc_model::{
@@ -21,7 +21,7 @@ use doc_model::{
 };
 use row_tables::RowTables;
 use std::alloc::{AllocError, Global};
-use user_actions::refuse;
+use user_objections::refuse;
 use view_refusals::allowed_view_law;
 
 /// User actions: a new record or column `D` of `Table1`, a new table `New` of no columns or of that

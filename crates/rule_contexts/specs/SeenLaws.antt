@@ -5,7 +5,7 @@ use Rattle.doc_model.specs.Changes.{IsView}
 use Rattle.doc_model.specs.Document.{Document}
 use Rattle.doc_model.specs.DocumentLaws.{IsWhole}
 use Rattle.user_actions.specs.Allowed.{is_allowed}
-use Rattle.user_actions.specs.Objections.{objection_to}
+use Rattle.user_objections.specs.Objections.{objection_to}
 use Rattle.acl_rules.specs.declared.decision.Ctx.{Ctx}
 use Rattle.acl_reading.specs.RulesLet.{rules_let}
 use Rattle.action_censor.specs.FollowLaws.{HidesSchema}

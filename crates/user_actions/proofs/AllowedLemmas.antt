@@ -25,7 +25,7 @@ use Rattle.doc_readers.specs.Parts.{grid_at}
 use Rattle.user_actions.specs.Allowed.{is_allowed, may_give, may_name}
 use Rattle.user_actions.specs.Columns.{may_be_new, may_become}
 use Rattle.user_actions.specs.Kinds.{table_of}
-use Rattle.user_actions.specs.Objections.{has_good_id}
+use Rattle.user_actions.specs.Given.{has_good_id}
 use Rattle.user_actions.proofs.NameLengths.{found_length, name_length}
 
 -- the table of a schema action

@@ -38,7 +38,7 @@ use Rattle.doc_readers.specs.Parts.{grid_at}
 use Rattle.user_actions.specs.declared.referrers.Referrer.{Referrer}
 use Rattle.user_actions.specs.CellUpdates.{column_changed, rows_changed, update_changed}
 use Rattle.user_actions.specs.Marked.{indirect}
-use Rattle.user_actions.specs.Objections.{is_row}
+use Rattle.user_actions.specs.Given.{is_row}
 use Rattle.user_actions.specs.References.{cleared, cleared_list, clearings, is_gone, list_or_null, name_gone, referrers, refers_to, renamed_id, rows_staying}
 use Rattle.user_actions.specs.StepLaws.{action_of}
 use Rattle.user_actions.proofs.ReferrerLemmas.{IsReferrer, each_referrer}

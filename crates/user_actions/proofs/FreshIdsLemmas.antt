@@ -12,7 +12,7 @@ use Rattle.name_rules.specs.FreeName.{IsFresh, free_name}
 use Rattle.name_rules.proofs.FreshNames.{free_name-fresh}
 use Rattle.user_actions.specs.FreshIds.{FreshIdsLaw, StepsLaw}
 use Rattle.user_actions.specs.Columns.{may_be_new}
-use Rattle.user_actions.specs.Objections.{has_good_id}
+use Rattle.user_actions.specs.Given.{has_good_id}
 use Rattle.user_actions.specs.StepLaws.{AreFresh}
 use Rattle.user_actions.specs.Steps.{column_ids, table_ids}
 use Rattle.user_actions.proofs.AllowedLemmas.{new_name}

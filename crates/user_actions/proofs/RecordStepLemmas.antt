@@ -32,7 +32,7 @@ use Rattle.doc_model.proofs.DocumentParts.{passes_parts}
 use Rattle.doc_model.proofs.TimesLaws.{once_ascending}
 use Rattle.doc_readers.specs.Parts.{grid_at}
 use Rattle.user_actions.specs.Allowed.{may_give, may_name}
-use Rattle.user_actions.specs.Objections.{have_no_duplicates, has_base, has_number, is_row}
+use Rattle.user_actions.specs.Given.{have_no_duplicates, has_base, has_number, is_row}
 use Rattle.user_actions.specs.Steps.{all_fitted, fitted, last_row, numbers_after, row_ids, type_in}
 
 -- ---- new rows

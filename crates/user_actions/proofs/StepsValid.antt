@@ -23,7 +23,7 @@ use Rattle.user_actions.specs.Allowed.{is_allowed}
 use Rattle.user_actions.specs.Columns.{may_be_new}
 use Rattle.user_actions.specs.StepLaws.{action_of, HasFresh}
 use Rattle.user_actions.specs.Marked.{direct}
-use Rattle.user_actions.specs.Objections.{has_good_id}
+use Rattle.user_actions.specs.Given.{has_good_id}
 use Rattle.user_actions.specs.References.{clearings, led_to, referrers}
 use Rattle.user_actions.specs.ResourceSteps.{columns_moved, tables_moved}
 use Rattle.user_actions.specs.Steps.{all_fitted, column_ids, column_renaming, column_said, last_row, numbers_after, renaming, row_ids, steps_of, table_ids, table_said}

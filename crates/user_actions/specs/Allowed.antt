@@ -12,7 +12,7 @@ use Rattle.doc_model.specs.Document.{Document}
 use Rattle.doc_model.specs.Grid.{Grid}
 use Rattle.doc_model.specs.Valid.{is_data, passes, record_table, schema_table}
 use Rattle.user_actions.specs.Columns.{may_be_new, may_become}
-use Rattle.user_actions.specs.Objections.{have_no_duplicates, has_base, has_good_id, is_row}
+use Rattle.user_actions.specs.Given.{have_no_duplicates, has_base, has_good_id, is_row}
 
 -- whether each is a data column and is given base values
 abbrev pub may_give : Grid ColDef → UserColumn → Bool

@@ -21,7 +21,7 @@ use Rattle.doc_readers.specs.Parts.{grid_at}
 use Rattle.user_actions.specs.CellUpdates.{update_changed}
 use Rattle.user_actions.specs.declared.referrers.Referrer.{Referrer}
 use Rattle.user_actions.specs.Marked.{indirect}
-use Rattle.user_actions.specs.Objections.{is_row}
+use Rattle.user_actions.specs.Given.{is_row}
 
 -- whether a column of the type refers to the table
 abbrev pub refers_to : List ℕ → ColType → Bool

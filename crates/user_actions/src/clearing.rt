@@ -6,7 +6,7 @@ ghost use Rattle.doc_model.specs.DocumentLaws.{IsWhole};
 ghost use Rattle.doc_model.specs.Rows.{without};
 ghost use Rattle.doc_readers.specs.Parts.{grid_at};
 ghost use Rattle.user_actions.specs.CellUpdates.{update_changed};
-ghost use Rattle.user_actions.specs.Objections.{is_row};
+ghost use Rattle.user_actions.specs.Given.{is_row};
 ghost use Rattle.user_actions.specs.References.{cleared, cleared_list, cleared_reference, clearings, is_gone, is_row_item, list_or_null, name_gone, rows_staying};
 
 use crate::cell_updates::add_update;

@@ -38,7 +38,9 @@ fn kind_said(was_formula: bool, column: &UserCol) -> bool
 }
 
 /// Whether a data column or a formula column may become as the user says.
-pub(crate) fn may_become(was_formula: bool, column: &UserCol) -> bool
+///
+/// Memory: none.
+pub fn may_become(was_formula: bool, column: &UserCol) -> bool
     ensures { result ≡ may_become was_formula column.now }
 {
     let bytes = formula_given(column).len();
@@ -52,7 +54,9 @@ fn gives_formula(column: &UserCol) -> bool
 }
 
 /// Whether a new column may be as the user says.
-pub(crate) fn may_be_new(column: &UserCol) -> bool
+///
+/// Memory: none.
+pub fn may_be_new(column: &UserCol) -> bool
     ensures { result ≡ may_be_new column.now }
 {
     may_become(gives_formula(column), column)

@@ -7,7 +7,7 @@ ghost use Rattle.doc_model.specs.DocumentLaws.{IsWhole};
 ghost use Rattle.doc_model.specs.MetadataIds.{columns_id, tables_id};
 ghost use Rattle.doc_model.specs.declared.action.DocAction.TheVariants.{AddColumn, AddTable, RenameColumn, RenameTable};
 ghost use Rattle.name_rules.specs.FreeName.{IsFresh, free_name};
-ghost use Rattle.user_actions.specs.Objections.{has_good_id};
+ghost use Rattle.user_actions.specs.Given.{has_good_id};
 ghost use Rattle.user_actions.specs.StepLaws.{AreFresh};
 ghost use Rattle.user_actions.specs.Marked.{direct};
 ghost use Rattle.user_actions.specs.Steps.{column_ids, column_renaming, column_said, last_row, new_column, new_columns, renaming, table_ids, table_said};

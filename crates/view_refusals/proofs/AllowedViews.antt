@@ -16,7 +16,7 @@ use Rattle.doc_model.proofs.ByIdsLaws.{each_by_id, each_found, found_all}
 use Rattle.doc_model.proofs.Choices.{both_true, each_filter, each_mapped}
 use Rattle.doc_model.proofs.RowsLaws.{all_in_itself}
 use Rattle.plain_view.proofs.PartLemmas.{find-mapped}
-use Rattle.user_actions.specs.Unopposed.{IsColumnOf, IsTableOf, UnopposedLaw}
+use Rattle.user_objections.specs.Unopposed.{IsColumnOf, IsTableOf, UnopposedLaw}
 use Rattle.censored_view.specs.Readable.{Readable, row_of}
 use Rattle.censored_view.specs.View.{is_row_shown, is_shown, shown_column, shown_columns, shown_table, view}
 use Rattle.censored_view.proofs.ShownRows.{ids_made}

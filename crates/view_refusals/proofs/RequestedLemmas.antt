@@ -23,10 +23,11 @@ use Rattle.plain_view.specs.PartsOfViews.{passing}
 use Rattle.plain_view.proofs.PartLemmas.{find-mapped}
 use Rattle.plain_view.proofs.PartLemmasCells.{cell_passed}
 use Rattle.user_actions.specs.Kinds.{table_of}
-use Rattle.user_actions.specs.Objections.{against, have_no_duplicates, in_records, in_schema, is_row, objection_to, on_columns, on_rows, on_rules, on_values, to_records, to_schema}
-use Rattle.user_actions.specs.RuleRows.{cell_before, given_or, resource_rows, row_after, row_named, type_shown, value_given}
+use Rattle.user_actions.specs.Given.{have_no_duplicates, is_row}
+use Rattle.user_objections.specs.Objections.{against, in_records, in_schema, objection_to, on_columns, on_rows, on_rules, on_values, to_records, to_schema}
+use Rattle.user_objections.specs.RuleRows.{cell_before, given_or, resource_rows, row_after, row_named, type_shown, value_given}
 use Rattle.user_actions.specs.Steps.{row_ids}
-use Rattle.user_actions.proofs.ObjectionLemmas.{in_records-same, in_schema-same, on_rules-same}
+use Rattle.user_objections.proofs.ObjectionLemmas.{in_records-same, in_schema-same, on_rules-same}
 use Rattle.view_refusals.specs.Parts.{is_row_requested, rows_requested}
 
 -- a table with the rows of it that an action asks for

@@ -7,7 +7,7 @@ use Rattle.doc_model.specs.declared.view.ViewTable.{ViewTable}
 use Rattle.doc_model.specs.Rows.{has}
 use Rattle.plain_view.specs.PartsOfViews.{part_of}
 use Rattle.user_actions.specs.Kinds.{table_of}
-use Rattle.user_actions.specs.ObjectionLaws.{asks_for}
+use Rattle.user_objections.specs.ObjectionLaws.{asks_for}
 use Rattle.user_actions.specs.Steps.{row_ids}
 
 -- the rows that a user action names

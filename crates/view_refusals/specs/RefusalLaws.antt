@@ -5,7 +5,7 @@ use Rattle.doc_model.specs.declared.view.ViewTable.{ViewTable}
 use Rattle.doc_model.specs.Document.{Document}
 use Rattle.doc_model.specs.LaidOut.{HaveSameParts, IsLaidOut}
 use Rattle.user_actions.specs.Allowed.{is_allowed}
-use Rattle.user_actions.specs.Objections.{objection_to}
+use Rattle.user_objections.specs.Objections.{objection_to}
 use Rattle.censored_view.specs.Readable.{Readable}
 use Rattle.censored_view.specs.View.{view}
 use Rattle.view_refusals.specs.Parts.{requested_part}

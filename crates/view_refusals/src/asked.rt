@@ -11,7 +11,8 @@ use cell_types::Name;
 use censored_view::{Lets, Selection, part, rows_among};
 use doc_model::{DocReader, UserAction, View};
 use std::alloc::{AllocError, Global};
-use user_actions::{asks_for, row_ids, table_of};
+use user_actions::{row_ids, table_of};
+use user_objections::asks_for;
 
 // The rows that a user action names.
 fn rows_requested(alloc: Global, action: &UserAction) -> Result<Vec<u32>, AllocError>
@@ -51,7 +52,7 @@ struct Asked<'a> {
 }
 
 impl Selection for Asked<'_> {
-    ghost use Rattle.user_actions.specs.ObjectionLaws.{asks_for};
+    ghost use Rattle.user_objections.specs.ObjectionLaws.{asks_for};
     ghost use Rattle.view_refusals.specs.Parts.{is_row_requested};
 
     ghost takes = { λ x table. asks_for x.action.now table };

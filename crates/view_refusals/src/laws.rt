@@ -2,7 +2,7 @@
 
 ghost use Rattle.view_refusals.specs.RefusalLaws.{AllowedLaw, RequestedLaw};
 
-use user_actions::{asked_law, unopposed_law};
+use user_objections::{asked_law, unopposed_law};
 
 /// What stands against a user action rests on the tables and the rows alone that it asks for.
 pub fn requested_law()

@@ -1,7 +1,7 @@
 //! Refusals by what a context lets a user see.
 //!
-//! Stands on `censored_view` (what a context shows) and `user_actions` (what stands against a user
-//! action). Used by `rule_contexts` and the core.
+//! Stands on `censored_view` (what a context shows) and `user_objections` (what stands against a
+//! user action). Used by `rule_contexts` and the core.
 //!
 //! Promises: `asked_of` is the part of what a context shows that a user action asks for, made of
 //! its rows alone, and `requested_law` says that the refusal of the action rests on it.

@@ -7,7 +7,7 @@ use crate::asking::{Asked, actions_of};
 use Asked::{AddData, AddLong, AddTable, RemoveTable, Update};
 use doc_model::{Refusal, UserAction, UserActionList, View, ViewTableList};
 use std::alloc::{AllocError, Global};
-use user_actions::refuse;
+use user_objections::refuse;
 
 // Actions, and the names of their refusals; empty where there is none.
 static ASKED: [(Asked, &str); 17] = [

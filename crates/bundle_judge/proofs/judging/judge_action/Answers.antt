@@ -1,5 +1,5 @@
 use Rattle.std.proofs.Common.{Some, sym, ap, ◌∙◌}
-use Rattle.user_actions.specs.Objections.{objection_to}
+use Rattle.user_objections.specs.Objections.{objection_to}
 use Rattle.rule_contexts.specs.Context.{view_in}
 use Rattle.bundle_judge.proofs.JudgmentLemmas.{ruled_refused}
 use Rattle.bundle_judge.proofs.judging.judge_action.Goals as goal

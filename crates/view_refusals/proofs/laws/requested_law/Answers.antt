@@ -1,5 +1,5 @@
 use Rattle.std.proofs.Common.{◌∙◌}
-use Rattle.user_actions.specs.ObjectionLaws.{asked}
+use Rattle.user_objections.specs.ObjectionLaws.{asked}
 use Rattle.view_refusals.proofs.RequestedLemmas.{objection_to-cut}
 use Rattle.view_refusals.proofs.laws.requested_law.Goals as goal
 

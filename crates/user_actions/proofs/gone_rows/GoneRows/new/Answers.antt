@@ -1,6 +1,6 @@
 use Rattle.std.proofs.Common.{nat_cmp}
 use Rattle.std.specs.BTreeSet.{contains_by}
-use Rattle.user_actions.proofs.NumberLemmas.{gone_more}
+use Rattle.user_actions.proofs.GoneLemmas.{gone_more}
 use Rattle.user_actions.proofs.gone_rows.GoneRows.new.Goals as goal
 
 pub loop-row-preserved : goal.loop-row-preserved

@@ -1,0 +1,5 @@
+mod NumberLemmas
+pub mod ObjectionLemmas
+mod RuleRowLemmas
+mod UnopposedLemmas
+pub mod ViewLemmas

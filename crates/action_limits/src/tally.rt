@@ -4,7 +4,6 @@ ghost use Rattle.std.specs.Prelude.{◌≡◌, ◌≤◌, MatchOption, max, true
 ghost use Rattle.doc_model.specs.Apply.{apply};
 ghost use Rattle.doc_model.specs.Counts.{counts};
 ghost use Rattle.doc_model.specs.DocumentLaws.{IsWhole};
-ghost use Rattle.doc_model.specs.NewDocument.{new_document};
 ghost use Rattle.doc_model.specs.Valid.{valid};
 ghost use Rattle.action_limits.specs.Capped.{AreTaken, tally_or_limit};
 ghost use Rattle.action_limits.specs.Tallies.{IsTally, IsTallyOrLimit};
@@ -25,17 +24,6 @@ pub struct Tally {
 }
 
 impl Tally {
-    /// That of a new document.
-    pub fn of_new_document() -> Tally
-        ensures { IsTally new_document result }
-    {
-        Tally {
-            tables: 1,
-            cells: 0,
-            weight: 0,
-            within: true,
-        }
-    }
 
     /// That of a document; nothing where its cells or their weight are more than 64 bits can tell,
     /// which no memory holds.

@@ -8,8 +8,15 @@ use std::alloc::Global;
 
 type Db = Connection<FileStore<File>>;
 
-const MAKE: &str =
-    "CREATE TABLE IF NOT EXISTS record (number INTEGER PRIMARY KEY, bytes BLOB NOT NULL) STRICT";
+const MAKE: &str = "CREATE TABLE record (number INTEGER PRIMARY KEY, bytes BLOB NOT NULL) STRICT";
+
+// The text of what is called `record`, and how many other things there are.
+const NAMED: &str = "SELECT type, sql FROM sqlite_schema WHERE name = 'record'";
+
+const THINGS: &str = "SELECT count(*) FROM sqlite_schema";
+
+// How many records there are, and the least and the greatest number.
+const NUMBERS: &str = "SELECT count(*), min(number), max(number) FROM record";
 
 const ADD: &str = "INSERT INTO record (number, bytes) VALUES (?1, ?2)";
 
@@ -33,6 +40,55 @@ fn open(rt: &HostRuntime, path: &str) -> Result<Db, KeepFault> {
 fn make(db: &mut Db) -> Result<(), KeepFault> {
     db.execute(MAKE, &[]).map_err(fault_of)?;
     Ok(())
+}
+
+fn things(db: &mut Db) -> Result<i64, KeepFault> {
+    let row = db.query_row(THINGS, &[]).map_err(fault_of)?;
+    row.get(0).map_err(fault_of)
+}
+
+// Whether records are as this crate makes them; nothing where there is none of that name.
+fn is_ours(db: &mut Db) -> Result<Option<bool>, KeepFault> {
+    let mut rows = db.query(NAMED, &[]).map_err(fault_of)?;
+    let Some(row) = rows.next().map_err(fault_of)? else {
+        return Ok(None);
+    };
+    let kind: String = row.get(0).map_err(fault_of)?;
+    let text: String = row.get(1).map_err(fault_of)?;
+    Ok(Some(kind.as_str() == "table" && text.as_str() == MAKE))
+}
+
+// Whether the numbers are those from 0 on, none left out.
+fn is_whole(db: &mut Db) -> Result<bool, KeepFault> {
+    let row = db.query_row(NUMBERS, &[]).map_err(fault_of)?;
+    let count: i64 = row.get(0).map_err(fault_of)?;
+    if count == 0 {
+        return Ok(true);
+    }
+    let least: i64 = row.get(1).map_err(fault_of)?;
+    let greatest: i64 = row.get(2).map_err(fault_of)?;
+    Ok(least == 0 && greatest == count.saturating_sub(1))
+}
+
+// Sees to the table of records: it is made in a file that holds nothing, and else has to be there,
+// as this crate makes it and with no number left out. A gap would hide the records behind it, until
+// new ones had filled it.
+fn see_to_records(db: &mut Db) -> Result<(), KeepFault> {
+    match is_ours(db)? {
+        Some(true) => {}
+        Some(false) => return Err(KeepFault::Failed),
+        None => {
+            if things(db)? > 0 {
+                return Err(KeepFault::Failed);
+            }
+            return make(db);
+        }
+    }
+    if is_whole(db)? {
+        Ok(())
+    } else {
+        Err(KeepFault::Failed)
+    }
 }
 
 fn add(db: &mut Db, number: u64, bytes: &[u8]) -> Result<(), KeepFault> {
@@ -168,7 +224,7 @@ impl Keeper for SqliteKeeper {
 
     fn ready(&mut self) -> Result<(), KeepFault> {
         let made = match &mut self.db {
-            Ok(db) => make(db),
+            Ok(db) => see_to_records(db),
             Err(fault) => Err(*fault),
         };
         match made {

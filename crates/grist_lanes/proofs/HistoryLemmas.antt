@@ -73,6 +73,11 @@ module _ {Conn : Type 0} (t : Telling Conn) (n : ℕ) (o : CoreOpening) (first l
       ∙ session_own name n more own
       ∙ calls_more in
       record {
+        opened = before.same.opening ∙ whole.opening_is;
+        seen = record {
+          rest = entries_of rest;
+          split = ap entries_of (parts ∙ ap (λ z. z ++ rest) seen) ∙ map-append entry_of s.new.seen rest;
+        };
         entries = took.adds.calls ∙ ap (λ z. own_calls s.old ++ z) (sym of);
         written = subst (λ z. Writes s.end z (t.written s.before) (t.written s.after)) bytes took.written;
       }

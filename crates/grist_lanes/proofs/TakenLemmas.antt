@@ -14,6 +14,7 @@ use Rattle.session_gate.specs.History.{entries_of}
 use Rattle.grist_serve.specs.Answering.{Answers}
 use Rattle.grist_serve.specs.Requests.{asked_by, is_blank, is_long, line_entries, requests_of}
 use Rattle.grist_serve.specs.Turns.{Adds, ClosesLast, CorePass, MayCloseLast, OwnTurn, StayOpen, asked_in, bytes_of, is_open_after}
+use Rattle.grist_serve.proofs.LineLaws.{front_written}
 use Rattle.grist_serve.proofs.TurnLemmas.{adds_both, adds_none, bytes-append}
 use Rattle.grist_lanes.specs.InHistory.{Writes}
 use Rattle.grist_lanes.specs.Services.{IsServed, Service, Telling}
@@ -69,7 +70,7 @@ module _ (name : List ℕ) (old new : CorePass) (w w' : Option (List ℕ)) where
   lines_taken Closed l l' (inr closes) = answered Closed ClosesLast (closes.lines ++ closes.last ∷ []) closes.answers
   lines_taken ReadFault l l' stops = answered ReadFault StayOpen (stops.1).lines (stops.1).answers
   lines_taken TurnsSpent l l' stops = answered TurnsSpent StayOpen stops.lines stops.answers
-  lines_taken WriteFault l l' stops = answered WriteFault MayCloseLast stops.lines stops.answers
+  lines_taken WriteFault l l' stops = answered WriteFault MayCloseLast (stops.lines ++ stops.last ∷ []) (front_written name l l' old new w w' stops)
   lines_taken Full l l' stops = answered Full StayOpen stops.lines stops.answers
   lines_taken NoMemory l l' stops = answered NoMemory StayOpen stops.lines stops.answers
 

@@ -1,5 +1,5 @@
 -- What the whole history has of each connection of a lane.
-use Rattle.std.specs.Prelude.{ℕ, suc, ◌≡◌, ◌≤◌, ◌++◌, List, [], ◌∷◌, length, Option}
+use Rattle.std.specs.Prelude.{ℕ, suc, ◌≡◌, ◌≤◌, ◌++◌, List, [], ◌∷◌, length, Option, Some}
 use Rattle.std.specs.Io.KnownBytes.{Appends}
 use Rattle.std.specs.List.{AllByRecursion}
 use Rattle.doc_model.specs.declared.entry.Entry.{Entry}
@@ -8,6 +8,7 @@ use Rattle.io_edges.specs.Ports.{PortState}
 use Rattle.io_edges.specs.declared.session_end.SessionEnd.{SessionEnd}
 use Rattle.io_edges.specs.declared.session_end.SessionEnd.TheVariants.{WriteFault}
 use Rattle.session_gate.specs.Call.{own_calls}
+use Rattle.session_gate.specs.History.{entries_of}
 use Rattle.bundle_core.specs.State.{opening}
 use Rattle.bundle_core.specs.Told.{out}
 use Rattle.bundle_core.specs.declared.machine.CoreOpening.{CoreOpening}
@@ -16,15 +17,23 @@ use Rattle.grist_lanes.specs.SessionNames.{session_name}
 use Rattle.grist_lanes.specs.Services.{HasServed, HasStopped, IsServed, Service, Telling}
 use Rattle.grist_lanes.specs.Sessions.{IsOfLane, of_session}
 
+-- a history begins so
+pub record Begins (first whole : List Entry) : Type 0 where
+  pub rest : List Entry
+  pub split : whole ≡ first ++ rest
+
 -- these bytes were written, or a front of them where writing failed
 abbrev pub Writes : SessionEnd → List ℕ → Option (List ℕ) → Option (List ℕ) → Type 0
 Writes WriteFault bytes w w' = SendsFront bytes w w'
 Writes end bytes w w' = Appends w w' bytes
 
 module _ {Conn : Type 0} (t : Telling Conn) (o : CoreOpening) (history : List Entry) where
-  -- the session's entries in the history are those of this connection, and what that gives the
-  -- session was written
+  -- the pass is one over that core, and what it had seen when the connection ended is how the
+  -- history begins; the session's entries in the history are those of this connection, and what
+  -- that gives the session was written
   pub record IsInHistory (name : List ℕ) (s : Service Conn) : Type 0 where
+    pub opened : s.old.opening ≡ Some o
+    pub seen : Begins (entries_of s.new.seen) history
     pub entries : own_calls s.new ≡ own_calls s.old ++ of_session name history
     pub written : Writes s.end (out o.users (opening o.document) name history)
         (t.written s.before) (t.written s.after)

@@ -3,7 +3,7 @@ mod Coming
 mod Kept
 pub mod TurnLemmas
 mod CallLemmas
-mod LineLaws
+pub mod LineLaws
 mod Sent
 pub mod OutLemmas
 mod Completeness

@@ -11,7 +11,7 @@ use Rattle.io_edges.specs.declared.line_reader.ReadEnd.TheVariants as read
 use Rattle.doc_model.specs.declared.entry.Entry.{Entry}
 use Rattle.grist_serve.specs.Answering.{Answers, AnswersAll, AnswersClosing, AnswersFront, AnswersLine, AnswersOpen}
 use Rattle.grist_serve.specs.Came.{Came, CameFirst}
-use Rattle.grist_serve.specs.Link.{EndsBy, IsServing}
+use Rattle.grist_serve.specs.Link.{EndsBy, IsServing, StopsWriting}
 use Rattle.grist_serve.specs.Requests.{line_entries, requests_of}
 use Rattle.grist_serve.specs.Turns.{CorePass, ClosesLast, OwnTurn, asked_in, bytes_of}
 use Rattle.io_edges.specs.declared.session_end.SessionEnd.{SessionEnd}
@@ -51,6 +51,12 @@ module _ (old mid new : CorePass) (asked more : List Entry) (w v : Option (List 
 
     pub front_after : AnswersFront mid new more v u → AnswersFront old new (asked ++ more) w u
     front_after b = joined (λ bytes sent. sends_second (bytes_of a.turns) bytes w v u a.written sent) (λ ts c. may_both a.turns ts a.closed c) b
+
+-- where writing stopped, a front was written of all that was answered
+pub front_written : (name : List ℕ) (l l' : Option (List ℕ)) (old new : CorePass) (w u : Option (List ℕ)) (s : StopsWriting name l l' old new w u) → AnswersFront old new (requests_of name (s.lines ++ s.last ∷ [])) w u
+front_written name l l' old new w u s =
+    subst (λ es. AnswersFront old new es w u) (sym (requests-push name s.lines s.last))
+    (front_after old s.before new (requests_of name s.lines) (line_entries name s.last) w s.sent s.answered u s.answers)
 
 -- the session may have been closed or not
 pub open_may : (old new : CorePass) (asked : List Entry) (w u : Option (List ℕ)) → AnswersOpen old new asked w u → AnswersAll old new asked w u
@@ -121,9 +127,13 @@ module _ (name : List ℕ) (l m n : Option (List ℕ)) (old mid : CorePass) (w v
     -- the answer ended the link
     ends_answer : (end : SessionEnd) → CameFirst l n (s.lines ++ text ∷ []) → AnswersLine (Err end) mid new (line_entries name after.line) v u → EndsBy end name l n old new w u
     ends_answer WriteFault came b = record {
-      lines = s.lines ++ text ∷ [];
+      lines = s.lines;
+      last = text;
+      before = mid;
+      sent = v;
       came = came;
-      answers = subst (λ es. AnswersFront old new es w u) longer (front_after old mid new (requests_of name s.lines) (line_entries name after.line) w v s.answers u b);
+      answered = s.answers;
+      answers = subst (λ es. AnswersFront mid new es v u) same_entries b;
     }
     ends_answer Full came b = record {
       lines = s.lines;

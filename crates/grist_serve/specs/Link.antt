@@ -43,11 +43,16 @@ module _ (name : List ℕ) (left_old left_new : Option (List ℕ)) (old new : Co
     pub one_line : IsOneLine rest
     pub answers : AnswersOpen old new (requests_of name lines) w w'
 
-  -- the lines that came were answered, and of the last answer a front was written
+  -- the lines that came were answered: all but the last before that one was asked, with all that
+  -- is theirs written, and of the last one's answer a front was written
   pub record StopsWriting : Type 0 where
     pub lines : List (List ℕ)
-    pub came : CameFirst left_old left_new lines
-    pub answers : AnswersFront old new (requests_of name lines) w w'
+    pub last : List ℕ
+    pub before : CorePass
+    pub sent : Option (List ℕ)
+    pub came : CameFirst left_old left_new (lines ++ last ∷ [])
+    pub answered : AnswersOpen old before (requests_of name lines) w sent
+    pub answers : AnswersFront before new (line_entries name last) sent w'
 
   -- the lines that came were answered but for the last, for which the history was full
   pub record StopsFull : Type 0 where

@@ -2,6 +2,7 @@
 ghost use Rattle.std.specs.Prelude.{◌≡◌, ◌≤◌, None};
 ghost use Rattle.io_edges.specs.Causes.{Rose};
 
+use crate::new_file::begin_small;
 use doc_keeper::{KeepFault, Keeper};
 use sqlite::{Connection, Error, ErrorCode, File, FileStore, params};
 use std::alloc::Global;
@@ -153,6 +154,7 @@ impl SqliteKeeper {
     pub fn open(rt: &HostRuntime, path: &str) -> Self
         ensures { result.faults ≡ 0 }
     {
+        begin_small(rt, path);
         SqliteKeeper {
             alloc: rt.alloc(),
             db: open(rt, path),

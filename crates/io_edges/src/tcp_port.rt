@@ -2,9 +2,12 @@
 ghost use Rattle.std.specs.Prelude.{None};
 
 use crate::{Failed, Port, SessionEnd, TcpLink};
-use std::io::{Read, Write};
+use std::io::{ErrorKind, Read, Write};
 use std::marker::Send;
-use std::net::OpenListener;
+use std::net::{OpenListener, OpenStream};
+
+/// How many clients in a row may be gone before they were accepted.
+const MAX_GONE_CLIENTS: u32 = 1024;
 
 /// Hands out the connections that a listener accepts, up to a number. It tells none of them.
 /// Without a listener, which is how one that could not be bound is handed in, `next` fails.
@@ -39,9 +42,25 @@ impl<L: OpenListener> TcpPort<L> {
     }
 }
 
+// The next stream of a listener. A client that was gone before it was accepted is passed over: it
+// says nothing of those behind it.
+fn next_stream<L: OpenListener>(listener: &L) -> Option<L::Stream> {
+    for _ in 0..MAX_GONE_CLIENTS {
+        match listener.accept() {
+            Ok((stream, _)) => return Some(stream),
+            Err(error) => {
+                if error.kind() != ErrorKind::ConnectionAborted {
+                    return None;
+                }
+            }
+        }
+    }
+    None
+}
+
 impl<L: OpenListener + Drop> Port for TcpPort<L>
 where
-    L::Stream: Read + Write + Drop + Send,
+    L::Stream: Read + Write + OpenStream + Drop + Send,
 {
     type Conn = TcpLink<L::Stream>;
 
@@ -60,20 +79,24 @@ where
             return Ok(None);
         }
         let accepted = match &self.listener {
-            Some(listener) => listener.accept().ok(),
+            Some(listener) => next_stream(listener),
             None => None,
         };
-        let Some((stream, _)) = accepted else {
+        let Some(stream) = accepted else {
             self.faults = self.faults.saturating_add(1);
             return Err(Failed);
         };
         self.handed += 1;
         self.lent = true;
+        if self.handed >= self.most {
+            // Nobody is to wait behind the last one: the system refuses them from now on.
+            self.listener = None;
+        }
         Ok(Some(TcpLink::new(stream)))
     }
 
     fn done(&mut self, conn: TcpLink<L::Stream>, _end: SessionEnd) {
-        drop(conn);
+        conn.end();
         self.lent = false;
     }
 }

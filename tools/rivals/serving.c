@@ -1,32 +1,5 @@
-#!/usr/bin/env python3
-"""Measures the server beside an echo server of the same shape, and beside SQLite in C.
-
-    python3 tools/measure_serving.py [requests]      2,000 a connection where it is left out
-
-It runs crates/grist_main/out/grist_main, which `rt run` in crates/grist_main makes, and needs `cc`, threads and
-sqlite3.h. Sixteen connections of one user add one row a request, and each waits for its reply before it asks
-again; with it comes a line for each row that the others added meanwhile. The same clients, in C, with a thread a
-connection, send the same lines to an echo server in C, which has a thread a connection too. Then the same over a
-kept document, beside sixteen threads that insert one row a transaction by SQLite in C, in the same mode (WAL,
-each record synced). They take turns, three each; the most requests a second count.
-
-Last, one more connection opens the document and then reads nothing while the sixteen add their rows.
-"""
-import os
-import subprocess
-import sys
-import tempfile
-import time
-
-from loopback import joined
-
-HERE = os.path.dirname(os.path.abspath(__file__))
-PROGRAM = os.path.join(HERE, "..", "crates", "grist_main", "out", "grist_main")
-USER = '{"user":{"access":"owners","email":"ann@x.org","id":1,"name":"Ann","token":"ta"}}\n'
-LANES, PORT, ECHO = 16, 21400, 21390
-
-# load PORT STRIDE REQUESTS: requests and lines a second; echo PORT; sqlite FILE REQUESTS
-C = r"""
+/* Sixteen clients, an echo server with a thread a connection, and sixteen threads that insert rows by SQLite.
+   serving load PORT STRIDE REQUESTS: requests and lines a second; serving echo PORT; serving sqlite FILE REQUESTS. */
 #include <arpa/inet.h>
 #include <netinet/tcp.h>
 #include <pthread.h>
@@ -114,63 +87,3 @@ int main(int count, char **words) {
   printf("%.1f %.1f\n", LANES * (double)requests / start, lines / start);
   return 0;
 }
-"""
-
-
-def built(folder):
-    source, program = os.path.join(folder, "serving.c"), os.path.join(folder, "serving")
-    with open(source, "w") as text:
-        text.write(C)
-    subprocess.run(["cc", "-O2", "-w", "-o", program, source, "-lpthread", "-lsqlite3"], check=True)
-    return program
-
-
-def told(words):
-    """Requests and lines a second."""
-    out = subprocess.run(words, check=True, stdout=subprocess.PIPE, text=True).stdout
-    return tuple(float(number) for number in out.split())
-
-
-def served(folder, clients, requests, *doc, idle=False):
-    """Requests and lines a second of sixteen connections, and one more that reads nothing where it is asked for."""
-    lanes = LANES + idle
-    words = [PROGRAM, "serve", "--lanes", str(lanes), "--port", str(PORT), "--conns", "1", *doc]
-    server = subprocess.Popen(words, stdin=subprocess.PIPE, stdout=subprocess.PIPE, cwd=folder)
-    server.stdin.write(USER.encode())
-    server.stdin.close()
-    if idle:
-        quiet = joined(PORT + LANES)
-        quiet.sendall(b'{"method":"openDoc","token":"ta"}\n')
-        time.sleep(0.2)
-        quiet.sendall(b'{"method":"fetchTable","table":"Table1"}\n' * 1_000)
-    speed = told([clients, "load", str(PORT), "1", str(requests)])
-    if idle:
-        quiet.close()
-    line = server.stdout.read().decode()
-    if server.wait() or f'"bundles":{LANES * requests},' not in line:
-        raise SystemExit(f"the server told {line!r} and ended with {server.returncode}")
-    return speed
-
-
-def main():
-    requests = int(sys.argv[1]) if len(sys.argv) > 1 else 2_000
-    with tempfile.TemporaryDirectory() as folder:
-        clients = built(folder)
-        echo = subprocess.Popen([clients, "echo", str(ECHO)])
-        rounds = {"echo": [], "memory": [], "sqlite": [], "kept": [], "idle": []}
-        for number in range(3):
-            rounds["echo"].append(told([clients, "load", str(ECHO), "0", str(requests)]))
-            rounds["memory"].append(served(folder, clients, requests))
-            rounds["sqlite"].append(told([clients, "sqlite", os.path.join(folder, f"plain{number}"), str(requests)]))
-            rounds["kept"].append(served(folder, clients, requests, "--doc", f"book{number}"))
-            rounds["idle"].append(served(folder, clients, requests, idle=True))
-        echo.kill()
-    most = {name: max(speeds) for name, speeds in rounds.items()}
-    (echo, _), (asked, lines), (plain, _), (kept, _), (beside, _) = most.values()
-    print(f"echo: {echo:,.0f} lines a second; {LANES} connections in memory: {asked:,.0f} requests and {lines:,.0f} lines a second, {lines / echo:.2f} of it")
-    print(f"SQLite in C: {plain:,.0f} records a second; {LANES} connections, kept: {kept:,.0f}, {kept / plain:.2f} of it")
-    print(f"beside a connection that reads nothing: {beside:,.0f}, {beside / asked:.2f} of that without it")
-
-
-if __name__ == "__main__":
-    main()

@@ -63,7 +63,7 @@ def names_that_are_gone():
         for text in TICKED.findall(line):
             if "NAME" in text or "CRATE" in text:
                 continue
-            if PATH.match(text) and not text.startswith(("out/", "/")):
+            if PATH.match(text) and not text.startswith("/") and "out/" not in text:
                 if not is_file(text) and not is_file(text.split(" ")[0]):
                     yield page, number, f"`{text}` is no file"
             elif NAME.match(text):

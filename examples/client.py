@@ -10,15 +10,28 @@ other line is a change of the document, numbered by `seq`. Its status is 1 where
 import json
 import socket
 import sys
+import time
 
 SECONDS = 30
+
+
+def joined(port, patience):
+    """A connection to the port, once the server listens there."""
+    until = time.monotonic() + patience
+    while True:
+        try:
+            return socket.create_connection(("127.0.0.1", port), timeout=patience)
+        except ConnectionRefusedError:
+            if time.monotonic() > until:
+                raise
+            time.sleep(0.05)
 
 
 class Connection:
     """One connection, which is one session of the server."""
 
-    def __init__(self, port):
-        self.socket = socket.create_connection(("127.0.0.1", port), timeout=SECONDS)
+    def __init__(self, port, patience=SECONDS):
+        self.socket = joined(port, patience)
         self.lines = self.socket.makefile("rb")
 
     def ask(self, request):

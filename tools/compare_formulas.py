@@ -34,7 +34,7 @@ import random
 import subprocess
 import sys
 
-from measure_adds import OPEN, PROGRAM, USER
+from scripts import OPEN, PROGRAM, USER
 
 FORMULAS, FORMULAS_OF_TABLE, ROWS = 2_000, 200, 8
 LEAST, GREATEST = -(2**63), 2**63 - 1

@@ -7,7 +7,7 @@ ghost use Rattle.std.specs.Prelude.{◌≡◌, true, IfOk};
 ghost use Rattle.doc_model.specs.WellFormed.{asks_well_formed};
 
 use crate::cores::{TestCore, new_core};
-use crate::lanes::two_ports;
+use crate::ports::two_ports;
 use bundle_core::Answer;
 use doc_model::{Entry, EntryList, Request};
 use grist_json::read_request;

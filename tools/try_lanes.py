@@ -1,0 +1,119 @@
+#!/usr/bin/env python3
+"""Tries the lanes of a built server: that they run at the same time, what each is written, and what is told at the end.
+
+    python3 tools/try_lanes.py PROGRAM
+
+Starts `PROGRAM serve` on ports of 127.0.0.1 that nobody uses. Two connections each say their second line only once
+the other was answered, so both are answered where lanes run at the same time, and neither where one is served after
+the other. Sessions that change nothing are written what `PROGRAM replay` gives one alone. Two that add a record each
+are counted, and so are their requests; words of no form serve nobody. Its status is 1 where anything differs.
+"""
+import json
+import pathlib
+import subprocess
+import sys
+import tempfile
+
+from loopback import free_ports, joined
+from scripts import USER
+
+PATIENCE = 30
+OPEN = b'{"method":"openDoc","token":"ta"}\n'
+SYNC = b'{"method":"sync"}\n'
+ADD = b'{"actions":[["AddRecord","Table1",null,{"A":1}]],"method":"applyUserActions"}\n'
+CLOSE = b'{"method":"closeDoc"}\n'
+
+
+class Server:
+    """A server of two lanes with a connection each, and both connections."""
+
+    def __init__(self, program):
+        self.port = free_ports(2)
+        self.users = tempfile.TemporaryFile()
+        self.users.write(USER.encode())
+        self.users.seek(0)
+        words = [program, "serve", "--lanes", "2", "--port", str(self.port), "--conns", "1"]
+        self.program = subprocess.Popen(words, stdin=self.users, stdout=subprocess.PIPE)
+        self.links = [joined(self.port + lane, PATIENCE) for lane in (0, 1)]
+        self.lines = [link.makefile("rb") for link in self.links]
+
+    def ask(self, lane, line):
+        """Sends a line, and what is written up to its reply."""
+        self.links[lane].sendall(line)
+        written = b""
+        while True:
+            came = self.lines[lane].readline()
+            written += came
+            if not came.endswith(b"\n") or b'"seq"' not in came:
+                return written
+
+    def end(self):
+        """What the server tells at its end, and its status."""
+        told, _ = self.program.communicate(timeout=PATIENCE)
+        self.users.close()
+        return told, self.program.returncode
+
+    def stop(self):
+        self.program.kill()
+
+
+def alone(program, *lines):
+    """What a session is written that has these lines for itself."""
+    frames = "".join(json.dumps({"line": json.loads(line), "session": "s1"}) + "\n" for line in lines)
+    ran = subprocess.run([program, "replay"], input=USER + frames, capture_output=True, text=True, timeout=PATIENCE)
+    own = [json.dumps(json.loads(line)["line"], separators=(",", ":"), sort_keys=True) for line in ran.stdout.splitlines()]
+    return "".join(line + "\n" for line in own).encode()
+
+
+def meeting(program):
+    """Whether two connections are both answered that wait for one another, each as if it was alone."""
+    server = Server(program)
+    try:
+        given = [server.ask(0, OPEN), server.ask(1, OPEN)]
+        for line in (SYNC, CLOSE):
+            for lane in (1, 0):
+                given[lane] += server.ask(lane, line)
+        told = server.end()
+    except (OSError, subprocess.TimeoutExpired) as fault:
+        return f"lanes do not run at the same time: {fault}"
+    finally:
+        server.stop()
+    if given != [alone(program, OPEN, SYNC, CLOSE)] * 2:
+        return f"a session is written {given}"
+    return None if told == (b'{"bundles":0,"connections":2,"entries":6}\n', 0) else f"the server told {told}"
+
+
+def counting(program):
+    """Whether bundles, connections and requests are counted."""
+    server = Server(program)
+    try:
+        for lane in (0, 1):
+            for line in (OPEN, ADD, CLOSE):
+                if b'"ok"' not in server.ask(lane, line).splitlines()[-1]:
+                    return f"{line} is refused"
+        told = server.end()
+    finally:
+        server.stop()
+    return None if told == (b'{"bundles":2,"connections":2,"entries":6}\n', 0) else f"the server told {told}"
+
+
+def no_form(program):
+    """Whether words of no form serve nobody."""
+    words = [program, "serve", "--lanes", "0", "--port", "4000", "--conns", "1"]
+    ran = subprocess.run(words, input=USER.encode(), capture_output=True, timeout=PATIENCE)
+    return None if (ran.returncode, ran.stdout) == (2, b"") else f"status {ran.returncode}"
+
+
+def main(program):
+    program = str(pathlib.Path(program).resolve())
+    faults = [fault for fault in (meeting(program), counting(program), no_form(program)) if fault]
+    for fault in faults:
+        print(fault)
+    print(f"lanes: {3 - len(faults)} passed, {len(faults)} failed")
+    return 1 if faults else 0
+
+
+if __name__ == "__main__":
+    if len(sys.argv) != 2:
+        sys.exit(__doc__)
+    sys.exit(main(sys.argv[1]))

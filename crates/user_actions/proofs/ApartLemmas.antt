@@ -51,7 +51,7 @@ apart_append : (xs ys : List Referrer) → AreApart xs → AreApart ys → AllBy
 apart_append [] ys a b c = b
 apart_append (x ∷ xs) ys a b c = (each_append (λ y. same_key x y ≡ false) xs ys a.0 c.0, apart_append xs ys a.1 b c.1)
 
-and_false : (b : Bool) → (b && false) ≡ false
+pub and_false : (b : Bool) → (b && false) ≡ false
 and_false true = refl
 and_false false = refl
 

@@ -2,14 +2,11 @@
 use Rattle.std.proofs.Common.{ℕ, ℤ, zero, suc, ◌+◌, ◌-◌, ◌<◌, Bool, true, false, cond, not, ◌&&◌, ◌||◌, List, [], ◌∷◌, drop, length, get_or, ◌≡◌, refl, sym, ap, ◌∙◌, drop-cons, arith}
 use Rattle.std.specs.Ordering.{int_cmp, is_eq}
 use Rattle.user_actions.specs.Given.{have_no_duplicates, has_number}
+use Rattle.user_actions.proofs.ApartLemmas.{and_false}
 
 cond_or : (a b : Bool) → cond a true b ≡ (a || b)
 cond_or true b = refl
 cond_or false b = refl
-
-and_false : (b : Bool) → (b && false) ≡ false
-and_false true = refl
-and_false false = refl
 
 -- a list has a repeat where it has one further on
 pub have_no_duplicates-drop : (k : ℕ) (ns : List ℤ) → have_no_duplicates (drop k ns) ≡ false → have_no_duplicates ns ≡ false

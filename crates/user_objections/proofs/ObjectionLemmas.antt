@@ -13,7 +13,7 @@ use Rattle.doc_model.specs.Changes.{shown_table_id}
 use Rattle.doc_model.specs.MetadataIds.{is_schema_id, is_acl_id, is_metadata_id, resources_id, rules_id}
 use Rattle.doc_model.specs.declared.refusal.Refusal.{Refusal}
 use Rattle.doc_model.specs.declared.refusal.Refusal.TheVariants as refusal
-use Rattle.doc_model.proofs.ByIdsLaws.{found_id}
+use Rattle.doc_model.proofs.ByIdsLaws.{found_id, bytes_itself}
 use Rattle.acl_rows.specs.GoodRows.{are_permissions, has_good_texts, holds_text, is_formula, is_good_resource, is_good_rule, is_memo, is_position, names_resource, say_resource, is_attribute}
 use Rattle.user_actions.specs.Kinds.{table_of}
 use Rattle.user_objections.specs.ObjectionLaws.{asked, asks_for, AskedLaw, is_about_rules}
@@ -100,15 +100,12 @@ module _ (v w : List ViewTable) (table : List ℕ) (rest kept : ViewTable → Op
 
 -- ---- the tables that it asks for
 
-itself : (c : List ℕ) → bytes_eq c c ≡ true
-itself c = (bytes_eq-Decides c c).1 refl
-
 pub asks_itself : (a : UserAction) → asks_for a (table_of a) ≡ true
-asks_itself a = ap (λ b. b || (is_about_rules a && bytes_eq (table_of a) resources_id)) (itself (table_of a))
+asks_itself a = ap (λ b. b || (is_about_rules a && bytes_eq (table_of a) resources_id)) (bytes_itself (table_of a))
 
 pub asks_resources : (a : UserAction) → is_about_rules a ≡ true → asks_for a resources_id ≡ true
 asks_resources a h =
-    or_right (bytes_eq resources_id (table_of a)) (is_about_rules a && bytes_eq resources_id resources_id) (ap (λ b. b && bytes_eq resources_id resources_id) h ∙ itself resources_id)
+    or_right (bytes_eq resources_id (table_of a)) (is_about_rules a && bytes_eq resources_id resources_id) (ap (λ b. b && bytes_eq resources_id resources_id) h ∙ bytes_itself resources_id)
 
 find-asked : (v : List ViewTable) (a : UserAction) (id : List ℕ) → asks_for a id ≡ true → find_id shown_table_id id (asked a v) ≡ find_id shown_table_id id v
 find-asked v a id asks =

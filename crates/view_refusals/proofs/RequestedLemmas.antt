@@ -17,6 +17,7 @@ use Rattle.doc_model.specs.MetadataIds.{resources_id, rules_id}
 use Rattle.doc_model.specs.Rows.{has}
 use Rattle.doc_model.proofs.ByIdsLaws.{found_id}
 use Rattle.doc_model.proofs.RowsLaws.{number_itself, has-filter}
+use Rattle.doc_model.proofs.WholeLaws.{resources_rules_apart}
 use Rattle.doc_model.specs.declared.refusal.Refusal.{Refusal}
 use Rattle.doc_model.specs.declared.refusal.Refusal.TheVariants as refusal
 use Rattle.plain_view.specs.PartsOfViews.{passing}
@@ -84,10 +85,6 @@ after_passing t ks ns n column =
 
 -- ---- the tables that it asks for
 
-apart : bytes_eq resources_id rules_id ≡ false
-unfolding resources_id rules_id
-apart = refl
-
 pub every_row : (rows : List ℕ) → filter (λ r. true) rows ≡ rows
 every_row [] = refl
 every_row (r ∷ rows) = ap (λ l. r ∷ l) (every_row rows)
@@ -96,7 +93,7 @@ every_row (r ∷ rows) = ap (λ l. r ∷ l) (every_row rows)
 module _ (a : UserAction) (rules : table_of a ≡ rules_id) where
   cut_resources : (t : ViewTable) → t.id ≡ resources_id → (cut a t).rows ≡ t.rows
   cut_resources t is =
-      ap (λ b. filter (λ r. not b || has (rows_requested a) r) t.rows) (ap (λ id. bytes_eq id (table_of a)) is ∙ ap (bytes_eq resources_id) rules ∙ apart)
+      ap (λ b. filter (λ r. not b || has (rows_requested a) r) t.rows) (ap (λ id. bytes_eq id (table_of a)) is ∙ ap (bytes_eq resources_id) rules ∙ resources_rules_apart)
       ∙ every_row t.rows
 
   rows_cut : (v : List ViewTable) → resource_rows (map (cut a) v) ≡ resource_rows v

@@ -1,8 +1,9 @@
 //! Tests of views: their parts, their changes, and what stands against user actions in them.
 //!
 //! Stands on `doc_model`, `row_tables`, `recalc`, `evaluated_doc`, `plain_view`, `view_patch`,
-//! `censored_view`, `action_censor`, `user_actions` and `view_refusals`. Nothing stands on it; it is a
-//! crate of its own, so that none of those is proved a second time with its tests.
+//! `censored_view`, `action_censor`, `user_actions`, `user_objections` and `view_refusals`. Nothing
+//! stands on it; it is a crate of its own, so that none of those is proved a second time with its
+//! tests.
 //!
 //! Promises: nothing. What is tested is what no clause says: that the definitions mean what is
 //! meant, by values that were worked out by hand, and that calls succeed where there is memory.

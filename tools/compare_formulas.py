@@ -434,7 +434,8 @@ def main():
     print("\n".join(found), end="\n" if found else "")
     values = [row[id] for table in tables for row in table.rows for id in table.formulas]
     kinds = collections.Counter(type(value).__name__ for value in values)
-    print(f"seed {seed}: {FORMULAS} formulas, {len(values)} cells compared, {sum(table.left_out for table in tables)} formulas left out, {len(found)} differences")
+    left_out = sum(table.left_out for table in tables)
+    print(f"seed {seed}: {FORMULAS} formulas, {len(values)} cells compared, {left_out} formulas left out, {len(found)} differences")
     print("values by kind: " + ", ".join(f"{kind} {count}" for kind, count in sorted(kinds.items())))
     raise SystemExit(1 if found else 0)
 

@@ -20,10 +20,10 @@ import tempfile
 import threading
 import time
 
+from scripts import OPEN, USER
+
 HERE = os.path.dirname(os.path.abspath(__file__))
 PROGRAM = os.path.join(HERE, "..", "crates", "grist_main", "out", "grist_main")
-USER = '{"user":{"access":"owners","email":"ann@x.org","id":1,"name":"Ann","token":"ta"}}\n'
-OPEN = '{"line":{"method":"openDoc","token":"ta"},"session":"s1"}\n'
 ADD = '{"line":{"actions":[["AddRecord","Table1",null,{"A":%d}]],"method":"applyUserActions"},"session":"s1"}\n'
 BUNDLES = 4000
 

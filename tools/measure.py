@@ -45,7 +45,8 @@ def added_rows():
 def bundles():
     """Bundles of 500 added records over loaded tables."""
     count, each, seconds, peaks = size(60), 500, {}, {}
-    more = [bundle(*(["AddRecord", "Table1", None, {"A": n, "B": f"x{n}"}] for n in range(k * each, (k + 1) * each))) for k in range(count)]
+    add = [["AddRecord", "Table1", None, {"A": n, "B": f"x{n}"}] for n in range(count * each)]
+    more = [bundle(*add[k * each:(k + 1) * each]) for k in range(count)]
     for loaded in (2_000, 25_000, 50_000):
         before = [USER, OPEN, *rows("Table1", A=range(loaded), B=[f"x{n}" for n in range(loaded)])]
         without, peaks[loaded] = least(before, 5)
@@ -59,8 +60,10 @@ def undo():
     """Bundles of 500 updates of one cell each, and undos of half of them."""
     each, count = 500, size(100)
     before = [USER, OPEN, *rows("Table1", A=range(each), B=[f"x{n}" for n in range(each)])]
-    done = [bundle(*(["UpdateRecord", "Table1", row, {"A": k * 1_000_000 + row}] for row in range(1, each + 1))) for k in range(1, count + 1)]
-    undone = [scripts.ask("s1", method="undo", bundle=number) for number in range(1 + count, 1 + count - count // 2, -1)]
+    done = [bundle(*(["UpdateRecord", "Table1", row, {"A": k * 1_000_000 + row}] for row in range(1, each + 1)))
+            for k in range(1, count + 1)]
+    numbers = range(1 + count, 1 + count - count // 2, -1)
+    undone = [scripts.ask("s1", method="undo", bundle=number) for number in numbers]
     first, _ = least(before, 5)
     second, peak = least(before + done, 5)
     third, _ = least(before + done + undone, 5)
@@ -79,11 +82,12 @@ def rules():
         lines = [USER, editor[0], OPEN, editor[1], *rows("Table1", count, A=range(count), B=["x"] * count)]
         tables = ["Table1"] * own + [f"T{n}" for n in range(others)]
         if tables:
-            lines.append(bundle(["BulkAddRecord", "_grist_ACLResources", [None] * len(tables), {"tableId": tables, "colIds": ["*"] * len(tables)}]))
-            cells = {"resource": list(range(1, len(tables) + 1)), "aclFormula": [text] * len(tables), "permissionsText": ["-U"] * len(tables)}
-            lines.append(bundle(["BulkAddRecord", "_grist_ACLRules", [None] * len(tables), cells]))
+            lines += rows("_grist_ACLResources", tableId=tables, colIds=["*"] * len(tables))
+            lines += rows("_grist_ACLRules", resource=range(1, len(tables) + 1), aclFormula=[text] * len(tables),
+                          permissionsText=["-U"] * len(tables))
         ids = list(range(1, count + 1))
-        more = [bundle(["BulkUpdateRecord", "Table1", ids, {"B": [f"y{k}"] * count}], session="s2") for k in range(times)]
+        more = [bundle(["BulkUpdateRecord", "Table1", ids, {"B": [f"y{k}"] * count}], session="s2")
+                for k in range(times)]
         return (least(lines + more, 5)[0] - least(lines, 5)[0]) / times
 
     none, one, many, both = seconds_of(0, 0), seconds_of(1, 0), seconds_of(0, 1_000), seconds_of(1, 1_000)
@@ -102,11 +106,14 @@ def formulas():
         check_last(told(with_cells), "V", count)
         (without, low), (seconds[count], high) = least(plain), least(with_cells)
         seconds[count] -= without
-        yield f"a chain of {count:,} rows evaluated and told, a cell", f"{1e6 * seconds[count] / count:.2f} µs, {(high - low) / count:.0f} bytes", "400 bytes"
+        told_of = f"{1e6 * seconds[count] / count:.2f} µs, {(high - low) / count:.0f} bytes"
+        yield f"a formula cell of a chain of {count:,}, with its line", told_of, "400 bytes"
         if shutil.which("rustc"):
             with tempfile.TemporaryDirectory() as folder:
                 plain_rust = scripts.numbers_told([scripts.compiled(folder, "boxed_chain.rs"), str(count)])[0]
-            yield f"a cell of a chain of {count:,}, with its line, beside an addition of boxed values in Rust", f"{1e9 * seconds[count] / count / plain_rust:.0f} times", "40, of its evaluation alone"
+            beside = f"{1e9 * seconds[count] / count / plain_rust:.0f} times"
+            yield (f"a cell of a chain of {count:,}, with its line, beside an addition of boxed values in Rust", beside,
+                   "40, of its evaluation alone")
     half, whole = sorted(seconds)[1:]
     yield f"a chain of {whole:,} rows beside {half:,}", f"{seconds[whole] / seconds[half]:.2f} times", "2.3"
     tasks, projects = size(5_000), 100
@@ -117,7 +124,8 @@ def formulas():
     of_tasks = formula("Tasks", "Total2", "SUM(Tasks.lookupRecords(Project=$Project).Hours)")
     check_last(told([*before, of_tasks]), "Total2", total[project[-1] - 1])
     (without, low), (filled, high) = least(before), least([*before, of_tasks])
-    yield f"{tasks:,} sums over lookups of {tasks // projects} rows, a cell", f"{1e6 * (filled - without) / tasks:.1f} µs, {(high - low) / tasks:.0f} bytes", ""
+    told_of = f"{1e6 * (filled - without) / tasks:.1f} µs, {(high - low) / tasks:.0f} bytes"
+    yield f"{tasks:,} sums over lookups of {tasks // projects} rows, a cell", told_of, ""
 
 
 def check_last(lines, column, wanted):
@@ -140,16 +148,24 @@ def updates():
 
     second = opening("s2")
     for length in (1_000, 10_000):
-        load = [USER, OPEN, second, table("Run", A="Int"), *rows("Run", A=[1] * length), formula("Run", "V", "Run.lookupOne(id=$id - 1).V + $A")]
-        yield row(f"a cell at the end of a chain of {length:,}", load, [update("Run", length - 1, A=n + 2) for n in range(count)], triggers.chain(length, length - 1, count), "0.02 ms")
-        yield row(f"a cell at the start of a chain of {length:,}", load, [update("Run", 1, A=n + 2) for n in range(few)], triggers.chain(length, 1, few), "6.5 ms" if length == 10_000 else "")
+        load = [USER, OPEN, second, table("Run", A="Int"), *rows("Run", A=[1] * length)]
+        load.append(formula("Run", "V", "Run.lookupOne(id=$id - 1).V + $A"))
+        yield row(f"a cell at the end of a chain of {length:,}", load,
+                  [update("Run", length - 1, A=n + 2) for n in range(count)],
+                  triggers.chain(length, length - 1, count), "0.02 ms")
+        yield row(f"a cell at the start of a chain of {length:,}", load, [update("Run", 1, A=n + 2) for n in range(few)],
+                  triggers.chain(length, 1, few), "6.5 ms" if length == 10_000 else "")
     for length in (5_000, 50_000):
-        keys = length // triggers.ROWS_A_KEY
-        load = [USER, OPEN, second, table("Work", N="Int", K="Int"), *rows("Work", N=[n % 1000 - 500 for n in range(1, length + 1)], K=[n % keys for n in range(1, length + 1)]),
-                formula("Work", "Q", "$N // 3"), formula("Work", "S", "SUM(Work.lookupRecords(K=$K).N)")]
-        yield row(f"a number that 50 sums read, of {length:,} rows", load, [update("Work", n * 17 % length + 1, N=n + 1000) for n in range(count)], triggers.sums(length, count, False), "0.5 ms")
-        adds = [bundle(["AddRecord", "Work", None, {"N": n, "K": n % keys}]) for n in range(few)]
-        yield row(f"a row that 50 sums read, added to {length:,}", load, adds, triggers.sums(length, few, True), "1 ms")
+        keys, numbers = length // triggers.ROWS_A_KEY, range(1, length + 1)
+        load = [USER, OPEN, second, table("Work", N="Int", K="Int")]
+        load += rows("Work", N=[n % 1000 - 500 for n in numbers], K=[n % keys for n in numbers])
+        load += [formula("Work", "Q", "$N // 3"), formula("Work", "S", "SUM(Work.lookupRecords(K=$K).N)")]
+        yield row(f"a number that 50 sums read, of {length:,} rows", load,
+                  [update("Work", n * 17 % length + 1, N=n + 1000) for n in range(count)],
+                  triggers.sums(length, count, False), "0.5 ms")
+        yield row(f"a row that 50 sums read, added to {length:,}", load,
+                  [bundle(["AddRecord", "Work", None, {"N": n, "K": n % keys}]) for n in range(few)],
+                  triggers.sums(length, few, True), "1 ms")
     ends = [before[f"a cell at the end of a chain of {length:,}"] for length in (10_000, 1_000)]
     reads, come = ([before[f"{what} {length:,}{of}"] for length in (50_000, 5_000)]
                    for what, of in (("a number that 50 sums read, of", " rows"), ("a row that 50 sums read, added to", "")))
@@ -162,15 +178,17 @@ def opened():
     """A kept document as the generator makes it, opened, and told whole to a session."""
     count, words = size(5_000), ("replay", "--doc", "work")
     few = {"Q": "$N // 3", "S": "SUM(Work.lookupRecords(K=$K).N)"}
-    more = {**few, "T": "SUM(Work.lookupRecords(K=$K).Q)", "U": "$N + $S", "V": "MAX(Work.lookupRecords(K=$K).N)", "W": "$S if $N < 0 else $Q"}
+    more = {**few, "T": "SUM(Work.lookupRecords(K=$K).Q)", "U": "$N + $S", "V": "MAX(Work.lookupRecords(K=$K).N)",
+            "W": "$S if $N < 0 else $Q"}
     for texts in (few, more):
-        lines = [USER, user("te", "editors", 2, "Ed"), OPEN, table("Work", N="Int", K="Int", **{id: "=" + text for id, text in texts.items()})]
+        lines = [USER, OPEN, table("Work", N="Int", K="Int", **{id: "=" + text for id, text in texts.items()})]
         lines += rows("Work", 500, N=[n * 7919 % 1000 - 500 for n in range(count)], K=[n * 37 % 100 for n in range(count)])
         lines += [update("Work", row, N=row * 31 % 1000 - 500) for row in range(1, min(count, 200) + 1)]
         with tempfile.TemporaryDirectory() as folder:
             made = run_once(lines, words, folder)[0]
             alone, shown = least([USER], 5, words, folder)[0], least([USER, OPEN], 5, words, folder)[0]
-        yield f"a kept document of {count:,} rows and {len(texts)} formula columns, opened and told whole", f"{1e3 * shown:.0f} ms ({1e3 * alone:.0f} opened, made in {made:.2f} s)", "500 ms"
+        yield (f"a kept document of {count:,} rows and {len(texts)} formula columns, opened and told whole",
+               f"{1e3 * shown:.0f} ms ({1e3 * alone:.0f} opened, made in {made:.2f} s)", "500 ms")
 
 
 def keeping():
@@ -195,10 +213,12 @@ def keeping():
             clear(folder, "b.grist"), clear(folder, "e.grist")
             run_once([USER, OPEN, *add[:number]], ("replay", "--doc", "b"), folder)
             run_once([USER], ("replay", "--doc", "e"), folder)
-            whole, empty = (statistics.median(run_once([USER], ("replay", "--doc", it), folder)[0] for _ in range(7)) for it in "be")
+            whole, empty = (statistics.median(run_once([USER], ("replay", "--doc", it), folder)[0] for _ in range(7))
+                            for it in "be")
             read = statistics.median(scripts.numbers_told([rival, "read", "b.grist"], folder)[0] for _ in range(7))
             costs.append(whole - empty)
-            yield f"{number:,} bundles opened again", f"{1e3 * costs[-1]:.1f} ms, {1e3 * read:.1f} of them to read the file in C", ""
+            yield (f"{number:,} bundles opened again",
+                   f"{1e3 * costs[-1]:.1f} ms, where C reads the file in {1e3 * read:.1f}", "")
         yield f"{2 * count:,} bundles opened again beside {count:,}", f"{costs[1] / costs[0]:.2f} times", ""
 
 
@@ -231,7 +251,8 @@ def serving():
         for number in range(3):
             turns["echo"].append(scripts.numbers_told([rival, "load", str(echo), "0", str(requests)]))
             turns["memory"].append(served(folder, rival))
-            turns["sqlite"].append(scripts.numbers_told([rival, "sqlite", os.path.join(folder, f"plain{number}"), str(requests)]))
+            plain = os.path.join(folder, f"plain{number}")
+            turns["sqlite"].append(scripts.numbers_told([rival, "sqlite", plain, str(requests)]))
             turns["kept"].append(served(folder, rival, "--doc", f"book{number}"))
             turns["idle"].append(served(folder, rival, idle=True))
         other.kill()
@@ -243,7 +264,8 @@ def serving():
 
 
 REGIONS = ("North", "East", "South", "West")
-TASK = {"Region": "Text", "Title": "Text", "N": "Int", "Cost": "Int", "Note": "Text", "Secret": "Int", "Assignee": "Text", "Stage": "Int", "Hours": "Int"}
+TASK = {"Region": "Text", "Title": "Text", "N": "Int", "Cost": "Int", "Note": "Text", "Secret": "Int",
+        "Assignee": "Text", "Stage": "Int", "Hours": "Int"}
 PEOPLE = (("owners", "ann"), ("editors", "ed"), ("editors", "eve"), ("viewers", "vi"))
 ATTRIBUTE = '{"charId":"Email","lookupColId":"Email","name":"Who","tableId":"People"}'
 RULES = (  # the resource, the formula, what it allows and denies
@@ -262,22 +284,26 @@ RULES = (  # the resource, the formula, what it allows and denies
 
 
 def task(row):
-    return (REGIONS[row % 4], f"Task {row}", row % 500, row * 7 % 1_000, f"about the task {row}", int(row // 4 % 5 == 0), f"p{row % 40}@x.org", row % 7, row % 24)
+    return (REGIONS[row % 4], f"Task {row}", row % 500, row * 7 % 1_000, f"about the task {row}",
+            int(row // 4 % 5 == 0), f"p{row % 40}@x.org", row % 7, row % 24)
 
 
 def tasks(count):
     """The lines of a document of tasks under twelve rules, one of them with an attribute of users."""
     yield from (user(name, access, number + 1, name) for number, (access, name) in enumerate(PEOPLE))
-    yield opening("s1", "ann") + table("Tasks", **TASK) + table("People", Email="Text", Region="Text") + table("Projects", Name="Text")
+    yield opening("s1", "ann")
+    yield table("Tasks", **TASK) + table("People", Email="Text", Region="Text") + table("Projects", Name="Text")
     yield bundle(["RemoveTable", "Table1"])
     yield from rows("Tasks", **dict(zip(TASK, map(list, zip(*map(task, range(count)))))))
     names = [name for _, name in PEOPLE] + [f"p{n}" for n in range(36)]
-    yield from rows("People", Email=[f"{name}@x.org" for name in names], Region=["South" if name == "vi" else "North" for name in names])
+    yield from rows("People", Email=[f"{name}@x.org" for name in names],
+                    Region=["South" if name == "vi" else "North" for name in names])
     yield from rows("Projects", Name=[f"Project {n}" for n in range(12)])
     about = list(dict.fromkeys((table, columns) for table, columns, _, _ in RULES))
     yield from rows("_grist_ACLResources", tableId=[it[0] for it in about], colIds=[it[1] for it in about])
-    yield from rows("_grist_ACLRules", resource=[about.index(it[:2]) + 1 for it in RULES] + [0], aclFormula=[it[2] for it in RULES] + [""],
-                    permissionsText=[it[3] for it in RULES] + [""], userAttributes=[""] * len(RULES) + [ATTRIBUTE])
+    yield from rows("_grist_ACLRules", resource=[about.index(it[:2]) + 1 for it in RULES] + [0],
+                    aclFormula=[it[2] for it in RULES] + [""], permissionsText=[it[3] for it in RULES] + [""],
+                    userAttributes=[""] * len(RULES) + [ATTRIBUTE])
 
 
 def views():
@@ -288,13 +314,15 @@ def views():
     if shown.count("['C']") != count // 20 or "'Cost'" in shown or shown.count("'Task ") != count // 4:
         raise SystemExit("the viewer is not shown what the rules say")
     own = (least(before + [opening("vi0", "vi"), closing("vi0")] * times, 5)[0] - least(before, 5)[0]) / times
-    yield f"{count:,} tasks, a quarter of them shown, opened by a viewer", f"{1e3 * own:.3f} ms, {1e9 * own / count:.0f} ns a row of the table", ""
+    yield (f"{count:,} tasks, a quarter of them shown, opened by a viewer under 12 rules",
+           f"{1e3 * own:.3f} ms, {1e9 * own / count:.0f} ns a row of the table", "")
     programs = postgres.postgres_folder()
     if programs:
         yield "the same beside PostgreSQL, which reads the same rows", f"{1e3 * own / postgres_reading(programs, count):.2f} times", "0.25"
 
     def updating(count, sessions):
-        before = [*tasks(count), *(opening(f"{name}{n}", name) for n in range(sessions // 4) for _, name in PEOPLE if (name, n) != ("ann", 0))]
+        before = [*tasks(count), *(opening(f"{name}{n}", name) for n in range(sessions // 4)
+                                   for _, name in PEOPLE if (name, n) != ("ann", 0))]
         more = [update("Tasks", n * 7 % count + 1, session="ed0", Hours=n) for n in range(size(1_000))]
         told(before + more[:3])
         return (least(before + more, 5)[0] - least(before, 5)[0]) / len(more)
@@ -357,7 +385,8 @@ def main(names):
     print("| What | Now | Aim | Command | Commit, machine | Before |\n|---|---|---|---|---|---|")
     for name in names or WORKLOADS:
         for what, now, aim in WORKLOADS[name]():
-            print(f"| {what} | {now} | {aim} | `{name}` | {commit}, {machine()} | {said.get(what, '')} |".replace("|  |", "| |"), flush=True)
+            cells = (what, now, aim, f"`{name}`", f"{commit}, {machine()}", said.get(what, ""))
+            print("| " + " | ".join(cells).replace("|  |", "| |") + " |", flush=True)
 
 
 if __name__ == "__main__":

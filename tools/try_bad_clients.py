@@ -20,9 +20,9 @@ import tempfile
 import threading
 
 from loopback import free_ports, joined
+from scripts import USER
 
 PATIENCE = 60
-USER = '{"user":{"access":"owners","email":"ann@x.org","id":1,"name":"Ann","token":"ta"}}\n'
 OPEN = b'{"method":"openDoc","token":"ta"}\n'
 ADD = b'{"actions":[["AddRecord","Table1",null,{"A":1}]],"method":"applyUserActions"}\n'
 BAD_LINE = {"error": {"code": 1, "name": "BadLine"}}

@@ -2,6 +2,7 @@
 """Tries edits of crates, wrong bodies that the proof must refuse, and writes into tools/edits/TRIED what came of them.
 
     python3 tools/try_edits.py [--gate] NAME..      the edits in tools/edits/NAME; with --gate those in must-fail/
+    python3 tools/try_edits.py --from LOG           what a log of `rt ci` over this state tells of those in must-fail/
     python3 tools/try_edits.py --stale              names the edits that TRIED tells nothing of, or of an older crate
 
 An edit costs the gate a check, so crates/NAME/must-fail/ has few, and tools/edits/NAME/ the others. This copies the
@@ -70,19 +71,26 @@ def copy_with_spare_edits(to, names):
         shutil.copytree(os.path.join(ROOT, "tools", "edits", name), place)
 
 
-def run(names, folder):
-    """Runs the edits, and notes each as it is told."""
+def note(lines):
+    """Notes each edit that these lines tell of, and hands the lines on."""
     kit = output("rt", "version").split()[0].removeprefix("rattle-kit-") or "unknown"
     date = datetime.date.today().isoformat()
-    found, started = tried(), subprocess.Popen(["rt", "must-fail", *names], cwd=folder, stdout=subprocess.PIPE,
-                                               stderr=subprocess.STDOUT, text=True)
-    for line in started.stdout:
-        print(line, end="", flush=True)
+    found = tried()
+    for line in lines:
         said = SAID.search(line)
         if said and said.group(3) != "NOT TRIED":
             verdict = "refused" if said.group(3) == "refused" else "not"
             found[said.group(1), said.group(2)] = [verdict, commit_of(said.group(1)), kit, date]
             write(found)
+        yield line
+
+
+def run(names, folder):
+    """Runs the edits, and notes each as it is told."""
+    started = subprocess.Popen(["rt", "must-fail", *names], cwd=folder, stdout=subprocess.PIPE, stderr=subprocess.STDOUT,
+                               text=True)
+    for line in note(started.stdout):
+        print(line, end="", flush=True)
     return started.wait()
 
 
@@ -103,6 +111,10 @@ def stale():
 def main(words):
     if words == ["--stale"]:
         return stale()
+    if words[:1] == ["--from"] and len(words) == 2:
+        with open(words[1], encoding="utf-8") as log:
+            print(sum(bool(SAID.search(line)) for line in note(log)), "edits noted")
+        return 0
     names = [it for it in words if it != "--gate"]
     if not names or any(it.startswith("-") for it in names):
         print(__doc__, file=sys.stderr)

@@ -17,7 +17,8 @@ import subprocess
 import sys
 import tempfile
 
-USER = json.dumps({"user": {"access": "owners", "email": "ann@x.org", "id": 1, "name": "Ann", "token": "ta"}}) + "\n"
+from scripts import USER, ask, bundle
+
 FORMULAS = [
     "$A + 1",
     "$F1 * 2",
@@ -31,14 +32,6 @@ FORMULAS = [
     "MAX(T.lookupRecords(F1=$A).id)",
 ]
 U_FORMULAS = ["$T.F3", "$T.F1 + $B", "U.lookupOne(B=$B).id"]
-
-
-def ask(session, **line):
-    return json.dumps({"line": line, "session": session}) + "\n"
-
-
-def bundle(*actions):
-    return ask("s1", method="applyUserActions", actions=actions)
 
 
 class Maker:

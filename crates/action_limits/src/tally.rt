@@ -24,7 +24,6 @@ pub struct Tally {
 }
 
 impl Tally {
-
     /// That of a document; nothing where its cells or their weight are more than 64 bits can tell,
     /// which no memory holds.
     ///

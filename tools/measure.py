@@ -7,7 +7,7 @@ It runs crates/grist_main/out/grist_main, which `rt run` in crates/grist_main ma
 WORKLOADS below; rivals (SQLite, an echo server, PostgreSQL) stand in tools/rivals and take turns with the program.
 What a part of a script takes is the time of the script with it less that without it; scripts are run three or five
 times, and the least time counts. Measure on an idle machine: the load is printed with the commit. The column "before"
-has what the page says now. With --small each is run over a tenth of its size, to see that it runs.
+has what the page says now. With --small each is run over less, to see that it runs.
 """
 import os
 import pathlib
@@ -28,7 +28,7 @@ SMALL = "--small" in sys.argv
 
 
 def size(count):
-    return max(count // 10, 20) if SMALL else count
+    return max(count // 50, 20) if SMALL else count
 
 
 def added_rows():

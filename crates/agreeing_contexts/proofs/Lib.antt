@@ -1,0 +1,3 @@
+mod FieldLemmas
+mod ItemLemmas
+pub mod AgreementLemmas

@@ -580,13 +580,13 @@ function drawRow(row, t, columns, i, [i0, i1, k0, k1]) {
     const name = key(shown, id, c.id), stamp = fresh.get(name);
     const all = (kind + (c.isFormula && id ? " made" : "") + (here ? " at" : picks ? " picked" : "")
       + (waiting.has(name) ? " waits" : "") + (stamp ? " fresh-" + "ab"[stamp[1] % 2] : "")).trim();
-    put(cell, "className", all);
+    if (cell.seen !== all + picks) {
+      cell.seen = all + picks; cell.className = all; cell.setAttribute("aria-selected", picks);
+      cell.setAttribute("aria-readonly", c.isFormula || kind === "hatched");
+    }
     if (cell.id === "at" && !here) cell.removeAttribute("id");
-    cell.setAttribute("aria-selected", picks);
-    cell.setAttribute("aria-readonly", c.isFormula || kind === "hatched");
     const sign = rows ? table + "\n" + rows.map(r => one(table, r)).join("\n") : kind + "\n" + text;
-    if (cell.sign === sign) return;
-    cell.sign = sign;
+    if (cell.sign === sign) return; else cell.sign = sign;
     if (rows) cell.replaceChildren(...rows.map(r =>
       make("span", one(table, r), label(table, r) === null ? "chip far" : "chip")));
     else if (kind === "yes" || kind === "no") cell.replaceChildren(make("span", text, "sr"));

@@ -77,6 +77,7 @@ def browser(dark=False, width=1280, height=760):
         options.add_argument(word)
     options.set_capability("goog:loggingPrefs", {"browser": "ALL", "performance": "ALL"})
     page = webdriver.Chrome(service=Service(DRIVER), options=options)
+    page.set_script_timeout(300)
     page.execute_cdp_cmd("Emulation.setDeviceMetricsOverride",
                          {"width": width, "height": height, "deviceScaleFactor": 1, "mobile": False})
     colours = {"name": "prefers-color-scheme", "value": "dark" if dark else "light"}

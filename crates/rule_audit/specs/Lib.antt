@@ -1,0 +1,6 @@
+pub mod Stops
+pub mod Open
+pub mod Reached
+pub mod Closed
+pub mod Laws
+pub mod SeenLaws

@@ -8,7 +8,8 @@
 An edit costs the gate a check, so crates/NAME/must-fail/ has few, and tools/edits/NAME/ the others. This copies the
 repository, with what its checks kept, to a scratch folder beside it, puts the spare edits of the named crates in the
 place of the gate's, and runs `rt must-fail` of these crates there (with --gate, here). A line of TRIED: the crate, the
-edit, `refused` or `not` (which is also said of one that cannot be tried), the last commit that changed the crate or one
+edit, `refused`, `named` (only because a proof cites a name that is gone, which says little of the contract) or
+`not` (which is also said of one that cannot be tried), the last commit that changed the crate or one
 below it, the kit and the date. Its status is 1 where an edit was not refused.
 """
 import datetime
@@ -23,8 +24,8 @@ import sources
 
 ROOT = str(sources.ROOT)
 TRIED = sources.ROOT / "tools" / "edits" / "TRIED"
-SAID = re.compile(r"must-fail (\w+)/([\w.-]+)\.edit: (refused|NOT REFUSED|BAD EDIT|NOT TRIED)")
-HEAD = "# Written by tools/try_edits.py: crate, edit, refused or not, last commit of the crate and those below it, kit, date.\n"
+SAID = re.compile(r"must-fail (\w+)/([\w.-]+)\.edit: (refused|NOT REFUSED|BAD EDIT|NOT TRIED)(.*only because a proof file names)?")
+HEAD = "# Written by tools/try_edits.py: crate, edit, refused, named or not, last commit of the crate and those below it, kit, date.\n"
 
 
 def output(*words):
@@ -79,7 +80,7 @@ def note(lines):
     for line in lines:
         said = SAID.search(line)
         if said and said.group(3) != "NOT TRIED":
-            verdict = "refused" if said.group(3) == "refused" else "not"
+            verdict = "named" if said.group(4) else "refused" if said.group(3) == "refused" else "not"
             found[said.group(1), said.group(2)] = [verdict, commit_of(said.group(1)), kit, date]
             write(found)
         yield line

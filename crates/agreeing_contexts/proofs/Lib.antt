@@ -1,3 +1,4 @@
 mod FieldLemmas
 mod ItemLemmas
+mod LoadedLemmas
 pub mod AgreementLemmas

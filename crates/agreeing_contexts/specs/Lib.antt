@@ -1,4 +1,5 @@
 pub mod Fields
 pub mod Agreement
 pub mod AgreementLaws
+pub mod Rows
 pub mod Told

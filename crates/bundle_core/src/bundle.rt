@@ -9,17 +9,14 @@ ghost use Rattle.doc_model.specs.DocumentLaws.{IsWhole};
 ghost use Rattle.doc_model.specs.Document.{Document};
 ghost use Rattle.doc_model.specs.declared.action.DocAction.{DocAction};
 ghost use Rattle.recalc.specs.Evaluated.{filled};
-ghost use Rattle.action_censor.specs.Step.{are_records, step_of};
-ghost use Rattle.context_changes.specs.Known.{AreKnown, known_after, told_by};
-ghost use Rattle.context_changes.specs.Bundle.{IsBundle};
-ghost use Rattle.context_changes.specs.Told.{IsSeen, told_of as told_in, told_since, view_of};
-ghost use Rattle.bundle_core.specs.Followed.{AreAllKnown, IsToldOf};
+ghost use Rattle.context_changes.specs.Known.{AreKnown, told_by};
+ghost use Rattle.context_changes.specs.Renewal.{IsRenewal};
+ghost use Rattle.bundle_core.specs.Followed.{AreAllKnown};
 ghost use Rattle.bundle_records.specs.Ledger.{IsNextRecord};
 ghost use Rattle.bundle_core.specs.Replies.{reply_of};
 ghost use Rattle.bundle_core.specs.Dispatch.{AreSame, Posts, bundle_number, bundle_reply};
 ghost use Rattle.bundle_judge.specs.Created.{told_of};
 ghost use Rattle.bundle_judge.specs.JudgedBundles.{AreDone, after_steps, told_changes};
-ghost use Rattle.bundle_judge.specs.Losses.{all_lost, cells_told};
 ghost use Rattle.bundle_core.specs.Noting.{HasBundleRoom, MayBeUndone, note_of};
 ghost use Rattle.bundle_core.specs.State.{accepted_as, refusal};
 ghost use Rattle.bundle_core.specs.Turns.{IsAcceptance};
@@ -27,22 +24,18 @@ ghost use Rattle.bundle_core.specs.SessionState.{SessionState, IsReady, MayPost,
 ghost use Rattle.rule_contexts.specs.Context.{view, view_in};
 ghost use Rattle.bundle_judge.specs.Rollback.{AllLeadBack, gone_back};
 
-use crate::followed::{are_of_records, steps_told};
 use crate::session::{BundleNote, OpenSession};
+use crate::telling::told_of_all;
 use crate::turns::{post_all, prepare_all, reply_with, stay_ready};
 use acl_reading::RuleReading;
 use acl_rules::Ctx;
-use action_censor::StepTrace;
-use bundle_judge::{
-    BareVerdict, BundlePlan, Created, SplitSteps, Trail, all_told, do_again, go_back_all,
-};
+use bundle_judge::{BareVerdict, BundlePlan, Created, Trail, all_told, go_back_all};
 use bundle_records::RecordLedger;
-use context_changes::{KnownContexts, see_all, tell_narrow, tell_whole};
+use context_changes::{KnownContexts, Renewal};
 use doc_keeper::{KeepFault, Keeper};
-use doc_model::{DocTables, Refusal, RetValueList, StepList, View, ViewActionList};
-use evaluated_doc::{Doc, Trace};
+use doc_model::{DocTables, Refusal, RetValueList, StepList, User, ViewActionList};
+use evaluated_doc::Doc;
 use grist_json::Line;
-use rule_contexts::{may_change_contexts, same_attributes_law, same_context_law};
 use std::alloc::{AllocError, Global};
 use std::mem;
 use undo_bundles::BundleInverse;
@@ -61,15 +54,7 @@ struct KeepReady {
     bundle: ReadyBundle,
     record: Line,
     refusal: Line,
-    next: Option<KnownContexts>,
-}
-
-/// What is told of a bundle beside each context, and what is known of the rules after it where that
-/// may not be what was known.
-#[derive(Drop)]
-struct ToldSteps {
-    told: Vec<ViewActionList>,
-    next: Option<KnownContexts>,
+    next: Renewal,
 }
 
 /// What became of an accepted bundle, and the lines that its session is given.
@@ -225,7 +210,7 @@ fn ready_to_keep<D: DocTables, K: Keeper>(
     ensures note { IfOk result (λ r. r.bundle.note ≡ note_of
         (gone_back D.fits D.undone trail.old.traces.items (D.document doc.old)) plan.now) }
     ensures next { IfOk result (λ r.
-        AreKnown (D.document doc.new) (known_after known.now r.next)) }
+        IsRenewal (D.document doc.new) known.now r.next) }
     ensures record { IfOk result (λ r.
         IsNextRecord records.now.told (map action_of plan.now.steps) r.record) }
     ensures refusal { IfOk result (λ r. r.refusal ≡ reply_of (refusal Refusal.StoreFault)) }
@@ -267,7 +252,7 @@ fn ready_bundle<D: DocTables>(
     index: usize,
     plan: &BundlePlan,
     trail: &mut Trail<D>,
-) -> Result<(ReadyBundle, Option<KnownContexts>), AllocError>
+) -> Result<(ReadyBundle, Renewal), AllocError>
     requires known { AreKnown
         (gone_back D.fits D.undone trail.old.traces.items (D.document doc.old)) known.now }
     requires all { AreAllKnown known.now.contexts.items sessions.old.items }
@@ -295,8 +280,7 @@ fn ready_bundle<D: DocTables>(
         plan.now.created.items) }
     ensures note { IfOk result (λ r. r.0.note ≡ note_of
         (gone_back D.fits D.undone trail.old.traces.items (D.document doc.old)) plan.now) }
-    ensures next { IfOk result (λ r.
-        AreKnown (D.document doc.new) (known_after known.now r.1)) }
+    ensures next { IfOk result (λ r. IsRenewal (D.document doc.new) known.now r.1) }
     ensures same { AreSame sessions.old.items sessions.new.items }
     ensures ready { OnOk result (AllByRecursion (IsReady (told_changes
         (gone_back D.fits D.undone trail.old.traces.items (D.document doc.old))
@@ -306,13 +290,7 @@ fn ready_bundle<D: DocTables>(
     ensures length { length sessions.new.items ≡ length sessions.old.items }
 {
     let all = told_of_all(alloc, doc, known, &plan.steps, &mut trail.traces)?;
-    let reply = reply_to(
-        alloc,
-        doc,
-        known_now(known, &all.next),
-        &sessions[index],
-        plan,
-    )?;
+    let reply = reply_to(alloc, doc, known, &all.next, &sessions[index], plan)?;
     ready_all(alloc, sessions, index, known.contexts.as_slice(), &all.told)?;
     let note = BundleNote {
         inverse: taken_inverse(alloc, &mut trail.inverse),
@@ -325,174 +303,6 @@ fn taken_inverse(alloc: Global, inverse: &mut BundleInverse) -> StepList
     ensures { result ≡ inverse.old }
 {
     mem::replace(inverse, BundleInverse::new(alloc)).into_steps()
-}
-
-// What is known of the rules after a bundle.
-fn known_now<'a>(known: &'a KnownContexts, next: &'a Option<KnownContexts>) -> &'a KnownContexts
-    ensures { result.now ≡ known_after known.now next.now }
-{
-    match next {
-        Some(next) => next,
-        None => known,
-    }
-}
-
-// Works out what is told beside each known context of steps that are done. Where they may change
-// contexts, they are gone back over for it, and done again.
-fn told_of_all<D: DocTables>(
-    alloc: Global,
-    doc: &mut Doc<D>,
-    known: &KnownContexts,
-    steps: &SplitSteps,
-    traces: &mut Vec<Trace<D>>,
-) -> Result<ToldSteps, AllocError>
-    requires known { AreKnown
-        (gone_back D.fits D.undone traces.old.items (D.document doc.old)) known.now }
-    requires whole { IsWhole (gone_back D.fits D.undone traces.old.items (D.document doc.old)) }
-    requires valid { all_valid
-        (gone_back D.fits D.undone traces.old.items (D.document doc.old))
-        (map action_of steps.now) ≡ true }
-    requires led { AllLeadBack D.fits D.undone traces.old.items (D.document doc.old) }
-    requires done { D.document doc.old ≡ after_steps
-        (gone_back D.fits D.undone traces.old.items (D.document doc.old)) steps.now }
-    requires cells { cells_told traces.old.items ≡ all_lost
-        (gone_back D.fits D.undone traces.old.items (D.document doc.old))
-        (map action_of steps.now) }
-    ensures document { OnOk result (D.document doc.new ≡ after_steps
-        (gone_back D.fits D.undone traces.old.items (D.document doc.old)) steps.now) }
-    ensures led { AllLeadBack D.fits D.undone traces.new.items (D.document doc.new) }
-    ensures back { gone_back D.fits D.undone traces.new.items (D.document doc.new)
-        ≡ gone_back D.fits D.undone traces.old.items (D.document doc.old) }
-    ensures told { IfOk result (λ d. IsToldOf
-        (gone_back D.fits D.undone traces.old.items (D.document doc.old))
-        (map action_of steps.now) known.now.contexts.items d.told.items) }
-    ensures next { IfOk result (λ d.
-        AreKnown (D.document doc.new) (known_after known.now d.next)) }
-{
-    if let Some(told) = told_of_touched(alloc, doc, known, steps, traces.as_slice())? {
-        return Ok(ToldSteps { told, next: None });
-    }
-    go_back_all(doc, mem::replace(traces, Vec::new(alloc)));
-    done_and_seen(alloc, doc, known, steps, traces)
-}
-
-// Does the steps again, and tells beside each context what changed of all that its user sees.
-fn done_and_seen<D: DocTables>(
-    alloc: Global,
-    doc: &mut Doc<D>,
-    known: &KnownContexts,
-    steps: &SplitSteps,
-    traces: &mut Vec<Trace<D>>,
-) -> Result<ToldSteps, AllocError>
-    requires known { AreKnown (D.document doc.old) known.now }
-    requires whole { IsWhole (D.document doc.old) }
-    requires valid { all_valid (D.document doc.old) (map action_of steps.now) ≡ true }
-    requires first { traces.old.items ≡ [] }
-    ensures document { OnOk result
-        (D.document doc.new ≡ after_steps (D.document doc.old) steps.now) }
-    ensures led { AllLeadBack D.fits D.undone traces.new.items (D.document doc.new) }
-    ensures back { gone_back D.fits D.undone traces.new.items (D.document doc.new)
-        ≡ D.document doc.old }
-    ensures told { IfOk result (λ d. IsToldOf (D.document doc.old) (map action_of steps.now)
-        known.now.contexts.items d.told.items) }
-    ensures next { IfOk result (λ d.
-        AreKnown (D.document doc.new) (known_after known.now d.next)) }
-{
-    let before = see_known(alloc, doc, known.contexts.as_slice())?;
-    do_again(alloc, doc, steps.actions(), traces)?;
-    let next = known.anew(alloc, doc)?;
-    let told = tell_anew(alloc, doc, &before, next.contexts.as_slice())?;
-    Ok(ToldSteps {
-        told,
-        next: Some(next),
-    })
-}
-
-// What each context shows of the document.
-#[tactic(auto, using(recalc::proofs::FilledLaws::laid_out_law))]
-fn see_known<D: DocTables>(
-    alloc: Global,
-    doc: &Doc<D>,
-    contexts: &[Ctx],
-) -> Result<Vec<View>, AllocError>
-    requires { IsWhole (D.document doc.now) }
-    ensures value { IfOk result
-        (λ l. l.items ≡ map (view_of (filled (D.document doc.now))) contexts.now) }
-    ensures seen { IfOk result (λ l. AllByRecursion IsSeen l.items) }
-{
-    see_all(alloc, doc, contexts)
-}
-
-// What has changed since these views in what each context shows of the document.
-#[tactic(auto, using(recalc::proofs::FilledLaws::laid_out_law))]
-fn tell_anew<D: DocTables>(
-    alloc: Global,
-    doc: &Doc<D>,
-    before: &[View],
-    contexts: &[Ctx],
-) -> Result<Vec<ViewActionList>, AllocError>
-    requires whole { IsWhole (D.document doc.now) }
-    requires seen { AllByRecursion IsSeen before.now }
-    ensures { IfOk result (λ l. l.items
-        ≡ told_since (filled (D.document doc.now)) before.now contexts.now) }
-{
-    tell_whole(alloc, doc, before, contexts)
-}
-
-// What is told beside each context of steps that are done, by the rows that they touched; nothing
-// where they may change contexts.
-fn told_of_touched<D: DocTables>(
-    alloc: Global,
-    doc: &Doc<D>,
-    known: &KnownContexts,
-    steps: &SplitSteps,
-    traces: &[Trace<D>],
-) -> Result<Option<Vec<ViewActionList>>, AllocError>
-    requires known { AreKnown
-        (gone_back D.fits D.undone traces.now (D.document doc.now)) known.now }
-    requires whole { IsWhole (gone_back D.fits D.undone traces.now (D.document doc.now)) }
-    requires valid { all_valid
-        (gone_back D.fits D.undone traces.now (D.document doc.now)) (map action_of steps.now)
-        ≡ true }
-    requires done { D.document doc.now ≡ after_steps
-        (gone_back D.fits D.undone traces.now (D.document doc.now)) steps.now }
-    requires cells { cells_told traces.now ≡ all_lost
-        (gone_back D.fits D.undone traces.now (D.document doc.now)) (map action_of steps.now) }
-    ensures told { IfOk result (λ o. IfSome o (λ told. IsToldOf
-        (gone_back D.fits D.undone traces.now (D.document doc.now)) (map action_of steps.now)
-        known.now.contexts.items told.items)) }
-    ensures known { IfOk result (λ o. IfSome o (λ _. AreKnown (D.document doc.now) known.now)) }
-{
-    if !are_of_records(steps.actions()) {
-        return Ok(None);
-    }
-    same_context_law();
-    same_attributes_law();
-    let done = steps_told(alloc, steps.actions(), traces)?;
-    if may_change_contexts(known.attributes.as_slice(), done.as_slice()) {
-        return Ok(None);
-    }
-    let told = tell_touched(alloc, doc, done.as_slice(), known.contexts.as_slice())?;
-    Ok(Some(told))
-}
-
-// What each context is told of the steps of records that led to the document, by the rows that they
-// touched.
-#[tactic(auto, using(recalc::proofs::FilledLaws::laid_out_law))]
-fn tell_touched<D: DocTables>(
-    alloc: Global,
-    doc: &Doc<D>,
-    steps: &[StepTrace<'_>],
-    contexts: &[Ctx],
-) -> Result<Vec<ViewActionList>, AllocError>
-    requires whole { IsWhole (D.document doc.now) }
-    requires records { are_records (map step_of steps.now) ≡ true }
-    ensures { IfOk result (λ l. (s : Document) (actions : List DocAction)
-        → IsBundle s actions (map step_of steps.now) (filled (D.document doc.now))
-        → l.items ≡ map (λ x. told_in (filled s) (filled (D.document doc.now)) x x)
-        contexts.now) }
-{
-    tell_narrow(alloc, doc, steps, contexts)
 }
 
 // The verdict of an accepted bundle: where it is an undo, it has no values.
@@ -510,10 +320,11 @@ fn reply_to<D: DocTables>(
     alloc: Global,
     doc: &Doc<D>,
     known: &KnownContexts,
+    next: &Renewal,
     session: &OpenSession,
     plan: &BundlePlan,
 ) -> Result<Line, AllocError>
-    requires known { AreKnown (D.document doc.now) known.now }
+    requires known { IsRenewal (D.document doc.now) known.now next.now }
     requires whole { IsWhole (D.document doc.now) }
     requires few { count session.now.holder.log < 2 ^ 62 }
     ensures { IfOk result (λ l. l
@@ -521,10 +332,31 @@ fn reply_to<D: DocTables>(
         (map (told_of (view session.now.holder.user (D.document doc.now)))
         plan.now.created.items))) }
 {
-    let found = known.found(alloc, doc, session.user())?;
-    let values = values_in(alloc, doc, found.context(), &plan.created)?;
+    let values = values_of(alloc, doc, known, next, session.user(), &plan.created)?;
     let number = session.bundles() + 1;
     reply_with(alloc, accepted_as(plan.undone, number, values))
+}
+
+// What is told of what was created, by what the user sees now. Where there is nothing of it, no
+// context is asked for.
+fn values_of<D: DocTables>(
+    alloc: Global,
+    doc: &Doc<D>,
+    known: &KnownContexts,
+    next: &Renewal,
+    user: &User,
+    created: &[Created],
+) -> Result<RetValueList, AllocError>
+    requires known { IsRenewal (D.document doc.now) known.now next.now }
+    requires whole { IsWhole (D.document doc.now) }
+    ensures { IfOk result
+        (λ l. l ≡ map (told_of (view user.now (D.document doc.now))) created.now) }
+{
+    if created.is_empty() {
+        return Ok(RetValueList::new(alloc));
+    }
+    let found = known.found_after(alloc, doc, next, user)?;
+    values_in(alloc, doc, found.context(), created)
 }
 
 // What is told of what was created, by what a context shows of the document.

@@ -27,6 +27,7 @@ use cell_types::{Name, Sequence};
 use doc_keeper::Keeper;
 use doc_model::{Entry, EntryList, Request, UserList};
 use doc_opening::StartCause;
+use evaluated_doc::Doc;
 use grist_json::Line;
 use row_tables::RowTables;
 use std::alloc::{AllocError, Global};
@@ -241,6 +242,15 @@ impl<K: Keeper> Core<K> {
         ensures keeping { IsKeeping self.now }
     {
         self.entries.as_slice()
+    }
+
+    /// The present document, with its cells evaluated.
+    ///
+    /// Memory: none.
+    pub fn document(&self) -> &Doc<RowTables>
+        ensures { result.now ≡ (state_now self.now.state).document }
+    {
+        self.doc.evaluated()
     }
 
     /// How many bundles of the history were accepted.

@@ -27,12 +27,14 @@
 //! by `history` and `finish` of every core (`IsKeeping`).
 //! Costs: a bundle costs its judgement, which does its steps for good and makes its inverse, and a
 //! line for each session. What is told of a bundle of records costs the rows that it touched, for
-//! each user who has a session open; of one that changes the schema, or what is in force for users,
-//! the document, and its steps are taken back for it and done once more. What is in force for a
-//! user is read once, and again where a bundle may have changed it; before a bundle is judged it is
+//! each user who has a session open; of one that changes the schema or the rules, the document, and
+//! its steps are taken back for it and done once more; so too for each user of whom rules know
+//! something else after it. What is in force for a user is read once, and again where a bundle may
+//! have changed it; before a bundle is judged it is
 //! read for each user who has a session open. A session's index is found by a walk.
 //! Read first: specs/State.antt, specs/Told.antt, specs/Core.antt, specs/KeptBundles.antt and
-//! specs/KeptCore.antt, then history_core.rt, loading.rt, dispatch.rt and bundle.rt.
+//! specs/KeptCore.antt, then history_core.rt, loading.rt, dispatch.rt, bundle.rt and
+//! telling.rt.
 #![tactic(auto)]
 
 mod bundle;
@@ -46,6 +48,7 @@ mod machine;
 mod ruled_document;
 mod session;
 mod session_index;
+mod telling;
 mod turns;
 
 pub use history_core::{

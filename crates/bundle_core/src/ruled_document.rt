@@ -112,6 +112,13 @@ impl<D: DocTables> RuledDocument<D> {
         Ok(RuledDocument { doc, known })
     }
 
+    /// The document, with its cells evaluated.
+    pub fn evaluated(&self) -> &Doc<D>
+        ensures { result.now ≡ self.now }
+    {
+        &self.doc
+    }
+
     /// What the user sees now.
     pub fn view_seen(&self, alloc: Global, user: &User) -> Result<View, AllocError>
         requires { IsWhole (D.document self.now) }

@@ -1,10 +1,9 @@
 -- Contexts that are kept, and what users are told by them.
-use Rattle.std.proofs.Common.{ℕ, suc, zero, ◌<◌, Bool, true, false, cond, ◌||◌, List, [], ◌∷◌, ◌++◌, length, map, get_or, nat_lt, slice_get, ◌≡◌, refl, sym, ap, subst, ◌∙◌, Option, Some, None, arith, Bor, IfSome, MatchOption, is_some, unwrap_or}
-use Rattle.std.proofs.lemmas.Bool.{false≢true, ltb-false, ltb-true, or_parts}
+use Rattle.std.proofs.Common.{ℕ, suc, zero, ◌<◌, Bool, true, false, cond, ◌||◌, List, [], ◌∷◌, ◌++◌, length, map, get_or, nat_lt, slice_get, ◌≡◌, refl, sym, ap, subst, ◌∙◌, Some, None, arith, IfSome, unwrap_or}
+use Rattle.std.proofs.lemmas.Bool.{false≢true, or_parts}
 use Rattle.std.proofs.lemmas.Bool.Decides.{Decides-ltb, nat_tests}
 use Rattle.std.proofs.lemmas.List.Folds.{list_any-append, list_any_at, list_any_none}
 use Rattle.std.proofs.lemmas.List.Sums.{fails_before_first, passes_at_first}
-use Rattle.std.proofs.lemmas.Option.{slice_get_past, slice_get_read}
 use Rattle.std.specs.List.{list_any, position_or_len}
 use Rattle.doc_model.specs.declared.action.DocAction.{DocAction}
 use Rattle.doc_model.specs.declared.user.User.{User}
@@ -17,8 +16,9 @@ use Rattle.doc_model.proofs.WholeLaws.{each_append}
 use Rattle.recalc.specs.Evaluated.{filled}
 use Rattle.acl_rules.specs.declared.decision.Ctx.{Ctx}
 use Rattle.user_attrs.specs.Attributes.{attributes_of}
+use Rattle.agreeing_contexts.specs.Fields.{mentioned_fields}
 use Rattle.bundle_traces.specs.TraceLaws.{steps_done}
-use Rattle.rule_contexts.specs.ChangedContexts.{SameAttributesLaw, SameContextLaw, may_change_contexts}
+use Rattle.rule_contexts.specs.ChangedContexts.{HaveOneBook, SameContextLaw, SameRulesLaw, may_change_contexts}
 use Rattle.rule_contexts.specs.Context.{context, view}
 use Rattle.context_changes.specs.declared.known.KnownContexts.{KnownContexts}
 use Rattle.context_changes.specs.Known.{AreInForce, AreKnown, IsPlaceOf, StandsAt, is_known, place_in, told_by, user_in}
@@ -134,14 +134,6 @@ module _ (xs : List Ctx) (told : List (List ViewAction)) (u : User) where
         | false ↦ λ b none. told_none xs told u (list_any_none (owns u) xs (λ k d lt. fails_before_first (owns u) xs k d (before_end k lt b)))
       ] refl e
 
--- what stands beside the user's context, where it is there
-pub told_beside : (xs : List Ctx) (told : List (List ViewAction)) (u : User) (place : ℕ) (o : Option (Bor (List ViewAction))) → place_in xs u ≡ Some place → is_some o ≡ nat_lt place (length told)
-    → IfSome o (λ x. x.now ≡ get_or told place x.now) → MatchOption o (told_by xs told u ≡ []) (λ x. told_by xs told u ≡ x.now)
-told_beside xs told u place None is inside same =
-    told_found xs told u place is ∙ ap (λ o. unwrap_or o []) (slice_get_past told place (ltb-false place (length told) (sym inside)))
-told_beside xs told u place (Some x) is inside same =
-    told_found xs told u place is ∙ ap (λ o. unwrap_or o []) (slice_get_read told (length told) place x.now refl (ltb-true place (length told) (sym inside)) same)
-
 -- what is told by contexts in force is told to a user by the user's own
 pub told_mapped : (f : Ctx → List ViewAction) (s : Document) (xs : List Ctx) (u : User) → AreInForce s xs → is_known xs u ≡ true → told_by xs (map f xs) u ≡ f (context u s)
 told_mapped f s [] u all among = absurd (false≢true among)
@@ -178,8 +170,11 @@ module _ (same : SameContextLaw) (s : Document) (actions : List DocAction) (whol
   in_force_still [] all = tt
   in_force_still (x ∷ xs) all = (all.0 ∙ sym (same s actions whole valid leaves (user_in x)), in_force_still xs all.1)
 
-  pub known_still : SameAttributesLaw → (k : KnownContexts) → AreKnown s k → AreKnown (apply_all s actions) k
-  known_still attributes k is = record {
-    attributes = is.attributes ∙ sym (attributes s actions whole valid leaves);
-    contexts = in_force_still k.contexts.items is.contexts;
-  }
+  pub known_still : SameRulesLaw → (k : KnownContexts) → AreKnown s k → AreKnown (apply_all s actions) k
+  known_still rules k is =
+      let one : HaveOneBook (apply_all s actions) s = rules (attributes_of s) s actions whole valid leaves in
+      record {
+        attributes = is.attributes ∙ sym one.attributes;
+        fields = is.fields ∙ ap mentioned_fields (sym one.book);
+        contexts = in_force_still k.contexts.items is.contexts;
+      }

@@ -1,5 +1,7 @@
 mod BundleLemmas
+mod DifferingLemmas
 pub mod KnownLemmas
+pub mod RenewalLemmas
 mod ToldLemmas
 pub mod UserLemmas
 mod ZipLemmas

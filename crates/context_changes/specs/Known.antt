@@ -5,7 +5,9 @@ use Rattle.doc_model.specs.declared.user.User.{User}
 use Rattle.doc_model.specs.declared.view.ViewAction.{ViewAction}
 use Rattle.doc_model.specs.Document.{Document}
 use Rattle.acl_rules.specs.declared.decision.Ctx.{Ctx}
+use Rattle.acl_rules.specs.Loaded.{book_of}
 use Rattle.user_attrs.specs.Attributes.{attributes_of}
+use Rattle.agreeing_contexts.specs.Fields.{mentioned_fields}
 use Rattle.rule_contexts.specs.Context.{context}
 use Rattle.context_changes.specs.Users.{same_user}
 use Rattle.context_changes.specs.declared.known.FoundContext.{FoundContext}
@@ -20,9 +22,11 @@ user_in x = x.user.user
 abbrev pub AreInForce : Document → List Ctx → Type 0
 AreInForce s xs = AllByRecursion (λ x. x ≡ context (user_in x) s) xs
 
--- contexts in force, with the attributes that the rules of the document say
+-- contexts in force, with the attributes that the rules of the document say, and the fields of
+-- these that the rules mention
 pub record AreKnown (s : Document) (k : KnownContexts) : Type 0 where
   pub attributes : k.attributes ≡ attributes_of s
+  pub fields : k.fields ≡ mentioned_fields (book_of s)
   pub contexts : AreInForce s k.contexts.items
 
 -- whether the context of a user is among these
@@ -47,11 +51,6 @@ pub record StandsAt (xs : List Ctx) (place : ℕ) (x : Ctx) : Type 0 where
 abbrev pub found_context : FoundContext → Ctx
 found_context (Kept x) = x.now
 found_context (Made x) = x
-
--- what is known after a bundle: what was made anew, or what was known before
-abbrev pub known_after : KnownContexts → Option KnownContexts → KnownContexts
-known_after k None = k
-known_after k (Some next) = next
 
 -- what a user is told: what stands beside its context
 abbrev pub told_by : List Ctx → List (List ViewAction) → User → List ViewAction

@@ -3,3 +3,5 @@ pub mod ToldLaws
 pub mod Bundle
 pub mod Users
 pub mod Known
+pub mod Renewal
+pub mod Differing

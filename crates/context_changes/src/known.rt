@@ -5,21 +5,23 @@ ghost use Rattle.doc_model.specs.declared.user.User.{User};
 ghost use Rattle.doc_model.specs.Document.{Document};
 ghost use Rattle.user_attrs.specs.Attributes.{attributes_of};
 ghost use Rattle.rule_contexts.specs.Context.{context};
-ghost use Rattle.context_changes.specs.Known.{AreKnown, IsPlaceOf, StandsAt, found_context, is_known, known_after, place_in, user_in};
+ghost use Rattle.context_changes.specs.Known.{AreKnown, IsPlaceOf, StandsAt, found_context, is_known, place_in, user_in};
 
 use crate::users::same_user;
 use acl_rules::Ctx;
+use agreeing_contexts::{UserFieldList, load_fields};
 use doc_model::{DocTables, User};
 use evaluated_doc::Doc;
 use rule_contexts::context_with;
 use std::alloc::{AllocError, Global};
 use user_attrs::{AttributeRule, AttributeRules, load_attributes};
 
-/// What is known of the rules of a document: the attributes that they say, and what is in force for
-/// some users.
+/// What is known of the rules of a document: the attributes that they say, the fields of these that
+/// they mention, and what is in force for some users.
 #[derive(Drop)]
 pub struct KnownContexts {
     pub attributes: AttributeRules,
+    pub fields: UserFieldList,
     pub contexts: Vec<Ctx>,
 }
 
@@ -79,15 +81,17 @@ fn made_anew<D: DocTables>(
 }
 
 impl KnownContexts {
-    /// The attributes that the rules of the document say, and no context yet.
+    /// The attributes that the rules of the document say and what they mention, and no context yet.
     ///
     /// Errors: out of memory.
     pub fn load<D: DocTables>(alloc: Global, doc: &Doc<D>) -> Result<Self, AllocError>
         ensures { IfOk result (AreKnown (D.document doc.now)) }
     {
         let attributes = load_attributes(alloc, doc.tables())?;
+        let fields = load_fields(alloc, doc.tables())?;
         Ok(KnownContexts {
             attributes,
+            fields,
             contexts: Vec::new(alloc),
         })
     }
@@ -101,9 +105,11 @@ impl KnownContexts {
             ≡ map (λ x. context (user_in x) (D.document doc.now)) self.now.contexts.items) }
     {
         let attributes = load_attributes(alloc, doc.tables())?;
+        let fields = load_fields(alloc, doc.tables())?;
         let contexts = made_anew(alloc, doc, attributes.as_slice(), self.contexts.as_slice())?;
         Ok(KnownContexts {
             attributes,
+            fields,
             contexts,
         })
     }
@@ -159,15 +165,6 @@ impl KnownContexts {
     {
         if self.contexts.len() > most {
             self.contexts.clear();
-        }
-    }
-
-    /// Takes what was made anew, where something was.
-    pub fn renew(&mut self, next: Option<KnownContexts>)
-        ensures { self.new ≡ known_after self.old next }
-    {
-        if let Some(next) = next {
-            *self = next;
         }
     }
 }

@@ -47,7 +47,7 @@ pub fn see_all<D: DocReader>(
 }
 
 // The changes from a view to what a context shows.
-fn changes_since<D: DocReader>(
+pub(crate) fn changes_since<D: DocReader>(
     alloc: Global,
     tables: &D,
     before: &View,

@@ -1,5 +1,6 @@
 -- That a core with its watchers may go to another thread, and that the gate of one may be lent to several.
 -- A type with formulas in it has no such fact of its own, so the parts are put together here.
+use Rattle.agreeing_contexts.proofs.field.UserField.TheSendSync.{the_send as userField-send}
 use Rattle.acl_formula.proofs.mention.Mention.TheSendSync.{the_send as mention-send}
 use Rattle.acl_formula.proofs.permissions.PermFlags.TheSendSync.{the_send as permFlags-send}
 use Rattle.acl_formula.proofs.permissions.PermSet.TheSendSync.{the_send as permSet-send}
@@ -58,6 +59,7 @@ use Rattle.std.specs.contracts.alloc.Global as global
 use Rattle.std.specs.contracts.impls.GlobalAllocator as allocator
 use Rattle.user_attrs.specs.contracts.attribute_rule.AttributeRule as attribute
 use Rattle.acl_rules.specs.contracts.decision.Ctx as ctx
+use Rattle.agreeing_contexts.specs.contracts.field.UserField as field
 use Rattle.context_changes.specs.contracts.known.KnownContexts as known
 use Rattle.doc_keeper.specs.declared.keeper.Keeper as keeper
 use Rattle.row_tables.specs.contracts.tables.RowTables as tables
@@ -126,7 +128,7 @@ contexts-send : IsSend (vec.the_row ctx.the_row global.the_row allocator.TheImpl
 contexts-send = search (sendable, context-send, crosses) depth 60
 
 known-send : IsSend (known.the_field).row
-known-send = struct_send (shape known.the_type) (sequence-send attribute.the_row attributeRule-send, (contexts-send, tt))
+known-send = struct_send (shape known.the_type) (sequence-send attribute.the_row attributeRule-send, (sequence-send field.the_row userField-send, (contexts-send, tt)))
 
 doc-send : IsSend (doc.the_row tables.the_row back.the_row doc-tables.TheImpl.ghosts doc-reader.TheImpl.ghosts)
 doc-send = search (sendable, parts, knot, crosses, maps) depth 60

@@ -29,7 +29,7 @@ use Rattle.censored_view.specs.View.{view as shown_by}
 use Rattle.acl_reading.specs.RulesLet.{rules_let}
 use Rattle.action_censor.specs.Step.{Step, are_records, is_of_records}
 use Rattle.bundle_traces.specs.TraceLaws.{BundleLaw, TraceLaw, step_done, steps_done}
-use Rattle.rule_contexts.specs.ChangedContexts.{FollowedLaw, SameAttributesLaw, SameContextLaw, is_read, may_change_contexts, may_step_change}
+use Rattle.rule_contexts.specs.ChangedContexts.{FollowedLaw, HaveOneBook, SameAttributesLaw, SameContextLaw, SameRulesLaw, is_read, may_change_contexts, may_step_change}
 use Rattle.rule_contexts.specs.Context.{context, view, view_in}
 use Rattle.rule_contexts.proofs.ReadTables.{IsQuiet, each_read, quiet, resources_read, rules_read}
 use Rattle.rule_contexts.proofs.RuleTables.{attributes_same, book_same}
@@ -79,11 +79,20 @@ context_stays laid_law trace_law s actions whole v out user =
     ∙ info_same (filled e) (filled s) user rules
     (each_weaker (λ (a : AttributeRule). is_read rules a.table ≡ true) (λ (a : AttributeRule). grid_at (filled e) a.table ≡ grid_at (filled s) a.table) (λ a read. (holds a.table read).evaluated) rules (each_read rules)))
 
+pub rules_stay : LaidOutLaw → TraceLaw → SameRulesLaw
+rules_stay laid_law trace_law rules s actions whole v out =
+    let e : Document = apply_all s actions in
+    let holds : (t : List ℕ) → is_read rules t ≡ true → HoldSame s e t = steps_leave laid_law trace_law rules s actions whole v out in
+    let of_rules : HoldSame s e rules_id = holds rules_id (rules_read rules) in
+    let of_resources : HoldSame s e resources_id = holds resources_id (resources_read rules) in
+    record {
+      book = book_same e s of_rules.base of_resources.base;
+      attributes = attributes_same e s of_rules.base;
+    }
+
 pub attributes_stay : LaidOutLaw → TraceLaw → SameAttributesLaw
 attributes_stay laid_law trace_law s actions whole v out =
-    let rules : List AttributeRule = attributes_of s in
-    let of_rules : HoldSame s (apply_all s actions) rules_id = steps_leave laid_law trace_law rules s actions whole v out rules_id (rules_read rules) in
-    attributes_same (apply_all s actions) s of_rules.base
+    (rules_stay laid_law trace_law (attributes_of s) s actions whole v out).attributes
 
 -- ---- what is told
 

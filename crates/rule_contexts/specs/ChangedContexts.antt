@@ -1,5 +1,5 @@
 -- Which bundles may change what is in force for users.
-use Rattle.std.specs.Prelude.{ℕ, Bool, true, false, ◌||◌, List, ◌≡◌}
+use Rattle.std.specs.Prelude.{ℕ, Bool, true, false, ◌||◌, List, [], ◌≡◌}
 use Rattle.std.specs.List.{list_any}
 use Rattle.std.specs.Str.{bytes_eq}
 use Rattle.cell_types.specs.declared.cell.CellOld.{CellOld}
@@ -11,6 +11,7 @@ use Rattle.doc_model.specs.Changes.{changes}
 use Rattle.doc_model.specs.Document.{Document}
 use Rattle.doc_model.specs.DocumentLaws.{IsWhole}
 use Rattle.doc_model.specs.MetadataIds.{is_acl_id}
+use Rattle.acl_rules.specs.Loaded.{book_of}
 use Rattle.user_attrs.specs.Attributes.{attributes_of}
 use Rattle.user_attrs.specs.declared.attribute_rule.AttributeRule.{AttributeRule}
 use Rattle.action_censor.specs.Back.{back}
@@ -43,6 +44,10 @@ may_step_change rules k =
 abbrev pub may_change_contexts : List AttributeRule → List Step → Bool
 may_change_contexts rules ks = list_any (may_step_change rules) ks
 
+-- whether it may change the rules themselves, whatever these look up
+abbrev pub may_change_rules : List Step → Bool
+may_change_rules ks = may_change_contexts [] ks
+
 -- any other bundle leaves the context of each user
 abbrev pub SameContextLaw : Type 0
 SameContextLaw =
@@ -67,3 +72,16 @@ FollowedLaw =
     (back (steps_done s actions) (filled (apply_all s actions))))
     (shown_by (rules_let (context user s)) (filled (apply_all s actions)))
     ≡ changes (view user s) (view user (apply_all s actions))
+
+-- the rules of two documents are the same, and the attributes that they say
+pub record HaveOneBook (s t : Document) : Type 0 where
+  pub book : book_of s ≡ book_of t
+  pub attributes : attributes_of s ≡ attributes_of t
+
+-- a bundle that may not change contexts, with whatever attributes, leaves the rules: none need be
+-- named for that
+abbrev pub SameRulesLaw : Type 0
+SameRulesLaw =
+    (rules : List AttributeRule) (s : Document) (actions : List DocAction) → IsWhole s
+    → all_valid s actions ≡ true → may_change_contexts rules (steps_done s actions) ≡ false
+    → HaveOneBook (apply_all s actions) s

@@ -7,7 +7,7 @@ ghost use Rattle.cell_types.specs.declared.cell.CellOld.{CellOld};
 ghost use Rattle.user_attrs.specs.declared.attribute_rule.AttributeRule.{AttributeRule};
 ghost use Rattle.action_censor.specs.declared.steps.StepTrace.{StepTrace};
 ghost use Rattle.action_censor.specs.Step.{step_of};
-ghost use Rattle.rule_contexts.specs.ChangedContexts.{is_read, may_action_change, may_change_contexts, may_step_change};
+ghost use Rattle.rule_contexts.specs.ChangedContexts.{is_read, may_action_change, may_change_contexts, may_change_rules, may_step_change};
 
 use action_censor::StepTrace;
 use cell_types::{CellOld, Name};
@@ -75,4 +75,14 @@ pub fn may_change_contexts(attributes: &[AttributeRule], steps: &[StepTrace<'_>]
     ensures { result ≡ may_change_contexts attributes.now (map step_of steps.now) }
 {
     may_one_change(attributes, steps)
+}
+
+/// Whether a bundle of these steps may change the rules themselves: some step is not about records,
+/// or about a table of the access rules, also by a cell that it changed there.
+///
+/// Memory: none. Cost: the steps and their cells.
+pub fn may_change_rules(steps: &[StepTrace<'_>]) -> bool
+    ensures { result ≡ may_change_rules (map step_of steps.now) }
+{
+    may_change_contexts(&[], steps)
 }

@@ -1,6 +1,6 @@
 //! Laws over contexts, each proved as the contract of a function that does nothing.
 
-ghost use Rattle.rule_contexts.specs.ChangedContexts.{FollowedLaw, SameAttributesLaw, SameContextLaw};
+ghost use Rattle.rule_contexts.specs.ChangedContexts.{FollowedLaw, SameAttributesLaw, SameContextLaw, SameRulesLaw};
 ghost use Rattle.rule_contexts.specs.SeenLaws.{AllowedLaw, HiddenSchemaLaw, ViewLaw};
 
 use acl_reading::reading_law;
@@ -44,8 +44,17 @@ pub fn same_attributes_law()
     trace_law();
 }
 
-/// What the steps of such a bundle tell, in the context of a user, are the changes of what the user
-/// sees.
+/// A bundle of records that is about no table of the access rules leaves the rules, and the
+/// attributes that they say, whatever tables these look up.
+pub fn same_rules_law()
+    ensures { SameRulesLaw }
+{
+    laid_out_law();
+    trace_law();
+}
+
+/// What the steps of a bundle that leaves contexts tell, in the context of a user, are the changes
+/// of what the user sees.
 pub fn followed_law()
     ensures { FollowedLaw }
 {

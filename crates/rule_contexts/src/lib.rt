@@ -12,6 +12,8 @@
 //! `same_context_law`: any other bundle leaves the context of each user, and
 //! (`same_attributes_law`) the attributes that the rules say; so (`followed_law`) what `follow` of
 //! `action_censor` tells in that context are the changes of what the user sees.
+//! `may_change_rules` tells the same of the rules alone; `same_rules_law`: any other bundle leaves
+//! them, so that a context changes by the rows of its attributes alone.
 //! Not promised: that a bundle which may change contexts does so.
 //! Read first: specs/Context.antt, then specs/ChangedContexts.antt.
 #![tactic(auto)]
@@ -20,6 +22,9 @@ mod changed_contexts;
 mod contexts;
 mod laws;
 
-pub use changed_contexts::may_change_contexts;
+pub use changed_contexts::{may_change_contexts, may_change_rules};
 pub use contexts::{context_of, context_with};
-pub use laws::{followed_law, hidden_schema_law, same_attributes_law, same_context_law, seen_law};
+pub use laws::{
+    followed_law, hidden_schema_law, same_attributes_law, same_context_law, same_rules_law,
+    seen_law,
+};

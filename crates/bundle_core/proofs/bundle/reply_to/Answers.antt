@@ -1,11 +1,8 @@
 use Rattle.std.proofs.Common.{◌≡◌, ◌+◌, map, ap, subst, ◌∙◌, IfOk}
-use Rattle.acl_reading.specs.RulesLet.{rules_let}
-use Rattle.censored_view.specs.View.{view as shown_by}
-use Rattle.recalc.specs.Evaluated.{filled}
 use Rattle.undo_bundles.specs.BundleLog.{count}
 use Rattle.bundle_judge.specs.declared.bare_verdict.BareVerdict.{BareVerdict}
 use Rattle.bundle_judge.specs.Created.{told_of}
-use Rattle.rule_contexts.specs.Context.{context, view}
+use Rattle.rule_contexts.specs.Context.{view}
 use Rattle.bundle_core.specs.Replies.{reply_of}
 use Rattle.bundle_core.specs.State.{accepted_as}
 use Rattle.bundle_core.proofs.bundle.reply_to.Goals as goal
@@ -19,5 +16,5 @@ returns g c =
     subst P (c.accepted_as.ensures
     ∙ ap (λ n. accepted_as p.undone (n + 1) c.in_ok-values.values) c.bundles-number.ensures
     ∙ ap (λ vs. accepted_as p.undone (count h.log + 1) vs) (c.in_ok-values.ensures
-    ∙ ap (λ x. map (told_of (shown_by (rules_let x) (filled s))) c.deref.result.now) (c.context.ensures ∙ c.in_ok-found.ensures ∙ ap (λ u. context u s) c.user.ensures)
+    ∙ ap (λ u. map (told_of (view u s)) c.deref.result.now) c.user.ensures
     ∙ ap (λ ms. map (told_of (view h.user s)) ms) c.deref.ensures.value)) c.reply_with.ensures

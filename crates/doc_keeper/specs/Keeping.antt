@@ -4,10 +4,11 @@ use Rattle.io_edges.specs.Causes.{Rose}
 use Rattle.doc_keeper.specs.declared.keeper.KeepFault.{KeepFault}
 use Rattle.doc_keeper.specs.declared.keeper.KeepFault.TheVariants as fault
 
--- the count does not fall, and a call fails only where it rose; want of memory needs no cause
+-- the count does not fall, and a call fails only where it rose; at want of memory it stands
 pub record HasCause {T : Type 0} (before now : ℕ) (result : Result T KeepFault) : Type 0 where
   pub later : before ≤ now
   pub failed : result ≡ Err fault.Failed → Rose before now
+  pub wanting : result ≡ Err fault.NoMemory → now ≡ before
 
 -- what was found is the record of that number, where records are told
 abbrev pub Tells : Option (List (List ℕ)) → ℕ → Option (List ℕ) → Type 0

@@ -20,14 +20,16 @@ pub trait Keeper: Drop {
 
     /// Makes ready for the other calls.
     ///
-    /// Errors: `Failed`, where the count rose; `NoMemory`. The records stay as they are.
+    /// Errors: `Failed`, where the count rose; `NoMemory`, where it stands. The records stay as
+    /// they are.
     fn ready(&mut self) -> Result<(), KeepFault>
         ensures same { records self.new ≡ records self.old }
         ensures cause { HasCause (failures self.old) (failures self.new) result };
 
     /// The record of that number, or nothing where there is none.
     ///
-    /// Errors: `Failed`, where the count rose; `NoMemory`. The records stay as they are.
+    /// Errors: `Failed`, where the count rose; `NoMemory`, where it stands. The records stay as
+    /// they are.
     fn load(&mut self, number: u64) -> Result<Option<Vec<u8>>, KeepFault>
         ensures same { records self.new ≡ records self.old }
         ensures told { IfOk result (λ o.
@@ -36,7 +38,8 @@ pub trait Keeper: Drop {
 
     /// Keeps one more record. Its number is the count of those that are kept.
     ///
-    /// Errors: `Failed`, where the count rose; `NoMemory`. The told records are then as before.
+    /// Errors: `Failed`, where the count rose; `NoMemory`, where it stands. The told records are
+    /// then as before.
     fn keep(&mut self, number: u64, bytes: &[u8]) -> Result<(), KeepFault>
         requires { IsNext (records self.old) number }
         ensures adds { Adds (records self.old) (records self.new) bytes.now result }

@@ -70,7 +70,7 @@ pub struct MemKeeper {
 }
 
 impl MemKeeper {
-    ghost use Rattle.std.specs.Prelude.{◌≡◌, ◌↔◌, ◌+◌, ◌-◌, ◌^◌, ◌≤◌, min, [], IsTrue, Contains};
+    ghost use Rattle.std.specs.Prelude.{◌≡◌, ◌↔◌, ◌+◌, ◌-◌, ◌^◌, ◌≤◌, min, [], false, IsTrue, Contains};
     ghost use Rattle.io_edges.specs.Causes.{Rose};
     ghost use Rattle.doc_keeper.specs.Memory.{records_of, keep_faults, keep_calls, failing_keeps};
 
@@ -101,6 +101,7 @@ impl MemKeeper {
         ensures calls { keep_calls self.new ≡ min (keep_calls self.old + 1) (2 ^ 64 - 1) }
         ensures later { keep_faults self.old ≤ keep_faults self.new }
         ensures rose { IsTrue result → Rose (keep_faults self.old) (keep_faults self.new) }
+        ensures stands { result ≡ false → keep_faults self.new ≡ keep_faults self.old }
     {
         let call = self.calls;
         self.calls = self.calls.saturating_add(1);

@@ -134,13 +134,14 @@ fn read_from(alloc: Global, db: &mut Db, number: u64) -> Result<Vec<Vec<u8>>, Ke
     Ok(found)
 }
 
-/// A keeper over a file, which nobody else can open meanwhile. Each record is one transaction, and
-/// is on the disk once `keep` has answered.
+/// A keeper over a file, which is opened or made by `ready`, and which nobody else can open from
+/// then on. Each record is one transaction, and is on the disk once `keep` has answered.
 #[derive(Drop)]
 pub struct SqliteKeeper {
-    alloc: Global,
-    // Where the file could not be opened, the fault that each call answers.
-    db: Result<Db, KeepFault>,
+    host: HostRuntime,
+    path: String,
+    // Nothing before `ready`, and where that failed: then each other call fails.
+    db: Option<Db>,
     // Records that were read ahead, the last one first, and the number of the next one.
     ahead: Vec<Vec<u8>>,
     next: u64,
@@ -148,37 +149,52 @@ pub struct SqliteKeeper {
 }
 
 impl SqliteKeeper {
-    /// Opens the file, or makes it. Where that fails, each later call fails.
+    /// A keeper over the file of that path, which it leaves alone until `ready`.
     ///
-    /// Cost: the whole file is read.
-    pub fn open(rt: &HostRuntime, path: &str) -> Self
+    /// Memory: none.
+    pub fn new(rt: &HostRuntime, path: String) -> Self
         ensures { result.faults ≡ 0 }
     {
-        begin_small(rt, path);
         SqliteKeeper {
-            alloc: rt.alloc(),
-            db: open(rt, path),
+            host: *rt,
+            path,
+            db: None,
             ahead: Vec::new(rt.alloc()),
             next: 0,
             faults: 0,
         }
     }
 
-    /// Closes the file, with all records in it. Beside the file of a keeper that is dropped its log
-    /// stays, and the next one to open the file reads both.
+    // Opens the file, or makes it. The whole file is read.
+    fn opened(&mut self) -> Result<(), KeepFault>
+        ensures { self.new.faults ≡ self.old.faults }
+    {
+        if self.db.is_none() {
+            begin_small(&self.host, self.path.as_str());
+            self.db = Some(open(&self.host, self.path.as_str())?);
+        }
+        match &mut self.db {
+            Some(db) => see_to_records(db),
+            None => Err(KeepFault::Failed),
+        }
+    }
+
+    /// Closes the file, where it was opened, with all records in it. Beside the file of a keeper
+    /// that is dropped its log stays, and the next one to open the file reads both.
     ///
     /// Errors: `Failed` and `NoMemory`, which are not counted; the records are in one of the two.
     pub fn close(self) -> Result<(), KeepFault> {
         let SqliteKeeper {
-            alloc: _,
+            host: _,
+            path: _,
             db,
             ahead: _,
             next: _,
             faults: _,
         } = self;
         match db {
-            Ok(db) => closed(db),
-            Err(fault) => Err(fault),
+            Some(db) => closed(db),
+            None => Ok(()),
         }
     }
 
@@ -186,6 +202,7 @@ impl SqliteKeeper {
     fn counted(&mut self, fault: KeepFault) -> KeepFault
         ensures later { self.old.faults ≤ self.new.faults }
         ensures rose { result ≡ KeepFault.Failed → Rose self.old.faults self.new.faults }
+        ensures stands { result ≡ KeepFault.NoMemory → self.new.faults ≡ self.old.faults }
     {
         if fault == KeepFault::Failed {
             self.faults = self.faults.saturating_add(1);
@@ -197,12 +214,11 @@ impl SqliteKeeper {
     fn fill(&mut self, number: u64) -> Result<(), KeepFault>
         ensures { self.new.faults ≡ self.old.faults }
     {
-        let db = match &mut self.db {
-            Ok(db) => db,
-            Err(fault) => return Err(*fault),
+        let Some(db) = &mut self.db else {
+            return Err(KeepFault::Failed);
         };
         self.ahead.clear();
-        self.ahead = read_from(self.alloc, db, number)?;
+        self.ahead = read_from(self.host.alloc(), db, number)?;
         self.ahead.reverse();
         self.next = number;
         Ok(())
@@ -225,11 +241,7 @@ impl Keeper for SqliteKeeper {
     ghost failures = { λ k. k.faults };
 
     fn ready(&mut self) -> Result<(), KeepFault> {
-        let made = match &mut self.db {
-            Ok(db) => see_to_records(db),
-            Err(fault) => Err(*fault),
-        };
-        match made {
+        match self.opened() {
             Ok(()) => Ok(()),
             Err(fault) => Err(self.counted(fault)),
         }
@@ -244,8 +256,8 @@ impl Keeper for SqliteKeeper {
 
     fn keep(&mut self, number: u64, bytes: &[u8]) -> Result<(), KeepFault> {
         let added = match &mut self.db {
-            Ok(db) => add(db, number, bytes),
-            Err(fault) => Err(*fault),
+            Some(db) => add(db, number, bytes),
+            None => Err(KeepFault::Failed),
         };
         match added {
             Ok(()) => Ok(()),

@@ -12,7 +12,7 @@ ghost use Rattle.std.specs.Prelude.{◌≡◌, All, IfOk, false};
 use grist_program::{Outside, listener_on, outside_of, status_over, words_of};
 use grist_run::Status;
 use io_edges::TcpPort;
-use std::alloc::{AllocError, Global};
+use std::alloc::AllocError;
 use std::net::{Net, TcpListener, TcpStream};
 use std::process::ExitCode;
 use std::sync::Wait;
@@ -22,15 +22,15 @@ use std::thread::Threads;
 // connection.
 fn ports_of<R: Net<Listener = TcpListener, Stream = TcpStream>>(
     rt: &R,
-    alloc: Global,
+    host: &HostRuntime,
     outside: &Outside,
-) -> Result<Vec<TcpPort<TcpListener>>, AllocError>
+) -> Result<Vec<TcpPort<TcpListener, HostRuntime>>, AllocError>
     ensures { IfOk result (λ v. All (λ p. p.lent ≡ false) v.items) }
 {
-    let mut ports = Vec::new(alloc);
+    let mut ports = Vec::new(host.alloc());
     for lane in 0..outside.lanes {
         let listener = listener_on(rt, u32::from(outside.port).saturating_add(lane));
-        ports.push(TcpPort::new(listener, outside.conns))?;
+        ports.push(TcpPort::new(*host, listener, outside.conns))?;
     }
     Ok(ports)
 }
@@ -41,7 +41,7 @@ fn status_of<R: Threads + Wait + Net<Listener = TcpListener, Stream = TcpStream>
     words: &[String],
 ) -> Result<Status, AllocError> {
     let outside = outside_of(host.alloc(), words)?;
-    let ports = ports_of(rt, host.alloc(), &outside)?;
+    let ports = ports_of(rt, host, &outside)?;
     status_over(rt, host, words, outside, ports)
 }
 

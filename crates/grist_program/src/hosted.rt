@@ -14,7 +14,7 @@ use std::io::Write;
 use std::marker::Send;
 use std::sync::Wait;
 use std::thread::Threads;
-use watch_box::{StderrWatcher, Watcher};
+use watch_box::{ErrorOut, StderrWatcher, Watcher};
 
 // The watcher that the words ask for.
 fn watchers_of<E: Write + Drop>(
@@ -30,6 +30,16 @@ fn watchers_of<E: Write + Drop>(
         watchers.push(WatchedSession { session, watcher })?;
     }
     Ok(watchers)
+}
+
+// Standard error. A server does not wait for whoever reads it; a replay, which has nobody waiting
+// for it, does.
+fn error_out(host: &HostRuntime, lanes: u32) -> ErrorOut {
+    if lanes > 0 {
+        ErrorOut::unwaiting(host)
+    } else {
+        ErrorOut::waiting(host)
+    }
 }
 
 fn run_over<R: Threads + Wait + Sync, P: Port + Send, K: Keeper + Send, W: Watcher + Send>(
@@ -72,7 +82,7 @@ fn run_in_file<R: Threads + Wait + Sync, P: Port + Send, W: Watcher + Send>(
 {
     let mut path = String::from_str(host.alloc(), doc.as_str())?;
     path.push_str(".grist")?;
-    let keeper = SqliteKeeper::open(host, path.as_str());
+    let keeper = SqliteKeeper::new(host, path);
     let Outcome {
         status,
         at: _,
@@ -95,8 +105,13 @@ pub fn status_over<R: Threads + Wait + Sync, P: Port + Send>(
 ) -> Result<Status, AllocError>
     requires { All (λ p. (P.state p).lent ≡ false) ports.items }
 {
-    let Outside { doc, watch, .. } = outside;
-    let watchers = watchers_of(host.alloc(), watch, host.stderr())?;
+    let Outside {
+        doc,
+        watch,
+        lanes,
+        ..
+    } = outside;
+    let watchers = watchers_of(host.alloc(), watch, error_out(host, lanes))?;
     match &doc {
         Some(doc) => run_in_file(rt, host, words, ports, watchers, doc),
         None => {

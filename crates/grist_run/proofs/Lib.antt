@@ -14,3 +14,4 @@ mod DenialLemmas
 mod GivenLaws
 mod AskingLaws
 mod GeneratedLaws
+mod Complete

@@ -16,3 +16,5 @@ pub mod Replay
 pub mod Denials
 pub mod Generated
 pub mod Asking
+pub mod Watching
+pub mod Complete

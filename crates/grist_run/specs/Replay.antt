@@ -8,13 +8,16 @@ use Rattle.bundle_core.specs.KeptBundles.{not_kept, records_of}
 use Rattle.bundle_core.specs.State.{opening}
 use Rattle.bundle_records.specs.Ledger.{OpensTo}
 use Rattle.grist_run.specs.declared.status.Status.{Status}
-use Rattle.grist_run.specs.declared.status.Status.TheVariants.{Done, StoreFault}
+use Rattle.grist_run.specs.declared.status.Status.TheVariants.{Done, WriteFault, StoreFault, PortFault}
 use Rattle.grist_run.specs.Run.{IsRun}
 use Rattle.grist_run.specs.Told.{Follows}
 
--- the input was read to its end, or something was answered: then a document was opened
+-- the input was read to its end, something was answered, or what is behind the opening failed: then
+-- a document was opened
 abbrev pub is_opened : Status → List Entry → Bool
 is_opened Done h = true
+is_opened WriteFault h = true
+is_opened PortFault h = true
 is_opened status [] = false
 is_opened status (e ∷ es) = true
 

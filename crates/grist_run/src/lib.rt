@@ -10,8 +10,9 @@
 //! was read, in whatever pieces it came, and which event each status stands for; a fault is told
 //! only where the count of faults of the source, the sink or the keeper rose. The keeper comes back
 //! with its records and one for each bundle that was accepted and kept. `generate` says so of a
-//! script in the place of an input, and which line sums it up. Not promised: that memory is there.
-//! That watchers are attached shows by tests alone.
+//! script in the place of an input, and which line sums it up. `start_watched` attaches all of its
+//! watchers, in their order; `completeness_law` says what comes where nothing outside fails.
+//! Not promised: that memory is there.
 //! Read first: running.rt, then specs/Replay.antt, specs/Run.antt and specs/UserLines.antt; for a
 //! generated run generating.rt and specs/Generated.antt.
 #![tactic(auto)]
@@ -20,6 +21,7 @@ mod answering;
 mod denials;
 mod generated_line;
 mod generating;
+mod laws;
 mod line_request;
 mod line_room;
 mod reading;
@@ -31,6 +33,7 @@ mod user_lines;
 mod watching;
 
 pub use generating::generate;
+pub use laws::completeness_law;
 pub use line_room::{append, append_number, send};
 pub use running::{run, run_alone, start_status, without_history};
 pub use status::{Outcome, Status};

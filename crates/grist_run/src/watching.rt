@@ -1,10 +1,11 @@
 //! A core that is started with its watchers.
-ghost use Rattle.std.specs.Prelude.{◌≡◌, ◌≤◌, ◌<◌, ◌+◌, ◌-◌, ◌^◌, ℕ, IfErr, IfOk, vec_len};
+ghost use Rattle.std.specs.Prelude.{◌≡◌, ◌≤◌, ◌<◌, ◌+◌, ◌-◌, ◌^◌, ◌++◌, ℕ, IfErr, IfOk, OnOk, vec_len};
 ghost use Rattle.doc_model.specs.NewDocument.{new_document};
 ghost use Rattle.doc_opening.specs.Opening.{FirstBad};
 ghost use Rattle.doc_opening.specs.declared.opening.StartCause.TheVariants.{BadStore, StoreFault};
 ghost use Rattle.io_edges.specs.Causes.{Rose};
 ghost use Rattle.bundle_core.specs.KeptCore.{IsStarted};
+ghost use Rattle.grist_run.specs.Watching.{numbered_from};
 
 use bundle_core::{Core, StartFault};
 use cell_types::Name;
@@ -35,6 +36,12 @@ pub fn start_watched<K: Keeper, W: Watcher>(
     requires few { vec_len watchers < 2 ^ 32 - 1 }
     ensures ok { IfOk result (λ c.
         IsStarted users (K.records keeper) (K.failures keeper) c.core) }
+    ensures watching { IfOk result (λ c. c.watching ≡ numbered_from (λ w. record {
+      taken = W.taken w;
+      refused_from = W.refused_from w;
+      faults = W.faults w;
+    }) 0 watchers.items) }
+    ensures attached { IfOk result (λ c. c.attached ≡ vec_len watchers) }
     ensures same { IfErr result (λ f. K.records f.keeper ≡ K.records keeper) }
     ensures later { IfErr result (λ f. K.failures keeper ≤ K.failures f.keeper) }
     ensures fault { IfErr result (λ f. f.cause ≡ StoreFault
@@ -59,7 +66,15 @@ fn attach_all<K: Keeper, W: Watcher>(
     watchers: Vec<WatchedSession<W>>,
 ) -> Result<(), AllocError>
     requires few { watched.old.attached + vec_len watchers < 2 ^ 32 - 1 }
-    ensures { watched.new.core ≡ watched.old.core }
+    ensures core { watched.new.core ≡ watched.old.core }
+    ensures added { OnOk result (watched.new.watching ≡ watched.old.watching
+        ++ numbered_from (λ w. record {
+          taken = W.taken w;
+          refused_from = W.refused_from w;
+          faults = W.faults w;
+        }) watched.old.attached watchers.items) }
+    ensures counted { OnOk result
+        (watched.new.attached ≡ watched.old.attached + vec_len watchers) }
 {
     let mut watchers = watchers;
     watchers.reverse();

@@ -12,6 +12,7 @@
 //! Read first: source.rt, then line_reader.rt; port.rt.
 #![tactic(auto)]
 
+mod accepting;
 mod laws;
 mod line_parts;
 mod line_reader;
@@ -31,6 +32,7 @@ mod tcp_link;
 mod tcp_port;
 mod writing;
 
+pub use accepting::next_stream;
 pub use laws::{kept_law, stream_law};
 pub use line_reader::{LineReader, NextLine, ReadEnd};
 pub use link::Link;

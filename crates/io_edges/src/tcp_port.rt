@@ -1,18 +1,19 @@
 //! The trusted edge: the connections that a listener accepts, with counts.
 ghost use Rattle.std.specs.Prelude.{None};
 
+use crate::accepting::next_stream;
 use crate::{Failed, Port, SessionEnd, TcpLink};
-use std::io::{ErrorKind, Read, Write};
+use std::io::{Read, Write};
 use std::marker::Send;
 use std::net::{OpenListener, OpenStream};
-
-/// How many clients in a row may be gone before they were accepted.
-const MAX_GONE_CLIENTS: u32 = 1024;
+use std::time::Clock;
 
 /// Hands out the connections that a listener accepts, up to a number. It tells none of them.
 /// Without a listener, which is how one that could not be bound is handed in, `next` fails.
+/// What passes while it accepts, as that too many files are open, is counted and does not fail it.
 #[derive(Drop)]
-pub struct TcpPort<L: OpenListener> {
+pub struct TcpPort<L: OpenListener, C: Clock> {
+    clock: C,
     listener: Option<L>,
     most: u32,
     handed: u32,
@@ -21,17 +22,18 @@ pub struct TcpPort<L: OpenListener> {
     faults: u64,
 }
 
-impl<L: OpenListener> TcpPort<L> {
+impl<L: OpenListener, C: Clock> TcpPort<L, C> {
     ghost use Rattle.std.specs.Prelude.{◌≡◌, false};
 
-    /// Hands out so many connections at most.
-    pub fn new(listener: Option<L>, most: u32) -> Self
+    /// Hands out so many connections at most, and rests by that clock.
+    pub fn new(clock: C, listener: Option<L>, most: u32) -> Self
         ensures handed { result.handed ≡ 0 }
         ensures lent { result.lent ≡ false }
         ensures ended { result.ended ≡ false }
         ensures faults { result.faults ≡ 0 }
     {
         TcpPort {
+            clock,
             listener,
             most,
             handed: 0,
@@ -42,23 +44,7 @@ impl<L: OpenListener> TcpPort<L> {
     }
 }
 
-// The next stream of a listener. A client that was gone before it was accepted is passed over: it
-// says nothing of those behind it.
-fn next_stream<L: OpenListener>(listener: &L) -> Option<L::Stream> {
-    for _ in 0..MAX_GONE_CLIENTS {
-        match listener.accept() {
-            Ok((stream, _)) => return Some(stream),
-            Err(error) => {
-                if error.kind() != ErrorKind::ConnectionAborted {
-                    return None;
-                }
-            }
-        }
-    }
-    None
-}
-
-impl<L: OpenListener + Drop> Port for TcpPort<L>
+impl<L: OpenListener + Drop, C: Clock + Drop> Port for TcpPort<L, C>
 where
     L::Stream: Read + Write + OpenStream + Drop + Send,
 {
@@ -79,7 +65,7 @@ where
             return Ok(None);
         }
         let accepted = match &self.listener {
-            Some(listener) => next_stream(listener),
+            Some(listener) => next_stream(listener, &self.clock, &mut self.faults),
             None => None,
         };
         let Some(stream) = accepted else {

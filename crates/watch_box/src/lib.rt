@@ -12,12 +12,14 @@
 #![tactic(auto)]
 
 mod any_watcher;
+mod error_out;
 mod memory_watcher;
 mod standard;
 mod watch_list;
 mod watcher;
 
 pub use any_watcher::AnyWatcher;
+pub use error_out::ErrorOut;
 pub use memory_watcher::{MemWatcher, SureWatcher};
 pub use standard::StderrWatcher;
 pub use watch_list::{Unattached, WatchList};

@@ -4,8 +4,8 @@
     python3 tools/measure_gate.py [COMMAND..]      COMMAND is `rt ci` where it is left out
 
 What the command prints goes to standard error. The prover's processes are looked at five times a second,
-and each is counted for the crate that it names, as a proof, as tests or as edits. What no look saw is told
-as the rest. A run with other work beside it takes more processor time: measure on an idle machine.
+and each is counted for the crate that it names, as a proof, as a build of a proved program, as tests or as
+edits; a compiler that it starts is counted with it. What no look saw is told as the rest. A run with other work beside it takes more processor time: measure on an idle machine.
 """
 import os
 import re
@@ -16,7 +16,7 @@ import time
 
 SECONDS_BETWEEN_LOOKS = 0.2
 TICKS = os.sysconf("SC_CLK_TCK")
-KINDS = ("proof", "tests", "edits")
+KINDS = ("proof", "builds", "tests", "edits")
 
 
 def processes():
@@ -44,6 +44,8 @@ def label_of(process):
     crate = words[words.index("--crate-name") + 1]
     if re.search(r"rt-(edits?|seed)", " ".join([folder, *words])):
         return crate, "edits"
+    if "--crate-checked" in words:
+        return crate, "builds"
     return crate, "tests" if "--test" in words else "proof"
 
 
@@ -57,7 +59,7 @@ def look(root, seconds, labels):
         while above in parents and above != root:
             above = parents[above]
         if above == root:
-            label = labels.get(process) or label_of(process)
+            label = labels.get(process) or label_of(process) or labels.get(parents[process])
             if label:
                 labels[process] = label
                 seconds[process, label] = spent
@@ -87,7 +89,7 @@ def main(command):
     begun = time.monotonic()
     status, minutes, whole = run(command or gate())
     wall = (time.monotonic() - begun) / 60
-    print("| Crate | Proof | Tests | Edits | All |\n|---|---|---|---|---|")
+    print("| Crate | Proof | Builds | Tests | Edits | All |\n|---|---|---|---|---|---|")
     for crate, spent in sorted(minutes.items(), key=lambda it: -sum(it[1].values())):
         cells = " | ".join(f"{spent[kind]:.1f}" if spent[kind] else "" for kind in KINDS)
         print(f"| `{crate}` | {cells} | {sum(spent.values()):.1f} |")

@@ -1,7 +1,7 @@
 -- Who is not refused.
 use Rattle.std.proofs.Common.{◌≡◌, Bool, true, false, refl, if◌then◌else◌}
-use Rattle.web_edges.specs.declared.request.Answer.{Answer}
-use Rattle.web_edges.specs.declared.request.Answer.TheVariants.{Forbidden, Page, Socket}
+use Rattle.web_requests.specs.declared.request.Answer.{Answer}
+use Rattle.web_requests.specs.declared.request.Answer.TheVariants.{Forbidden, Page, Socket}
 
 -- the page is for requests from here
 pub page-from-here : (b : Bool) (a : Answer) → (if b then a else Forbidden) ≡ Page → b ≡ true

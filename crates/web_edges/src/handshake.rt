@@ -2,10 +2,9 @@
 ghost use Rattle.std.specs.Prelude.{◌≡◌, ◌≤◌, IfOk, IfSome, length, take, true};
 ghost use Rattle.httparse.specs.Spans.{IsRequestWithin};
 ghost use Rattle.websocket.specs.Headers.{fields_of};
-ghost use Rattle.web_edges.specs.Requests.{is_from_here};
+ghost use Rattle.web_requests.specs.Requests.{is_from_here};
 ghost use Rattle.web_edges.specs.Sending.{is_granted};
 
-use crate::request::{Answer, answer_to};
 use httparse::Status;
 use httparse::spans::{EMPTY_HEADER_SPAN, HeaderSpan, RequestSpans, parse_request};
 use io_edges::Failed;
@@ -14,6 +13,7 @@ use std::io::{Read, Write};
 use std::net::OpenStream;
 use std::time::Duration;
 use tungstenite::{NoMask, Role, WebSocket, WebSocketConfig};
+use web_requests::{Answer, answer_to};
 use websocket::handshake::server::{check_request, write_response};
 
 /// How many bytes one read of a head asks for.
@@ -59,12 +59,15 @@ enum Sent {
     Refusal(&'static [u8]),
 }
 
-/// What came of a request.
+/// One end of a connection of a browser.
 #[derive(Drop)]
-pub(crate) enum Opening<T> {
+pub(crate) enum End<T> {
+    /// Its handshake is still to be made.
+    Fresh(T),
     Open(WebSocket<T, NoMask>),
     /// The request was answered, and asked for no connection.
     Answered,
+    Gone,
 }
 
 fn sent_for(
@@ -108,26 +111,39 @@ fn heard(alloc: Global, port: u16, head: &[u8]) -> Result<Option<(Sent, usize)>,
     }
 }
 
-// Reads a head, and gives what is sent for it and the bytes behind it.
-fn read_head<T: Read>(alloc: Global, port: u16, stream: &mut T) -> Result<(Sent, Vec<u8>), Failed> {
-    let mut head = Vec::new(alloc);
+fn add(bytes: &mut Vec<u8>, more: &[u8]) -> Result<(), Failed> {
+    match bytes.extend_from_slice(more) {
+        Ok(()) => Ok(()),
+        Err(_) => Err(Failed),
+    }
+}
+
+// Reads more of a head.
+fn read_more<T: Read>(stream: &mut T, head: &mut Vec<u8>) -> Result<(), Failed> {
     let mut chunk = [0u8; CHUNK];
+    match stream.read(&mut chunk).ok() {
+        Some(count) if count > 0 => add(head, &chunk[..count]),
+        _ => Err(Failed),
+    }
+}
+
+// Reads a head, and gives what is sent for it. What is left in the list came behind the head.
+fn read_head<T: Read>(
+    alloc: Global,
+    port: u16,
+    stream: &mut T,
+    head: &mut Vec<u8>,
+) -> Result<Sent, Failed> {
     for _ in 0..READS {
-        let count = match stream.read(&mut chunk) {
-            Ok(count) if count > 0 => count,
-            _ => return Err(Failed),
-        };
-        if head.extend_from_slice(&chunk[..count]).is_err() {
-            return Err(Failed);
-        }
-        if let Some((sent, len)) = heard(alloc, port, &head)? {
+        read_more(stream, head)?;
+        if let Some((sent, len)) = heard(alloc, port, head)? {
             head.drain(..len);
-            return Ok((sent, head));
+            return Ok(sent);
         }
     }
     // A head that has not ended by now is refused like one that is no head.
     head.clear();
-    Ok((Sent::Refusal(BAD_REQUEST), head))
+    Ok(Sent::Refusal(BAD_REQUEST))
 }
 
 fn send<T: Write>(stream: &mut T, bytes: &[u8]) -> Result<(), Failed> {
@@ -142,53 +158,79 @@ fn send<T: Write>(stream: &mut T, bytes: &[u8]) -> Result<(), Failed> {
 
 fn send_page<T: Write>(alloc: Global, stream: &mut T, page: &[u8]) -> Result<(), Failed> {
     let mut bytes = Vec::new(alloc);
-    if bytes.extend_from_slice(PAGE_HEAD).is_err() || bytes.extend_from_slice(page).is_err() {
-        return Err(Failed);
-    }
+    add(&mut bytes, PAGE_HEAD)?;
+    add(&mut bytes, page)?;
     send(stream, &bytes)
 }
 
-/// Hears a request and answers it: by a connection, by the page, or by a refusal.
-///
-/// Errors: `Failed`, where the stream fails or ends, a read of the head takes too long, or memory
-/// is wanting.
-pub(crate) fn open<T: Read + Write + OpenStream + Drop>(
+// Sends it. Whether a connection stands behind it.
+fn send_answer<T: Write>(
+    alloc: Global,
+    stream: &mut T,
+    sent: &Sent,
+    page: &[u8],
+) -> Result<bool, Failed> {
+    match sent {
+        Sent::Socket(bytes) => send(stream, bytes)?,
+        Sent::Page => send_page(alloc, stream, page)?,
+        Sent::Refusal(bytes) => send(stream, bytes)?,
+    }
+    Ok(matches!(sent, Sent::Socket(_)))
+}
+
+// How long a read waits; with none it waits until something comes.
+fn set_patience<T: OpenStream>(stream: &T, most: Option<Duration>) -> Result<(), Failed> {
+    match stream.set_read_timeout(most) {
+        Ok(()) => Ok(()),
+        Err(_) => Err(Failed),
+    }
+}
+
+// Hears a request and answers it. Whether a connection stands then; what is in the list came
+// behind the head.
+fn answer<T: Read + Write + OpenStream>(
     alloc: Global,
     port: u16,
-    mut stream: T,
+    stream: &mut T,
+    page: &[u8],
+    head: &mut Vec<u8>,
+) -> Result<bool, Failed> {
+    set_patience(stream, Some(Duration::from_secs(PATIENCE)))?;
+    let sent = read_head(alloc, port, stream, head)?;
+    let stands = send_answer(alloc, stream, &sent, page);
+    drop(sent);
+    let stands = stands?;
+    if stands {
+        set_patience(stream, None)?;
+    }
+    Ok(stands)
+}
+
+/// The end where its handshake was made: a request is heard and answered by a connection, by the
+/// page, or by a refusal. It is gone where the stream fails or ends, a read of the head takes too
+/// long, or memory is wanting.
+pub(crate) fn opened<T: Read + Write + OpenStream + Drop>(
+    alloc: Global,
+    port: u16,
+    end: End<T>,
     page: &[u8],
     config: WebSocketConfig,
-) -> Result<Opening<T>, Failed> {
-    if stream
-        .set_read_timeout(Some(Duration::from_secs(PATIENCE)))
-        .is_err()
-    {
-        return Err(Failed);
+) -> End<T> {
+    let mut stream = match end {
+        End::Fresh(stream) => stream,
+        other => return other,
+    };
+    let mut tail = Vec::new(alloc);
+    let stands = answer(alloc, port, &mut stream, page, &mut tail);
+    if let Ok(true) = stands {
+        let (role, config) = (Role::Server, Some(config));
+        let socket = WebSocket::from_partially_read(alloc, stream, NoMask, tail, role, config);
+        return End::Open(socket);
     }
-    let (sent, tail) = read_head(alloc, port, &mut stream)?;
-    match sent {
-        Sent::Socket(bytes) => {
-            send(&mut stream, &bytes)?;
-            if stream.set_read_timeout(None).is_err() {
-                return Err(Failed);
-            }
-            let socket = WebSocket::from_partially_read(
-                alloc,
-                stream,
-                NoMask,
-                tail,
-                Role::Server,
-                Some(config),
-            );
-            Ok(Opening::Open(socket))
-        }
-        Sent::Page => {
-            send_page(alloc, &mut stream, page)?;
-            Ok(Opening::Answered)
-        }
-        Sent::Refusal(bytes) => {
-            send(&mut stream, bytes)?;
-            Ok(Opening::Answered)
-        }
+    drop(tail);
+    drop(stream);
+    match stands {
+        Ok(_) => End::Answered,
+        Err(_) => End::Gone,
     }
 }

@@ -1,7 +1,7 @@
 //! The trusted edge: one end of a connection of a browser, with counts of faults.
 ghost use Rattle.std.specs.Prelude.{None, refl};
 
-use crate::handshake::{Opening, open};
+use crate::handshake::{End, opened};
 use bytes::{ByteStr, Bytes};
 use io_edges::{Failed, Link, Sink, Source};
 use memchr::memchr;
@@ -18,13 +18,17 @@ const MOST: usize = 1_048_577;
 /// How many messages without a line are passed over, pings for one, until one with a line comes.
 const PASSED: u32 = 1 << 31;
 
+/// What a read of a connection gave.
 #[derive(Drop)]
-enum End<T> {
-    Fresh(T),
-    Open(WebSocket<T, NoMask>),
-    /// The request was answered, and asked for no connection.
-    Answered,
-    Gone,
+enum Arrival {
+    Line(Bytes),
+    /// A message without a line.
+    Nothing,
+    /// The browser closed the connection.
+    End,
+    /// What is no line; the connection ends, and the browser is told why.
+    Refused(CloseCode),
+    Fault,
 }
 
 /// A link over a WebSocket on a stream of std: a text message that comes is a line, and a line that
@@ -47,11 +51,85 @@ pub struct WebSocketLink<T> {
     write_faults: u64,
 }
 
+fn arrival_of_error(error: &Error) -> Arrival {
+    match error {
+        Error::ConnectionClosed => Arrival::End,
+        Error::Utf8 => Arrival::Refused(CloseCode::Invalid),
+        Error::Capacity(_) => Arrival::Refused(CloseCode::Size),
+        Error::Protocol(_) => Arrival::Refused(CloseCode::Protocol),
+        _ => Arrival::Fault,
+    }
+}
+
+// Of a message that is no text.
+fn arrival_of_message(message: &Message) -> Arrival {
+    match message {
+        Message::Binary(_) => Arrival::Refused(CloseCode::Unsupported),
+        _ => Arrival::Nothing,
+    }
+}
+
+// Errors and messages have many forms, and are dropped by calls: where one is dropped in place its
+// forms are proved there once more.
+fn arrival_of(read: Result<Message, Error>) -> Arrival {
+    match read {
+        Ok(Message::Text(text)) => Arrival::Line(text.into_bytes()),
+        Ok(message) => {
+            let arrival = arrival_of_message(&message);
+            drop(message);
+            arrival
+        }
+        Err(error) => {
+            let arrival = arrival_of_error(&error);
+            drop(error);
+            arrival
+        }
+    }
+}
+
+// Whether it was done. All faults are alike here.
+fn is_done(done: Result<(), Error>) -> bool {
+    match done {
+        Ok(()) => true,
+        Err(error) => {
+            drop(error);
+            false
+        }
+    }
+}
+
 // Tells the browser why the connection ends, as far as it still listens.
 fn refused<T: Read + Write + Drop>(socket: &mut WebSocket<T, NoMask>, code: CloseCode) -> Failed {
     let reason = ByteStr::new();
-    let _ = socket.close(Some(CloseFrame { code, reason }));
+    let _ = is_done(socket.close(Some(CloseFrame { code, reason })));
     Failed
+}
+
+// The next message that is a line. `None` is the end.
+fn next_line<T: Read + Write + Drop>(
+    socket: &mut WebSocket<T, NoMask>,
+) -> Result<Option<Bytes>, Failed> {
+    for _ in 0..PASSED {
+        match arrival_of(socket.read()) {
+            Arrival::Line(line) => return Ok(Some(line)),
+            Arrival::Nothing => {}
+            Arrival::End => return Ok(None),
+            Arrival::Refused(code) => return Err(refused(socket, code)),
+            Arrival::Fault => return Err(Failed),
+        }
+    }
+    Err(Failed)
+}
+
+// The line as a message.
+fn message_of(line: Vec<u8>) -> Result<Message, Failed> {
+    let Ok(bytes) = Bytes::from_vec(line) else {
+        return Err(Failed);
+    };
+    match ByteStr::from_utf8(bytes) {
+        Ok(text) => Ok(Message::Text(text)),
+        Err(_) => Err(Failed),
+    }
 }
 
 fn config() -> WebSocketConfig {
@@ -84,20 +162,13 @@ impl<T: Read + Write + OpenStream + Drop> WebSocketLink<T> {
     }
 
     // Makes the handshake, where it was not made yet.
-    fn open(&mut self) -> Result<(), Failed>
+    fn open(&mut self)
         ensures read { self.new.read_faults ≡ self.old.read_faults }
         ensures write { self.new.write_faults ≡ self.old.write_faults }
     {
-        match mem::replace(&mut self.end, End::Gone) {
-            End::Fresh(stream) => {
-                self.end = match open(self.alloc, self.port, stream, self.page, config())? {
-                    Opening::Open(socket) => End::Open(socket),
-                    Opening::Answered => End::Answered,
-                };
-            }
-            other => self.end = other,
-        }
-        Ok(())
+        let end = mem::replace(&mut self.end, End::Gone);
+        let end = opened(self.alloc, self.port, end, self.page, config());
+        drop(mem::replace(&mut self.end, end));
     }
 
     // Takes the next message that is a line. `false` is the end.
@@ -105,29 +176,18 @@ impl<T: Read + Write + OpenStream + Drop> WebSocketLink<T> {
         ensures read { self.new.read_faults ≡ self.old.read_faults }
         ensures write { self.new.write_faults ≡ self.old.write_faults }
     {
-        self.open()?;
-        let socket = match &mut self.end {
-            End::Open(socket) => socket,
+        self.open();
+        let line = match &mut self.end {
+            End::Open(socket) => next_line(socket)?,
             End::Answered => return Ok(false),
             _ => return Err(Failed),
         };
-        for _ in 0..PASSED {
-            match socket.read() {
-                Ok(Message::Text(text)) => {
-                    self.ahead = text.into_bytes();
-                    self.newline = true;
-                    return Ok(true);
-                }
-                Ok(Message::Binary(_)) => return Err(refused(socket, CloseCode::Unsupported)),
-                Ok(_) => {}
-                Err(Error::ConnectionClosed) => return Ok(false),
-                Err(Error::Capacity(_)) => return Err(refused(socket, CloseCode::Size)),
-                Err(Error::Utf8) => return Err(refused(socket, CloseCode::Invalid)),
-                Err(Error::Protocol(_)) => return Err(refused(socket, CloseCode::Protocol)),
-                Err(_) => return Err(Failed),
-            }
-        }
-        Err(Failed)
+        let Some(line) = line else {
+            return Ok(false);
+        };
+        drop(mem::replace(&mut self.ahead, line));
+        self.newline = true;
+        Ok(true)
     }
 
     // Hands out what is left of a message, and then its newline.
@@ -152,20 +212,15 @@ impl<T: Read + Write + OpenStream + Drop> WebSocketLink<T> {
         ensures read { self.new.read_faults ≡ self.old.read_faults }
         ensures write { self.new.write_faults ≡ self.old.write_faults }
     {
-        let line = mem::replace(&mut self.line, Vec::new(self.alloc));
-        let Ok(bytes) = Bytes::from_vec(line) else {
-            return Err(Failed);
+        let message = message_of(mem::replace(&mut self.line, Vec::new(self.alloc)))?;
+        let done = match &mut self.end {
+            End::Open(socket) => is_done(socket.write(message)),
+            _ => {
+                drop(message);
+                false
+            }
         };
-        let Ok(text) = ByteStr::from_utf8(bytes) else {
-            return Err(Failed);
-        };
-        let End::Open(socket) = &mut self.end else {
-            return Err(Failed);
-        };
-        match socket.write(Message::Text(text)) {
-            Ok(()) => Ok(()),
-            Err(_) => Err(Failed),
-        }
+        if done { Ok(()) } else { Err(Failed) }
     }
 
     // Takes bytes up to a newline, and sends the line where that was there.
@@ -230,7 +285,7 @@ impl<T: Read + Write + OpenStream + Drop> Sink for WebSocketLink<T> {
 
     fn flush(&mut self) -> Result<(), Failed> {
         let flushed = match &mut self.end {
-            End::Open(socket) => socket.flush().is_ok(),
+            End::Open(socket) => is_done(socket.flush()),
             _ => true,
         };
         if flushed {

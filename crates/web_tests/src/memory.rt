@@ -13,35 +13,44 @@ use std::time::Duration;
 /// What a stream was given, so far.
 pub(crate) type Sent = Rc<RefCell<Vec<u8>>>;
 
-/// A stream that gives at most so many bytes a read.
+/// A stream that gives at most so many bytes a read: those in front, and then those behind them.
 #[derive(Drop)]
 pub(crate) struct Memory {
-    input: Vec<u8>,
-    at: usize,
+    front: &'static [u8],
+    back: &'static [u8],
     step: usize,
     sent: Sent,
 }
 
 impl Memory {
     /// A stream that gives these bytes, and then its end.
-    pub(crate) fn new(alloc: Global, input: &[u8], step: usize) -> Result<(Memory, Sent), Fail> {
-        let sent = Rc::new(alloc, RefCell::new(Vec::new(alloc)))?;
+    pub(crate) fn new(
+        alloc: Global,
+        front: &'static [u8],
+        back: &'static [u8],
+        step: usize,
+    ) -> Result<(Memory, Sent), Fail> {
+        let kept = Rc::new(alloc, RefCell::new(Vec::new(alloc)))?;
+        let sent = kept.clone()?;
         let memory = Memory {
-            input: Vec::from_slice(alloc, input)?,
-            at: 0,
+            front,
+            back,
             step,
-            sent: sent.clone()?,
+            sent,
         };
-        Ok((memory, sent))
+        Ok((memory, kept))
     }
 }
 
 impl io::Read for Memory {
     fn read(&mut self, buf: &mut [u8]) -> io::Result<usize> {
-        let rest = self.input.get(self.at..).unwrap_or(&[]);
-        let count = buf.len().min(rest.len()).min(self.step);
-        buf[..count].copy_from_slice(&rest[..count]);
-        self.at = self.at.saturating_add(count);
+        if self.front.is_empty() {
+            self.front = self.back;
+            self.back = &[];
+        }
+        let count = buf.len().min(self.front.len()).min(self.step);
+        buf[..count].copy_from_slice(&self.front[..count]);
+        self.front = &self.front[count..];
         Ok(count)
     }
 }

@@ -1,7 +1,7 @@
 //! What requests are answered by: the page, a refusal by its number, or a connection with the key
 //! that RFC 6455 gives for its example.
 
-use crate::memory::Memory;
+use crate::memory::{Memory, Sent};
 use io_edges::Source;
 use std::alloc::Global;
 use std::test::Fail;
@@ -9,24 +9,35 @@ use web_edges::WebSocketLink;
 
 const PORT: u16 = 7070;
 
-// Whether the bytes are answered by a text that begins so and ends so, and the connection ends.
-fn is_answered(alloc: Global, request: &str, front: &str, back: &str) -> Result<bool, Fail> {
-    let (memory, sent) = Memory::new(alloc, request.as_bytes(), 50)?;
+const UPGRADE: &str = "Upgrade: websocket\r\nConnection: Upgrade\r\nSec-WebSocket-Version: 13\r\n\
+    Sec-WebSocket-Key: dGhlIHNhbXBsZSBub25jZQ==\r\n\r\n";
+
+fn is_told(sent: &Sent, front: &str, back: &str) -> bool {
+    match sent.try_borrow() {
+        Ok(sent) => sent.starts_with(front.as_bytes()) && sent.ends_with(back.as_bytes()),
+        Err(_) => false,
+    }
+}
+
+// Whether the request is answered by a text that begins so and ends so, and the connection ends.
+fn is_answered(
+    alloc: Global,
+    request: &'static str,
+    more: &'static str,
+    front: &str,
+    back: &str,
+) -> Result<bool, Fail> {
+    let (memory, sent) = Memory::new(alloc, request.as_bytes(), more.as_bytes(), 50)?;
     let mut link = WebSocketLink::new(alloc, PORT, b"<the page>", memory);
     let ended = link.read(&mut [0; 16]) == Ok(0);
-    match sent.try_borrow() {
-        Ok(sent) => {
-            let is_told = sent.starts_with(front.as_bytes()) && sent.ends_with(back.as_bytes());
-            Ok(ended && is_told)
-        }
-        Err(_) => Ok(false),
-    }
+    drop(link);
+    let told = is_told(&sent, front, back);
+    drop(sent);
+    Ok(ended && told)
 }
 
 #[test]
 fn answers_requests(rt: HostRuntime) -> Result<(), Fail> {
-    let upgrade = "Upgrade: websocket\r\nConnection: Upgrade\r\nSec-WebSocket-Version: 13\r\n\
-        Sec-WebSocket-Key: dGhlIHNhbXBsZSBub25jZQ==\r\n\r\n";
     for (front, own, head, back) in [
         (
             "GET / HTTP/1.1\r\nHost: 127.0.0.1:7070\r\n\r\n",
@@ -85,12 +96,9 @@ fn answers_requests(rt: HostRuntime) -> Result<(), Fail> {
             "",
         ),
     ] {
-        let mut request = String::from_str(rt.alloc(), front)?;
-        if own {
-            request.push_str(upgrade)?;
-        }
+        let more = if own { UPGRADE } else { "" };
         assert!(rt;
-            is_answered(rt.alloc(), request.as_str(), head, back)?,
+            is_answered(rt.alloc(), front, more, head, back)?,
             "{front}"
         );
     }

@@ -2,8 +2,8 @@
 use Rattle.std.specs.Prelude.{ℕ, ◌==◌, Bool, true, false, ◌&&◌, ◌||◌, List, [], ◌∷◌, codes, decimal, drop, length, take, Option, Some, None, if◌then◌else◌}
 use Rattle.std.specs.Str.{bytes_eq}
 use Rattle.websocket.specs.Headers.{Fields, header_value}
-use Rattle.web_edges.specs.declared.request.Answer.{Answer}
-use Rattle.web_edges.specs.declared.request.Answer.TheVariants.{Forbidden, NoUpgrade, NotFound, Page, Socket}
+use Rattle.web_requests.specs.declared.request.Answer.{Answer}
+use Rattle.web_requests.specs.declared.request.Answer.TheVariants.{Forbidden, NoUpgrade, NotFound, Page, Socket}
 
 -- the text is these two, one behind the other
 abbrev pub is_joined : List ℕ → List ℕ → List ℕ → Bool

@@ -1,6 +1,6 @@
 use Rattle.std.proofs.Common.{◌≡◌, drop}
 use Rattle.websocket.specs.Headers.{fields_of, header_value}
-use Rattle.web_edges.proofs.request.value_of.Given as goal
+use Rattle.web_requests.proofs.request.value_of.Given as goal
 
 abbrev pub invariant-loop-span : goal.invariant-loop-span
 invariant-loop-span l =

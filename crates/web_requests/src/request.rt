@@ -2,14 +2,14 @@
 ghost use Rattle.std.specs.Prelude.{◌≡◌, ◌++◌, All, length, option_map, take};
 ghost use Rattle.httparse.specs.Spans.{IsHeaderWithin, IsRequestWithin, span_bytes};
 ghost use Rattle.websocket.specs.Headers.{eq_ignore_case, fields_of, header_value};
-ghost use Rattle.web_edges.specs.Requests.{answer_to, is_at, is_from_here, is_joined, is_own_host, is_own_page, routed};
+ghost use Rattle.web_requests.specs.Requests.{answer_to, is_at, is_from_here, is_joined, is_own_host, is_own_page, routed};
 
 use httparse::spans::{HeaderSpan, RequestSpans};
 use itoa::Buffer;
 
 /// What a request is answered by.
 #[derive(Clone, Copy, Debug, PartialEq, Eq)]
-pub(crate) enum Answer {
+pub enum Answer {
     /// A connection: lines as messages from here on.
     Socket,
     /// The page.
@@ -110,7 +110,9 @@ fn routed(method: &[u8], target: &[u8], is_handshake: bool) -> Answer
 }
 
 /// What a request to the server of that port is answered by.
-pub(crate) fn answer_to(
+///
+/// Memory: none. Cost: linear in the head.
+pub fn answer_to(
     port: u16,
     head: &[u8],
     request: &RequestSpans,

@@ -1,7 +1,7 @@
 use Rattle.std.proofs.lemmas.Bool.Decides.{same_from_decides}
 use Rattle.std.proofs.lemmas.Slice.Eq.{bytes_eq-Decides}
 use Rattle.websocket.specs.Headers.{eq_ignore_case}
-use Rattle.web_edges.proofs.request.is_alike.Goals as goal
+use Rattle.web_requests.proofs.request.is_alike.Goals as goal
 
 pub returns : goal.returns
 unfolding eq_ignore_case

@@ -50,12 +50,12 @@ module _ (u : UserInfo) (row : RuleRow) (r : Rule) (denies : Bool) (tells : ment
   asked t e d =
       let truth : truth_in (reading_row u row) r ≡ rule_truth (reading_row u row) t.formula.now = ap (λ (o : Option (Option Tree)). elim o [ None ↦ says.Fails | Some tree ↦ rule_truth (reading_row u row) tree ]) e in
       let matched : decides (reading_row u row) perm.R r ≡ is_matched u row t =
-          ap (λ (m : Bool). m && is_match perm.R r.permissions (truth_in (reading_row u row) r)) tells
-          ∙ ap (is_match perm.R r.permissions) truth
-          ∙ same_match r.permissions denies (rule_truth (reading_row u row) t.formula.now) is
-          ∙ ap (λ (b : Bool). is_test_match b (rule_truth (reading_row u row) t.formula.now)) (sym d) in
+      ap (λ (m : Bool). m && is_match perm.R r.permissions (truth_in (reading_row u row) r)) tells
+      ∙ ap (is_match perm.R r.permissions) truth
+      ∙ same_match r.permissions denies (rule_truth (reading_row u row) t.formula.now) is
+      ∙ ap (λ (b : Bool). is_test_match b (rule_truth (reading_row u row) t.formula.now)) (sym d) in
       sym (ap (λ (m : Bool). cond m (Some (allows (answer perm.R r))) None) matched
-          ∙ ap (λ (b : Bool). cond (is_matched u row t) (Some b) None) (said denies r is ∙ ap not (sym d)))
+      ∙ ap (λ (b : Bool). cond (is_matched u row t) (Some b) None) (said denies r is ∙ ap not (sym d)))
 
   -- and one that uses none decides alike of all
   pub for_all : asks_row r ≡ false → choice_says u row (choice_for_all u r denies) ≡ rule_reads (reading_row u row) r
@@ -70,9 +70,9 @@ module _ (u : UserInfo) (row : RuleRow) (r : Rule) (denies : Bool) (tells : ment
 module _ (x : Asked) (part : Part) (book : List BookRule) (place : ℕ) where
   one_alone : (b : BookRule) → option_map allows (first_answer x perm.R (b ∷ [])) ≡ rule_reads x b.rule
   one_alone b = elim (decides x perm.R b.rule) as (λ (d : Bool). option_map allows (cond d (Some (answer perm.R b.rule)) None) ≡ cond d (Some (allows (answer perm.R b.rule))) None) [
-      | true ↦ refl
-      | false ↦ refl
-    ]
+    | true ↦ refl
+    | false ↦ refl
+  ]
 
   pub none_there : slice_get book place ≡ None → reads_at x part book place ≡ None
   none_there e = cc

@@ -67,12 +67,7 @@ fn choice_of<'a>(rule: &'a Rule, user: &UserInfo) -> Choice<'a>
 }
 
 // What the rule at a place comes to, where it is of the part.
-fn choice_at<'a>(
-    book: &'a RuleBook,
-    place: usize,
-    part: Part<'_>,
-    user: &UserInfo,
-) -> Choice<'a>
+fn choice_at<'a>(book: &'a RuleBook, place: usize, part: Part<'_>, user: &UserInfo) -> Choice<'a>
     ensures { (row : RuleRow) → choice_says user.now row result
         ≡ reads_at (reading_row user.now row) (part_in part.entry) book.now place }
 {

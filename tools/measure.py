@@ -350,6 +350,26 @@ def postgres_reading(programs, count):
             server.stop()
 
 
+def audits():
+    """An audit of one user of a wide table under many rules, and one of many users under few."""
+    ids, count, many = [f"C{n}" for n in range(size(1_024))], size(1_000), size(4_096)
+    wide = [USER, OPEN, table("Wide", **dict.fromkeys(ids, "Int")),
+            *rows("_grist_ACLResources", tableId=["Wide"], colIds=["*"]),
+            *rows("_grist_ACLRules", resource=[1] * count, permissionsText=["-U"] * count,
+                  aclFormula=[f"rec.{ids[n % len(ids)]} == 1 and user.Access == EDITOR" for n in range(count)])]
+    users = [user(f"t{n}", "editors", n, "Ed") for n in range(many)]
+    with tempfile.TemporaryDirectory() as folder:
+        for name, lines in (("wide", wide), ("work", tasks(size(5_000)))):
+            run_once(lines, ("replay", "--doc", name), folder)
+        words = {name: ("audit", "--doc", name) for name in ("wide", "work")}
+        alone, one = least([], 3, words["wide"], folder)[0], least([USER], 3, words["wide"], folder)[0]
+        none, all_of_them = least([], 3, words["work"], folder)[0], least(users, 3, words["work"], folder)[0]
+    yield (f"an audit of a user of a table of {len(ids):,} columns under {count:,} rules of all of them",
+           f"{one:.2f} s ({alone:.2f} s without a user)", "2 s")
+    yield (f"an audit of {many:,} users of the tasks under 12 rules",
+           f"{all_of_them:.2f} s ({none:.2f} s without users)", "2 s")
+
+
 def generated():
     """A generated run, by its one line."""
     count = size(5_000)
@@ -359,7 +379,7 @@ def generated():
 
 WORKLOADS = {
     "adds": added_rows, "bundles": bundles, "undo": undo, "rules": rules, "formulas": formulas, "updates": updates,
-    "opening": opened, "keeping": keeping, "serving": serving, "views": views, "gen": generated,
+    "opening": opened, "keeping": keeping, "serving": serving, "views": views, "audits": audits, "gen": generated,
 }
 
 

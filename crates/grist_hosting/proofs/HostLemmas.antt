@@ -21,7 +21,7 @@ use Rattle.grist_run.specs.Words.{is_early}
 use Rattle.grist_hosting.specs.Hosting.{HasHosted, Hosts}
 use Rattle.grist_hosting.specs.HostingParts.{end_status, is_late}
 use Rattle.grist_hosting.specs.Summary.{summary_line}
-use Rattle.grist_hosting.specs.UsersAlone.{SaysUsers}
+use Rattle.users_alone.specs.UsersAlone.{SaysUsers}
 
 -- all of it is a front of it
 front_all : (b : List ℕ) (x y : Option (List ℕ)) → Appends x y b → SendsFront b x y

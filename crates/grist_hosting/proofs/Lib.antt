@@ -1,3 +1,2 @@
-mod AloneLemmas
 mod HostLemmas
 mod RunLemmas

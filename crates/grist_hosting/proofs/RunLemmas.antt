@@ -11,8 +11,8 @@ use Rattle.io_edges.specs.Ports.{PortState}
 use Rattle.io_edges.proofs.SendingLemmas.{appends_none}
 use Rattle.grist_lanes.specs.Services.{Telling}
 use Rattle.run_words.specs.declared.plans.Plan.{Plan}
-use Rattle.run_words.specs.declared.plans.Plan.TheVariants.{Gen, Replay, Serve}
-use Rattle.run_words.specs.Words.{is_replay, lanes_of, rows_of}
+use Rattle.run_words.specs.declared.plans.Plan.TheVariants.{Audit, Gen, Replay, Serve}
+use Rattle.run_words.specs.Words.{is_audit, is_replay, lanes_of, rows_of}
 use Rattle.grist_run.specs.declared.status.Status.{Status}
 use Rattle.grist_run.specs.declared.status.Status.TheVariants.{Done, Usage, BadUsers, ReadFault, WriteFault, StoreFault, NoMemory, BadStore, TurnsSpent, PortFault, HistoryFull}
 use Rattle.doc_model.specs.Document.{Document}
@@ -20,7 +20,7 @@ use Rattle.grist_run.specs.Generated.{Generates}
 use Rattle.grist_run.specs.Starting.{start_status}
 use Rattle.grist_run.proofs.ReplayLaws.{none_replays, start_keeps, usage_replays}
 use Rattle.grist_hosting.specs.Hosting.{HostsNothing, IsHosting, asks_lanes, is_done_over, is_serve}
-use Rattle.grist_hosting.specs.UsersAlone.{SaysUsers, StopsAlone}
+use Rattle.users_alone.specs.UsersAlone.{SaysUsers, StopsAlone}
 
 -- ---- which words ask for a server
 
@@ -32,21 +32,54 @@ replay_done n None e = apart (sym e)
 replay_done n (Some (Replay doc watch)) e = (refl, refl)
 replay_done n (Some (Serve lanes port conns doc watch)) e = apart (sym e)
 replay_done n (Some (Gen k)) e = apart (sym e)
+replay_done n (Some (Audit doc)) e = apart (sym e)
 
 pub serve_done : (n : ℕ) (p : Option Plan) → asks_lanes n (lanes_of p) ≡ true → (is_done_over n p ≡ true) × (is_serve p ≡ true)
 serve_done n None e = apart (sym e)
 serve_done n (Some (Replay doc watch)) e = apart (sym e)
 serve_done n (Some (Serve lanes port conns doc watch)) e = (e, refl)
 serve_done n (Some (Gen k)) e = apart (sym e)
+serve_done n (Some (Audit doc)) e = apart (sym e)
 
 some_apart : {P : Type 0} {k : ℕ} → Some k ≡ None → P
 some_apart e = let never : ⊥ = cc e in absurd never
 
-pub not_done : (n : ℕ) (p : Option Plan) → is_replay p ≡ false → rows_of p ≡ None → asks_lanes n (lanes_of p) ≡ false → is_done_over n p ≡ false
-not_done n None r g e = refl
-not_done n (Some (Replay doc watch)) r g e = apart r
-not_done n (Some (Serve lanes port conns doc watch)) r g e = e
-not_done n (Some (Gen k)) r g e = some_apart g
+pub not_done : (n : ℕ) (p : Option Plan) → is_replay p ≡ false → rows_of p ≡ None → is_audit p ≡ false → asks_lanes n (lanes_of p) ≡ false → is_done_over n p ≡ false
+not_done n None r g a e = refl
+not_done n (Some (Replay doc watch)) r g a e = apart r
+not_done n (Some (Serve lanes port conns doc watch)) r g a e = e
+not_done n (Some (Gen k)) r g a e = some_apart g
+not_done n (Some (Audit doc)) r g a e = apart a
+
+-- ---- which words ask for an audit
+
+pub audit_done : (n : ℕ) (p : Option Plan) → is_audit p ≡ true → (is_done_over n p ≡ true) × (is_serve p ≡ false) × (rows_of p ≡ None)
+audit_done n None e = apart (sym e)
+audit_done n (Some (Replay doc watch)) e = apart (sym e)
+audit_done n (Some (Serve lanes port conns doc watch)) e = apart (sym e)
+audit_done n (Some (Gen k)) e = apart (sym e)
+audit_done n (Some (Audit doc)) e = (refl, refl, refl)
+
+pub replay_no_audit : (p : Option Plan) → is_replay p ≡ true → is_audit p ≡ false
+replay_no_audit None e = refl
+replay_no_audit (Some (Replay doc watch)) e = refl
+replay_no_audit (Some (Serve lanes port conns doc watch)) e = refl
+replay_no_audit (Some (Gen k)) e = refl
+replay_no_audit (Some (Audit doc)) e = apart (sym e)
+
+pub serve_no_audit : (n : ℕ) (p : Option Plan) → asks_lanes n (lanes_of p) ≡ true → is_audit p ≡ false
+serve_no_audit n None e = refl
+serve_no_audit n (Some (Replay doc watch)) e = refl
+serve_no_audit n (Some (Serve lanes port conns doc watch)) e = refl
+serve_no_audit n (Some (Gen k)) e = refl
+serve_no_audit n (Some (Audit doc)) e = apart (sym e)
+
+pub generated_no_audit : (p : Option Plan) (k : ℕ) → rows_of p ≡ Some k → is_audit p ≡ false
+generated_no_audit None k g = refl
+generated_no_audit (Some (Replay doc watch)) k g = refl
+generated_no_audit (Some (Serve lanes port conns doc watch)) k g = refl
+generated_no_audit (Some (Gen n)) k g = refl
+generated_no_audit (Some (Audit doc)) k g = some_apart (sym g)
 
 -- ---- which words ask for a generated run
 
@@ -55,18 +88,21 @@ replay_no_rows None k e g = apart (sym e)
 replay_no_rows (Some (Replay doc watch)) k e g = some_apart (sym g)
 replay_no_rows (Some (Serve lanes port conns doc watch)) k e g = apart (sym e)
 replay_no_rows (Some (Gen n)) k e g = apart (sym e)
+replay_no_rows (Some (Audit doc)) k e g = apart (sym e)
 
 pub serve_no_rows : {P : Type 0} (n : ℕ) (p : Option Plan) (k : ℕ) → asks_lanes n (lanes_of p) ≡ true → rows_of p ≡ Some k → P
 serve_no_rows n None k e g = apart (sym e)
 serve_no_rows n (Some (Replay doc watch)) k e g = apart (sym e)
 serve_no_rows n (Some (Serve lanes port conns doc watch)) k e g = some_apart (sym g)
 serve_no_rows n (Some (Gen m)) k e g = apart (sym e)
+serve_no_rows n (Some (Audit doc)) k e g = apart (sym e)
 
 pub generated_done : (n : ℕ) (p : Option Plan) (k : ℕ) → rows_of p ≡ Some k → (is_done_over n p ≡ true) × (is_serve p ≡ false)
 generated_done n None k g = some_apart (sym g)
 generated_done n (Some (Replay doc watch)) k g = some_apart (sym g)
 generated_done n (Some (Serve lanes port conns doc watch)) k g = some_apart (sym g)
 generated_done n (Some (Gen m)) k g = (refl, refl)
+generated_done n (Some (Audit doc)) k g = some_apart (sym g)
 
 pub generated_no_replay : {P : Type 0} (p : Option Plan) (k : ℕ) → rows_of p ≡ Some k → rows_of p ≡ None → P
 generated_no_replay p k g e = some_apart (sym g ∙ e)

@@ -13,12 +13,12 @@ use Rattle.grist_lanes.specs.Handed.{EndedBy, all_handed}
 use Rattle.grist_lanes.specs.InHistory.{ServesLanes}
 use Rattle.grist_lanes.specs.Services.{Telling}
 use Rattle.run_words.specs.declared.plans.Plan.{Plan}
-use Rattle.run_words.specs.declared.plans.Plan.TheVariants.{Gen, Replay, Serve}
+use Rattle.run_words.specs.declared.plans.Plan.TheVariants.{Audit, Gen, Replay, Serve}
 use Rattle.grist_run.specs.declared.status.Status.{Status}
 use Rattle.grist_run.specs.declared.status.Status.TheVariants.{Done, Usage, BadUsers, ReadFault, WriteFault, StoreFault, NoMemory, BadStore, TurnsSpent, PortFault, HistoryFull}
 use Rattle.grist_run.specs.Replay.{KeepsRecords}
 use Rattle.grist_hosting.specs.Summary.{summary_line}
-use Rattle.grist_hosting.specs.UsersAlone.{SaysUsers, StopsAlone}
+use Rattle.users_alone.specs.UsersAlone.{SaysUsers, StopsAlone}
 
 -- a server is asked for
 abbrev pub is_serve : Option Plan → Bool
@@ -26,18 +26,21 @@ is_serve None = false
 is_serve (Some (Replay doc watch)) = false
 is_serve (Some (Serve lanes port conns doc watch)) = true
 is_serve (Some (Gen n)) = false
+is_serve (Some (Audit doc)) = false
 
 -- so many lanes are asked for
 abbrev pub asks_lanes : ℕ → Option ℕ → Bool
 asks_lanes n None = false
 asks_lanes n (Some lanes) = lanes == n
 
--- what a run over so many ports does: a replay, a generated run, or a server of as many lanes
+-- what a run over so many ports does: a replay, a generated run, a server of as many lanes, or an
+-- audit
 abbrev pub is_done_over : ℕ → Option Plan → Bool
 is_done_over ports None = false
 is_done_over ports (Some (Replay doc watch)) = true
 is_done_over ports (Some (Serve lanes port conns doc watch)) = lanes == ports
 is_done_over ports (Some (Gen n)) = true
+is_done_over ports (Some (Audit doc)) = true
 
 module _ {Conn : Type 0} (t : Telling Conn) (users : List User) (start : Document)
     (left left_new : Option (List ℕ)) (h : List Entry) (ports ports_new : List (PortState Conn))

@@ -9,7 +9,7 @@ use Rattle.grist_run.specs.declared.status.Status.{Status}
 use Rattle.grist_run.specs.declared.status.Status.TheVariants.{Done, WriteFault, NoMemory, PortFault}
 use Rattle.grist_run.specs.Replay.{KeepsRecords}
 use Rattle.grist_hosting.specs.Hosting.{Hosts}
-use Rattle.grist_hosting.specs.UsersAlone.{SaysUsers}
+use Rattle.users_alone.specs.UsersAlone.{SaysUsers}
 
 -- whatever input said the users of the core
 pub record HostsFrom {Conn : Type 0} (t : Telling Conn) (core : KeptCore) (status : Status)

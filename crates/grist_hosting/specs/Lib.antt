@@ -1,4 +1,3 @@
 pub mod Summary
-pub mod UsersAlone
 pub mod Hosting
 pub mod HostingParts

@@ -7,7 +7,8 @@ ghost use Rattle.bundle_core.specs.KeptCore.{IsKeeping};
 ghost use Rattle.grist_lanes.specs.Handed.{SomeFailed};
 ghost use Rattle.grist_lanes.specs.Services.{telling};
 ghost use Rattle.grist_lanes.specs.Sessions.{AreOfNoLane};
-ghost use Rattle.run_words.specs.Words.{lanes_of, plan_of, rows_of};
+ghost use Rattle.run_words.specs.Words.{is_audit, lanes_of, plan_of, rows_of};
+ghost use Rattle.audit_run.specs.AuditRuns.{IsAudit};
 ghost use Rattle.grist_run.specs.Generated.{IsGenerated};
 ghost use Rattle.grist_run.specs.Replay.{Replays};
 ghost use Rattle.grist_run.specs.Starting.{start_status};
@@ -16,7 +17,7 @@ ghost use Rattle.grist_hosting.specs.Hosting.{IsHosting, asks_lanes, is_done_ove
 ghost use Rattle.grist_hosting.specs.HostingParts.{HostsFrom, end_status, is_late};
 
 use crate::summary::{SUMMARY_BYTES, Summary, append_summary};
-use crate::users_alone::read_users_alone;
+use audit_run::audit_users;
 use bundle_core::{Finished, StartFault};
 use doc_keeper::Keeper;
 use grist_lanes::{NoServe, Served, ServedPorts, serve_ports};
@@ -25,21 +26,22 @@ use grist_run::{
     without_history,
 };
 use io_edges::{Failed, LineReader, Link, Outbox, Port, Sink, Source};
-use run_words::{asks_for_replay, lanes_asked, rows_asked};
+use run_words::{asks_for_audit, asks_for_replay, lanes_asked, rows_asked};
 use std::alloc::Global;
 use std::marker::Send;
 use std::sync::Wait;
 use std::thread::Threads;
+use users_alone::read_users_alone;
 use watch_box::Watcher;
 use watched_core::WatchedCore;
 
-/// Does what the words ask for: a replay of the input's lines, a generated run, or a server of as
-/// many lanes as there are ports, over the document that the keeper's records lead to.
+/// Does what the words ask for: a replay of the input's lines, a generated run, an audit, or a
+/// server of as many lanes as there are ports, over the document that the keeper's records lead to.
 ///
-/// The input of a server is user lines alone. It serves the connections of all ports at the same
-/// time, until none will come to a port or it fails, and then writes one line that tells its
-/// accepted bundles, its connections and its entries. Watchers take the stream lines of their
-/// sessions. It may wait, for connections and for turns.
+/// The input of an audit and of a server is user lines alone. A server serves the connections of
+/// all ports at the same time, until none will come to a port or it fails, and then writes one line
+/// that tells its accepted bundles, its connections and its entries. Watchers take the stream lines
+/// of their sessions. It may wait, for connections and for turns.
 /// Errors: the status says which event came first. Where a port failed it is `PortFault`, and all
 /// lanes have ended.
 /// Source: docs/PROTOCOL.md, "the program".
@@ -67,6 +69,7 @@ pub fn run<
     ensures at { result.at ≡ place_of result.status }
     ensures replay { is_serve (plan_of (map string_bytes words.now)) ≡ false
         → rows_of (plan_of (map string_bytes words.now)) ≡ None
+        → is_audit (plan_of (map string_bytes words.now)) ≡ false
         → Replays result.status (S.left input.old) (S.left input.new) result.history
         (O.written out.old) (O.written out.new) (K.records keeper) (K.records result.keeper)
         (K.failures keeper) (K.failures result.keeper) × (ports.new.items ≡ ports.old.items) }
@@ -75,6 +78,10 @@ pub fn run<
         (O.written out.old) (O.written out.new) (K.records keeper) (K.records result.keeper)
         (K.failures keeper) (K.failures result.keeper)
         × (S.left input.new ≡ S.left input.old) × (ports.new.items ≡ ports.old.items) }
+    ensures audit { is_audit (plan_of (map string_bytes words.now)) ≡ true
+        → IsAudit result.status (S.left input.old) (S.left input.new) result.history
+        (O.written out.old) (O.written out.new) (K.records keeper) (K.records result.keeper)
+        (K.failures keeper) (K.failures result.keeper) × (ports.new.items ≡ ports.old.items) }
     ensures serve { is_serve (plan_of (map string_bytes words.now)) ≡ true
         → IsHosting (telling P.Conn.left P.Conn.written P.Conn.Source.faults P.Conn.Sink.faults)
         result.status (S.left input.old) (S.left input.new) result.history
@@ -97,6 +104,8 @@ pub fn run<
         run_alone(alloc, input, out, keeper, watchers)
     } else if let Some(rows) = rows_asked(words) {
         generate(alloc, rows, out, keeper)
+    } else if asks_for_audit(words) {
+        audit_users(alloc, input, out, keeper)
     } else if asks_for_lanes(words, ports.len()) {
         host(rt, alloc, input, out, keeper, ports, watchers)
     } else {

@@ -52,6 +52,7 @@ fn outside_for(plan: Plan) -> Outside {
             conns,
         },
         Plan::Gen { n: _n } => Outside::without_ports(None, None),
+        Plan::Audit { doc } => Outside::without_ports(doc, None),
     }
 }
 

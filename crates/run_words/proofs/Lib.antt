@@ -1,4 +1,5 @@
 mod OptionLemmas
+mod AuditLemmas
 pub mod SaidOptions
 pub mod ClapLemmas
 pub mod ReplayLemmas

@@ -6,7 +6,8 @@ use Rattle.run_words.specs.declared.plans.Plan.{Plan}
 use Rattle.run_words.specs.declared.plans.Plan.TheVariants.{Gen, Serve}
 use Rattle.run_words.specs.Options.{Found, nothing_found, number_up_to, options_in}
 use Rattle.run_words.specs.ServeWords.{complete, serve_of}
-use Rattle.run_words.specs.Words.{gen_of, is_replay, plan_of, replay_in, replay_of, replay_with}
+use Rattle.run_words.specs.Words.{audit_of, audit_with, gen_of, is_replay, plan_of, replay_in, replay_of, replay_with}
+use Rattle.run_words.proofs.AuditLemmas.{audit_as, not_audit}
 
 none_then : {A : Type 0} (next : A → Option Plan) → ((a : A) → is_replay (next a) ≡ false) → (o : Option A) → is_replay (option_and_then next o) ≡ false
 none_then next none None = refl
@@ -52,11 +53,25 @@ other_command : (word : List ℕ) (options : List (List ℕ)) (command : List �
 other_command word options command other same =
     subst (λ w. false ≡ is_some (replay_in (w ∷ options))) (sym ((bytes_eq-Decides word command).0 same)) (ap (λ b. is_some (cond b (replay_of options) None)) (sym other))
 
-generated_or_replay : (b : Bool) (word : List ℕ) (options : List (List ℕ)) → bytes_eq word (codes "gen") ≡ b → is_replay (cond b (gen_of options) (replay_in (word ∷ options))) ≡ is_some (replay_in (word ∷ options))
-generated_or_replay true word options same = generated_apart options ∙ other_command word options (codes "gen") refl same
-generated_or_replay false word options same = replays_alone (word ∷ options)
+audited : (o : Option Found) → is_replay (option_and_then audit_with o) ≡ false
+audited o = none_then audit_with audited_with o
+  where
+    audited_with : (f : Found) → is_replay (audit_with f) ≡ false
+    audited_with f = by f.watch refl
+      where
+        by : (o : Option (List ℕ)) → f.watch ≡ o → is_replay (audit_with f) ≡ false
+        by None e = ap is_replay (audit_as f e)
+        by (Some name) e = ap is_replay (not_audit f name e)
 
-of_any_command : (b : Bool) (word : List ℕ) (options : List (List ℕ)) → bytes_eq word (codes "serve") ≡ b → is_replay (cond b (serve_of options) (cond (bytes_eq word (codes "gen")) (gen_of options) (replay_in (word ∷ options)))) ≡ is_some (replay_in (word ∷ options))
+audited_or_replay : (b : Bool) (word : List ℕ) (options : List (List ℕ)) → bytes_eq word (codes "audit") ≡ b → is_replay (cond b (audit_of options) (replay_in (word ∷ options))) ≡ is_some (replay_in (word ∷ options))
+audited_or_replay true word options same = audited (options_in false nothing_found options) ∙ other_command word options (codes "audit") refl same
+audited_or_replay false word options same = replays_alone (word ∷ options)
+
+generated_or_replay : (b : Bool) (word : List ℕ) (options : List (List ℕ)) → bytes_eq word (codes "gen") ≡ b → is_replay (cond b (gen_of options) (cond (bytes_eq word (codes "audit")) (audit_of options) (replay_in (word ∷ options)))) ≡ is_some (replay_in (word ∷ options))
+generated_or_replay true word options same = generated_apart options ∙ other_command word options (codes "gen") refl same
+generated_or_replay false word options same = audited_or_replay (bytes_eq word (codes "audit")) word options refl
+
+of_any_command : (b : Bool) (word : List ℕ) (options : List (List ℕ)) → bytes_eq word (codes "serve") ≡ b → is_replay (cond b (serve_of options) (cond (bytes_eq word (codes "gen")) (gen_of options) (cond (bytes_eq word (codes "audit")) (audit_of options) (replay_in (word ∷ options))))) ≡ is_some (replay_in (word ∷ options))
 of_any_command true word options same = server_apart options ∙ other_command word options (codes "serve") refl same
 of_any_command false word options same = generated_or_replay (bytes_eq word (codes "gen")) word options refl
 

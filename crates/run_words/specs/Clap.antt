@@ -4,7 +4,7 @@ use Rattle.clap.specs.Words.{App, Row, Rule, first_of, new_app, new_rule, with_r
 use Rattle.clap.specs.Simple.{on_top}
 use Rattle.clap.specs.declared.builder.action.ArgAction.TheVariants.{Set}
 use Rattle.run_words.specs.declared.plans.Plan.{Plan}
-use Rattle.run_words.specs.declared.plans.Plan.TheVariants.{Replay, Serve, Gen}
+use Rattle.run_words.specs.declared.plans.Plan.TheVariants.{Audit, Replay, Serve, Gen}
 
 -- an option with one value
 abbrev pub option_rule : List ℕ → Rule
@@ -36,9 +36,11 @@ abbrev pub doc_of : Plan → Option (List ℕ)
 doc_of (Replay doc watch) = doc
 doc_of (Serve lanes port conns doc watch) = doc
 doc_of (Gen n) = None
+doc_of (Audit doc) = doc
 
 -- the watched session that a plan names
 abbrev pub watch_of : Plan → Option (List ℕ)
 watch_of (Replay doc watch) = watch
 watch_of (Serve lanes port conns doc watch) = watch
 watch_of (Gen n) = None
+watch_of (Audit doc) = None

@@ -1,8 +1,10 @@
 //! Which words are of a form. No memory is taken.
-ghost use Rattle.std.specs.Prelude.{◌≡◌, ◌<◌, ◌≤◌, IfSome, is_some, map, string_bytes};
+ghost use Rattle.std.specs.Prelude.{◌≡◌, ◌<◌, ◌≤◌, IfSome, is_some, map, option_map, string_bytes};
 ghost use Rattle.run_words.specs.ServeWords.{serve_of};
-ghost use Rattle.run_words.specs.Words.{gen_of, is_replay, lanes_of, plan_of, replay_in, rows_of};
+ghost use Rattle.run_words.specs.Words.{audit_of, gen_of, is_audit, is_replay, lanes_of, plan_of, replay_in, rows_of};
+ghost use Rattle.run_words.specs.OptionViews.{audit_in};
 
+use crate::option_words::AuditWords;
 use crate::options::{number_up_to, options_said};
 use crate::serve_form::serve_words;
 
@@ -75,5 +77,34 @@ pub fn rows_asked(words: &[String]) -> Option<u32>
     match words {
         [word, options @ ..] if word.as_str() == "gen" => rows_behind(options),
         _ => None,
+    }
+}
+
+/// What `audit` is asked for by the words behind it.
+pub(crate) fn audit_words<'a>(options: &'a [String]) -> Option<AuditWords<'a>>
+    ensures { option_map audit_in result ≡ audit_of (map string_bytes options.entry.now) }
+{
+    match options_said(false, options) {
+        Some(found) if found.watch.is_none() => Some(AuditWords { doc: found.doc }),
+        _ => None,
+    }
+}
+
+// Whether the words behind `audit` are of its form.
+fn is_audit_form(options: &[String]) -> bool
+    ensures { result ≡ is_audit (audit_of (map string_bytes options.now)) }
+{
+    audit_words(options).is_some()
+}
+
+/// Whether the words ask for an audit.
+///
+/// Memory: none.
+pub fn asks_for_audit(words: &[String]) -> bool
+    ensures { result ≡ is_audit (plan_of (map string_bytes words.now)) }
+{
+    match words {
+        [word, options @ ..] if word.as_str() == "audit" => is_audit_form(options),
+        _ => false,
     }
 }

@@ -7,8 +7,9 @@
 //! specs/ServeWords.antt, and `Usage` exactly where they are of no form; that takes no memory.
 //! Options come in any order (specs/Options.antt). What a replay names is read by clap, which takes
 //! all its words that are of a form: it fails for want of memory alone. Whether words ask for a
-//! replay (`asks_for_replay`), for how many lanes of a server (`lanes_asked`) and for how many rows
-//! of a generated script (`rows_asked`), is told without memory.
+//! replay (`asks_for_replay`) or an audit (`asks_for_audit`), for how many lanes of a server
+//! (`lanes_asked`) and for how many rows of a generated script (`rows_asked`), is told without
+//! memory.
 //! Not promised: that memory is found.
 //! Read first: specs/Words.antt, specs/Options.antt and reading.rt, then options.rt, form.rt.
 #![tactic(auto)]
@@ -20,6 +21,6 @@ mod plans;
 mod reading;
 mod serve_form;
 
-pub use form::{asks_for_replay, lanes_asked, rows_asked};
+pub use form::{asks_for_audit, asks_for_replay, lanes_asked, rows_asked};
 pub use plans::{Plan, PlanFault};
 pub use reading::plan;

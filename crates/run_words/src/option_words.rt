@@ -26,6 +26,13 @@ pub(crate) struct Options<'a> {
     ghost few: { ForSome lanes (λ n. (0 < n) × (n ≤ 64)) },
 }
 
+/// What `audit` was asked for.
+#[derive(Clone, Copy)]
+pub(crate) struct AuditWords<'a> {
+    pub doc: Option<&'a str>,
+    ghost named: { ForSome doc (λ t. is_name t.now ≡ true) },
+}
+
 /// What `serve` was asked for.
 #[derive(Clone, Copy)]
 pub(crate) struct ServeWords<'a> {

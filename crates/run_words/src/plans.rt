@@ -21,6 +21,10 @@ pub enum Plan {
     Gen {
         n: u32,
     },
+    /// What each user of the input may learn from verdicts; the name of the kept document.
+    Audit {
+        doc: Option<Name>,
+    },
 }
 
 /// Why words give no plan.

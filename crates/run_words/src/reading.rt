@@ -9,10 +9,10 @@ ghost use Rattle.clap.specs.declared.error.kind.ErrorKind.TheVariants.{OutOfMemo
 ghost use Rattle.run_words.specs.Clap.{doc_of, found_in, option_rule, replay_app, watch_of, words_app};
 ghost use Rattle.run_words.specs.OptionViews.{HasFewLanes};
 ghost use Rattle.run_words.specs.ServeWords.{serve_of};
-ghost use Rattle.run_words.specs.Words.{gen_of, plan_of, replay_in};
+ghost use Rattle.run_words.specs.Words.{audit_of, gen_of, plan_of, replay_in};
 ghost use Rattle.run_words.specs.declared.plans.PlanFault.TheVariants.{Usage};
 
-use crate::form::{is_replay_form, rows_behind};
+use crate::form::{audit_words, is_replay_form, rows_behind};
 use crate::plans::{Plan, PlanFault};
 use crate::serve_form::serve_words;
 use cell_types::Name;
@@ -138,6 +138,21 @@ fn gen_plan(options: &[String]) -> Result<Plan, PlanFault>
     }
 }
 
+// What the words behind `audit` ask for.
+fn audit_plan(alloc: Global, options: &[String]) -> Result<Plan, PlanFault>
+    ensures ok { IfOk result (λ p. audit_of (map string_bytes options.now) ≡ Some p) }
+    ensures lanes { IfOk result HasFewLanes }
+    ensures usage { (result ≡ Err Usage) ↔ (audit_of (map string_bytes options.now) ≡ None) }
+{
+    let Some(words) = audit_words(options) else {
+        return Err(PlanFault::Usage);
+    };
+    match named(alloc, words.doc) {
+        Ok(doc) => Ok(Plan::Audit { doc }),
+        Err(_) => Err(PlanFault::NoMemory),
+    }
+}
+
 /// What the words behind the program's own name ask for.
 ///
 /// Errors: `Usage`, exactly where they are of no form; out of memory.
@@ -151,6 +166,7 @@ pub fn plan(alloc: Global, words: &[String]) -> Result<Plan, PlanFault>
     match words {
         [word, options @ ..] if word.as_str() == "serve" => serve_plan(alloc, options),
         [word, options @ ..] if word.as_str() == "gen" => gen_plan(options),
+        [word, options @ ..] if word.as_str() == "audit" => audit_plan(alloc, options),
         _ => replay_plan(alloc, words),
     }
 }

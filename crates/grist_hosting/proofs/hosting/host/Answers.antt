@@ -3,7 +3,7 @@ use Rattle.grist_lanes.specs.Services.{telling}
 use Rattle.grist_run.specs.declared.status.Status.TheVariants.{NoMemory}
 use Rattle.grist_run.specs.Starting.{start_status}
 use Rattle.grist_run.proofs.ReplayLaws.{opened_keeps}
-use Rattle.grist_hosting.specs.UsersAlone.{SaysUsers}
+use Rattle.users_alone.specs.UsersAlone.{SaysUsers}
 use Rattle.grist_hosting.proofs.HostLemmas.{port_failed}
 use Rattle.grist_hosting.proofs.RunLemmas.{heard_hosted, hosting_told, none_hosted, start_hosted}
 use Rattle.grist_hosting.proofs.hosting.host.Goals as goal

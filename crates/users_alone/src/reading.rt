@@ -1,7 +1,7 @@
 //! The users of an input in which they may stand alone.
 ghost use Rattle.std.specs.Prelude.{◌≡◌, ◌≤◌, [], IsErrOf};
 ghost use Rattle.io_edges.specs.Causes.{Rose};
-ghost use Rattle.grist_hosting.specs.UsersAlone.{HearsAlone};
+ghost use Rattle.users_alone.specs.UsersAlone.{HearsAlone};
 
 use doc_model::UserList;
 use grist_run::{Front, Status, read_users};
@@ -12,7 +12,7 @@ use std::alloc::Global;
 ///
 /// Errors: those of the reading, and `BadUsers` at the first line that is no user line or a bad
 /// one.
-pub(crate) fn read_users_alone<S: Source>(
+pub fn read_users_alone<S: Source>(
     alloc: Global,
     reader: &mut LineReader,
     input: &mut S,

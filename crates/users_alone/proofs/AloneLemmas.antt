@@ -4,7 +4,7 @@ use Rattle.doc_model.specs.declared.user.User.{User}
 use Rattle.grist_run.specs.declared.status.Status.{Status}
 use Rattle.grist_run.specs.declared.status.Status.TheVariants.{Done, Usage, BadUsers, ReadFault, WriteFault, StoreFault, NoMemory, BadStore, TurnsSpent, PortFault, HistoryFull}
 use Rattle.grist_run.specs.Hearing.{EndsHearing, EndsUsers, IsAtEndOf}
-use Rattle.grist_hosting.specs.UsersAlone.{RefusesLine, SaysUsers, StopsAlone, bad_line, said_alone}
+use Rattle.users_alone.specs.UsersAlone.{RefusesLine, SaysUsers, StopsAlone, bad_line, said_alone}
 
 module _ (l l' : Option (List ℕ)) where
   -- the users ended with the input

@@ -1,0 +1,2 @@
+pub mod AuditLines
+pub mod AuditRuns

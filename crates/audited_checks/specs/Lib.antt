@@ -1,0 +1,2 @@
+pub mod AlikeRows
+pub mod CheckLaws

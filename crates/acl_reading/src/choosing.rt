@@ -126,7 +126,8 @@ fn add_behind<'a>(
     ensures user { IfOk result (λ t. t.user.now ≡ chosen.entry.user.now) }
     ensures says { IfOk result (λ t. (row : RuleRow) → answer_of t row
         ≡ or_answer (answer_of chosen.entry row)
-        (reads_among (reading_row chosen.entry.user.now row) (part_in part.entry) book.now places.now)) }
+        (reads_among (reading_row chosen.entry.user.now row) (part_in part.entry) book.now
+        places.now)) }
 {
     match chosen.otherwise {
         Some(_) => Ok(chosen),

@@ -1,26 +1,38 @@
 #!/usr/bin/env python3
-"""Tries the edge of the built program: files that are no document of ours, ports that are done, and ends of connections.
+"""Tries the edge of the built program: files that are no document of ours, ports, ends of connections, a full pipe.
 
     python3 tools/try_edge.py PROGRAM
 
 Documents in which a record is missing, whose table has another layout, is a view, or is not there beside another
 application's, and files that are none: each has to end the run with status 6 and to stay as it was. A new document has
-small pages, is opened again, and one with SQLite's own page size is too. A port whose last connection is out refuses
-who comes later; lines behind the end of a session do not reset its connection. Its status is 1 where anything differs.
+small pages, is opened again, and one with SQLite's own page size is too; users that are not good leave no file. A port
+whose last connection is out refuses who comes later; lines behind the end of a session do not reset its connection. A
+server is watched whose standard error nobody reads, and one has too few descriptors for all of its lanes: each serves
+all of its connections. Beside a connection that is reset at its first to its fourth line another one is written byte
+for byte what it is written alone. Its status is 1 where anything differs.
 """
+import json
 import os
+import resource
 import socket
 import sqlite3
+import struct
 import subprocess
 import sys
 import tempfile
 
 from loopback import HOST, free_ports, joined
 from scripts import OPEN, USER
+from try_lanes import alone
 
 PATIENCE = 30
+OPENED = b'{"method":"openDoc","token":"ta"}\n'
+SYNC = b'{"method":"sync"}\n'
+CLOSE = b'{"method":"closeDoc"}\n'
+LONG_LINES = 12  # Of 20,000 bytes each: together more than three pipes hold.
 MAKE = "CREATE TABLE record (number INTEGER PRIMARY KEY, bytes BLOB NOT NULL) STRICT"
-ADD = '{"line":{"actions":[["AddRecord","Table1",null,{"A":%d}]],"method":"applyUserActions"},"session":"s1"}\n'
+ADD_LINE = '{"actions":[["AddRecord","Table1",null,{"A":%d}]],"method":"applyUserActions"}'
+ADD = '{"line":' + ADD_LINE + ',"session":"s1"}\n'
 
 
 def run(program, folder, script):
@@ -97,44 +109,142 @@ def small_pages(program):
     return None
 
 
+def no_file(program):
+    """What is wrong where a run ends before it has heard its users: it makes no file."""
+    with tempfile.TemporaryDirectory() as folder:
+        words = [program, "replay", "--doc", "book"]
+        ran = subprocess.run(words, input=b'{"user":1}\n', cwd=folder, capture_output=True, timeout=PATIENCE)
+        left = os.listdir(folder)
+        return None if ran.returncode == 3 and not left else f"bad users: status {ran.returncode}, and {left}"
+
+
+class Server:
+    """A server of two lanes with a connection each."""
+
+    def __init__(self, program, *words, **how):
+        self.port = free_ports(2)
+        with tempfile.TemporaryFile() as users:
+            users.write(USER.encode())
+            users.seek(0)
+            asked = [program, "serve", "--lanes", "2", "--port", str(self.port), "--conns", "1", *words]
+            self.run = subprocess.Popen(asked, stdin=users, stdout=subprocess.PIPE, **how)
+
+    def __enter__(self):
+        return self
+
+    def __exit__(self, *fault):
+        self.run.kill()
+        self.run.wait()
+        self.run.stdout.close()
+
+    def link(self, lane):
+        """A connection of a lane, and the lines that come there."""
+        link = joined(self.port + lane, PATIENCE)
+        return link, link.makefile("rb")
+
+    def status(self):
+        """How the server ends by itself."""
+        return self.run.wait(PATIENCE)
+
+
+def reply(link, line):
+    """The reply to a line: what comes behind the changes. The empty text where none comes."""
+    link[0].sendall(line)
+    while True:
+        came = link[1].readline()
+        if not came or b'"seq"' not in came:
+            return came
+
+
+def unread_error(program):
+    """What is wrong with a watched server whose standard error is a pipe that nobody reads."""
+    add = {"actions": [["AddRecord", "Table1", None, {"B": "x" * 20_000}]], "method": "applyUserActions"}
+    line = json.dumps(add).encode() + b"\n"
+    with Server(program, "--watch", "l1c1", stderr=subprocess.PIPE) as server:
+        links = [server.link(lane) for lane in (0, 1)]
+        told = [reply(link, OPENED) for link in links]
+        for _ in range(LONG_LINES):
+            told += [reply(links[0], line), reply(links[1], SYNC)]
+        for link, lines in links:
+            lines.close()
+            link.close()
+        refused = [it for it in told if b'"ok"' not in it]
+        status = server.status()
+        server.run.stderr.close()
+        return None if status == 0 and not refused else f"standard error unread: status {status}, {refused[:1]}"
+
+
+def broken_neighbour(program):
+    """What is wrong with a connection beside one that is reset behind so many of its lines."""
+    own = [OPENED, (ADD_LINE % 1).encode() + b"\n", SYNC, CLOSE]
+    for broken in range(1, 5):
+        with Server(program) as server:
+            (link, lines), (bad, bad_lines) = server.link(0), server.link(1)
+            bad.sendall((OPENED + SYNC * 20)[:len(OPENED) + len(SYNC) * (broken - 1) - 5])
+            bad.setsockopt(socket.SOL_SOCKET, socket.SO_LINGER, struct.pack("ii", 1, 0))
+            bad_lines.close()
+            bad.close()
+            link.sendall(b"".join(own))
+            told = lines.read()
+            lines.close()
+            link.close()
+            status = server.status()
+        if status != 0 or told != alone(program, *own):
+            return f"beside a connection that is reset at line {broken}: status {status}, {told[:200]}"
+    return None
+
+
+def few_descriptors(program):
+    """What is wrong with a server that has descriptors for its listeners and for one connection more."""
+    def bounded():
+        resource.setrlimit(resource.RLIMIT_NOFILE, (6, 6))
+
+    with Server(program, preexec_fn=bounded) as server:
+        told = []
+        for lane in (0, 1):
+            link, lines = server.link(lane)
+            told.append(reply((link, lines), OPENED))
+            lines.close()
+            link.close()
+        status = server.status()
+        refused = [it for it in told if b'"ok"' not in it]
+        return None if status == 0 and not refused else f"too few descriptors: status {status}, {refused[:1]}"
+
+
 def last_connection(program):
     """What is wrong with the end of a connection and of its port."""
-    port = free_ports(2)
-    with tempfile.TemporaryFile() as users:
-        users.write(USER.encode())
-        users.seek(0)
-        words = [program, "serve", "--lanes", "2", "--port", str(port), "--conns", "1"]
-        server = subprocess.Popen(words, stdin=users, stdout=subprocess.PIPE)
+    with Server(program) as server:
+        (link, lines), (other, no_lines) = server.link(0), server.link(1)
+        link.sendall(OPENED + CLOSE + SYNC * 2000)
+        told = lines.read()
+        if told.count(b"\n") != 2:
+            return f"behind the end of a session: {told.count(bytes([10]))} lines"
         try:
-            other = joined(port + 1, PATIENCE)
-            link = joined(port, PATIENCE)
-            asked = '{"method":"openDoc","token":"ta"}\n{"method":"closeDoc"}\n' + '{"method":"sync"}\n' * 2000
-            link.sendall(asked.encode())
-            told = b""
-            while more := link.recv(65536):
-                told += more
-            if told.count(b"\n") != 2:
-                return f"behind the end of a session: {told.count(bytes([10]))} lines"
-            try:
-                socket.create_connection((HOST, port), timeout=PATIENCE).close()
-                return "a port whose last connection is out takes another one"
-            except ConnectionRefusedError:
-                pass
-            other.close()
-            link.close()
-            server.communicate(timeout=PATIENCE)
-            return None if server.returncode == 0 else f"a server: status {server.returncode}"
-        except (OSError, subprocess.TimeoutExpired) as fault:
-            return f"behind the end of a session: {fault}"
-        finally:
-            server.kill()
+            socket.create_connection((HOST, server.port), timeout=PATIENCE).close()
+            return "a port whose last connection is out takes another one"
+        except ConnectionRefusedError:
+            pass
+        for end in (lines, link, no_lines, other):
+            end.close()
+        status = server.status()
+        return None if status == 0 else f"a server: status {status}"
+
+
+def fault_of(tried, program):
+    """What is wrong with what was tried; a connection that ends or stands still is."""
+    try:
+        return tried(program)
+    except (OSError, subprocess.TimeoutExpired) as fault:
+        return f"{tried.__name__}: {fault!r}"
 
 
 def main(program):
-    faults = [it for it in [*strange_documents(program), small_pages(program), last_connection(program)] if it]
+    tries = [small_pages, no_file, last_connection, broken_neighbour, unread_error, few_descriptors]
+    found = [*strange_documents(program), *(fault_of(tried, program) for tried in tries)]
+    faults = [it for it in found if it]
     for fault in faults:
         print(fault)
-    print(f"edge: 8 things were tried, {len(faults)} differ")
+    print(f"edge: {len(found)} things were tried, {len(faults)} differ")
     return 1 if faults else 0
 
 

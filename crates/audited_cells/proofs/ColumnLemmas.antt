@@ -39,13 +39,13 @@ use Rattle.audited_cells.specs.CellLaws.{IsToldColumn, TypesLaw}
 -- ---- columns that are shown
 
 -- what an id finds among them
-find_shown : (q : Readable) (c : List ℕ) (ds : List ColDef) → AreDistinct column_id ds → find_id shown_id c (shown_columns q ds) ≡ option_map (shown_column q) (keep (λ (d : ColDef). q.column d.id) (find_id column_id c ds))
+pub find_shown : (q : Readable) (c : List ℕ) (ds : List ColDef) → AreDistinct column_id ds → find_id shown_id c (shown_columns q ds) ≡ option_map (shown_column q) (keep (λ (d : ColDef). q.column d.id) (find_id column_id c ds))
 find_shown q c ds distinct =
     find-by_id shown_id c (map (shown_column q) (filter (λ (d : ColDef). q.column d.id) ds))
     ∙ find-mapped column_id shown_id (shown_column q) (λ d. refl) c (filter (λ (d : ColDef). q.column d.id) ds)
     ∙ ap (option_map (shown_column q)) (find-filtered column_id (λ (d : ColDef). q.column d.id) c ds distinct)
 
-behind_shown : (q : Readable) (o : Option ColDef) (e : ViewCol) → option_map (shown_column q) (keep (λ (d : ColDef). q.column d.id) o) ≡ Some e → (d : ColDef) × ((o ≡ Some d) × (shown_column q d ≡ e))
+pub behind_shown : (q : Readable) (o : Option ColDef) (e : ViewCol) → option_map (shown_column q) (keep (λ (d : ColDef). q.column d.id) o) ≡ Some e → (d : ColDef) × ((o ≡ Some d) × (shown_column q d ≡ e))
 behind_shown q None e h = absurd (cc)
 behind_shown q (Some d) e h =
     elim (q.column d.id) as (λ b. option_map (shown_column q) (cond b (Some d) None) ≡ Some e → (f : ColDef) × ((◌≡◌ {A = Option ColDef} (Some d) (Some f)) × (shown_column q f ≡ e))) [

@@ -1,0 +1,4 @@
+pub mod FollowingSteps
+pub mod FollowingDenials
+pub mod SchemaLemmas
+pub mod VerdictLemmas

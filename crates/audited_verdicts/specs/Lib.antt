@@ -1,0 +1,2 @@
+pub mod SchemaActionsLaw
+pub mod AuditLaw

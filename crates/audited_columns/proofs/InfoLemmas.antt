@@ -10,7 +10,6 @@ use Rattle.doc_model.specs.ByIds.{find_id}
 use Rattle.doc_model.specs.Changes.{shown_table_id}
 use Rattle.doc_model.specs.Column.{column_id, is_empty, is_short, is_sound_info, is_sound_type}
 use Rattle.doc_model.specs.Document.{Document, Table, table_id}
-use Rattle.doc_model.specs.DocumentLaws.{IsWhole}
 use Rattle.doc_model.specs.Grid.{Grid}
 use Rattle.doc_model.specs.Sound.{IsSoundGrid}
 use Rattle.doc_model.specs.ViewEdits.{shown_id}
@@ -20,7 +19,7 @@ use Rattle.acl_formula.specs.declared.permissions.Perm.TheVariants as perm
 use Rattle.acl_rules.specs.declared.decision.Ctx.{Ctx}
 use Rattle.acl_reading.specs.RulesLet.{rules_let}
 use Rattle.censored_view.specs.Readable.{Readable}
-use Rattle.censored_view.specs.View.{shown_column, shown_columns, view}
+use Rattle.censored_view.specs.View.{shown_column, view}
 use Rattle.recalc.specs.Evaluated.{filled}
 use Rattle.rule_audit.specs.declared.faults.Audit.{Audit}
 use Rattle.rule_audit.specs.declared.faults.Audit.TheVariants as fault
@@ -28,7 +27,7 @@ use Rattle.rule_audit.specs.Closed.{IsClosed, chain_fault, column_fault, columns
 use Rattle.rule_audit.specs.Open.{open_columns}
 use Rattle.rule_audit.specs.SeenLaws.{IsSeen}
 use Rattle.audited_cells.proofs.ColumnLemmas.{behind_shown, find_shown, grid_here, its_table}
-use Rattle.audited_columns.specs.ColumnLaws.{InfosLaw, IsAsShown, told_info}
+use Rattle.audited_columns.specs.ColumnLaws.{InfosLaw, told_info}
 
 -- ---- no fault of all
 

@@ -34,11 +34,11 @@ use Rattle.rule_audit.specs.SeenLaws.{IsSeen}
 use Rattle.user_actions.specs.Columns.{info_said, may_become}
 use Rattle.user_actions.specs.Kinds.{is_about_rows}
 use Rattle.user_actions.specs.Marked.{direct}
-use Rattle.user_actions.specs.Modified.{emptied, filled as refilled, modified, modified_to, same_info}
+use Rattle.user_actions.specs.Modified.{emptied, filled as refilled, modified_to, same_info}
 use Rattle.user_actions.specs.References.{led_to, referrers}
 use Rattle.user_actions.specs.ResourceSteps.{columns_moved, tables_moved}
 use Rattle.user_actions.specs.Steps.{column_ids, column_renaming, column_said, renaming, steps_of, table_ids, table_said}
-use Rattle.user_objections.specs.Objections.{against, in_schema, in_table, objection_to, on_change}
+use Rattle.user_objections.specs.Objections.{against, in_table, objection_to, on_change}
 use Rattle.rule_contexts.specs.Context.{context, view, view_in}
 use Rattle.action_limits.specs.Tallies.{after}
 use Rattle.bundle_judge.specs.declared.bare_verdict.BareVerdict.{BareVerdict}

@@ -1,5 +1,5 @@
 -- The judgement of one action in two documents.
-use Rattle.std.proofs.Common.{◌≡◌, ◌∙◌, ap, refl, ℕ, Bool, true, false, List, [], ◌∷◌, ◌++◌, Option, Some, None}
+use Rattle.std.proofs.Common.{◌≡◌, ap, refl, true, false, List, [], ◌∷◌, ◌++◌, Option, Some, None}
 use Rattle.std.proofs.lemmas.Bool.{true≢false}
 use Rattle.doc_model.specs.declared.action.Step.{Step}
 use Rattle.doc_model.specs.declared.limit.LimitKind.{LimitKind}
@@ -9,7 +9,6 @@ use Rattle.doc_model.specs.declared.user_action.UserAction.{UserAction}
 use Rattle.doc_model.specs.Counts.{over}
 use Rattle.doc_model.specs.Document.{Document}
 use Rattle.doc_model.specs.WellFormed.{is_well_formed}
-use Rattle.acl_rules.specs.declared.decision.Ctx.{Ctx}
 use Rattle.user_actions.specs.Kinds.{is_about_rows}
 use Rattle.user_actions.specs.Steps.{steps_of}
 use Rattle.user_objections.specs.Objections.{objection_to}
@@ -19,7 +18,7 @@ use Rattle.bundle_judge.specs.declared.bare_verdict.BareVerdict.{BareVerdict}
 use Rattle.bundle_judge.specs.declared.bare_verdict.BareVerdict.TheVariants.{Refused}
 use Rattle.bundle_judge.specs.declared.created.Created.{Created}
 use Rattle.bundle_judge.specs.Denials.{denial_of, or_else}
-use Rattle.bundle_judge.specs.Judgement.{Judgement, accepted, created_at, judge, opposed, opposed_at, refused}
+use Rattle.bundle_judge.specs.Judgement.{Judgement, accepted, created_at, opposed, opposed_at, refused}
 use Rattle.audited_records.specs.RecordsLaws.{RecordsLaw}
 use Rattle.audited_records.specs.SeeAlike.{SeeAlike}
 use Rattle.audited_verdicts.specs.AuditLaw.{AreAlike, AuditLaw, NoLimit}

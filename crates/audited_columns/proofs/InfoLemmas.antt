@@ -2,6 +2,7 @@
 use Rattle.std.proofs.Common.{◌≡◌, ◌∙◌, ap, refl, sym, ℕ, Bool, true, false, cond, ◌&&◌, ◌||◌, List, [], ◌∷◌, Option, Some, None, unwrap_or, arith, length, ◌≤◌}
 use Rattle.std.specs.List.{AllByRecursion}
 use Rattle.std.proofs.lemmas.Bool.{leb-true, true≢false}
+use Rattle.std.proofs.lemmas.List.{nil_from_length}
 use Rattle.doc_model.specs.declared.column.ColDef.{ColDef}
 use Rattle.doc_model.specs.declared.column.ColInfo.{ColInfo}
 use Rattle.doc_model.specs.declared.view.ViewCol.{ViewCol}
@@ -31,48 +32,46 @@ use Rattle.audited_columns.specs.ColumnLaws.{InfosLaw, told_info}
 
 -- ---- no fault of all
 
-both_none : (a b : Option Audit) → or_fault a b ≡ None → (a ≡ None) × (b ≡ None)
-both_none None b h = (refl, h)
-both_none (Some f) b h = absurd (cc)
+behind_none : (a b : Option Audit) → or_fault a b ≡ None → b ≡ None
+behind_none None b h = h
+behind_none (Some f) b h = absurd (cc)
 
 -- is none of each
 each_none : {X : Type 0} (f : X → Option Audit) (xs : List X) → first_fault f xs ≡ None → AllByRecursion (λ x. f x ≡ None) xs
 each_none f [] h = tt
 each_none f (x ∷ xs) h =
-    let two : (f x ≡ None) × (first_fault f xs ≡ None) = both_none (f x) (first_fault f xs) h in
-    (two.0, each_none f xs two.1)
+    elim (f x) as (λ (o : Option Audit). f x ≡ o → or_fault o (first_fault f xs) ≡ None → AllByRecursion (λ x. f x ≡ None) (x ∷ xs)) [
+      | None ↦ λ none h. (none, each_none f xs h)
+      | Some a ↦ λ is h. absurd (cc)
+    ] refl h
 
 no_fault : (b : Bool) (f : Audit) → cond b (Some f) None ≡ None → b ≡ false
 no_fault true f h = absurd (cc)
 no_fault false f h = refl
 
 module _ (x : Ctx) (s : Document) (v : ViewTable) (seen : IsSeen x s v) (closed : IsClosed x (view (rules_let x) s)) where
-  unfaulted : ruled_fault x (open_columns x v) v ≡ None
+  columns_closed : columns_fault x (open_columns x v) v.id v.columns ≡ None
   unfolding table_fault
-  unfaulted =
-      ap (λ b. cond b None (ruled_fault x (open_columns x v) v)) (sym seen.plain)
-      ∙ found_all shown_table_id (λ (u : ViewTable). table_fault x u ≡ None) v.id (view (rules_let x) s) v (each_none (table_fault x) (view (rules_let x) s) closed) seen.found
+  columns_closed =
+      behind_none (rows_fault x (open_columns x v) v.id) (columns_fault x (open_columns x v) v.id v.columns)
+      (ap (λ b. cond b None (ruled_fault x (open_columns x v) v)) (sym seen.plain)
+      ∙ found_all shown_table_id (λ (u : ViewTable). table_fault x u ≡ None) v.id (view (rules_let x) s) v (each_none (table_fault x) (view (rules_let x) s) closed) seen.found)
 
   -- a shown column has no formula that is hidden
   formula_shown : (c : List ℕ) (e : ViewCol) → find_id shown_id c v.columns ≡ Some e → is_hidden e ≡ false
   formula_shown c e found =
-      let columns = (both_none (rows_fault x (open_columns x v) v.id) (columns_fault x (open_columns x v) v.id v.columns) unfaulted).1 in
       let column : column_fault x (open_columns x v) v.id e ≡ None
-      = found_all shown_id (λ (d : ViewCol). column_fault x (open_columns x v) v.id d ≡ None) c v.columns e (each_none (column_fault x (open_columns x v) v.id) v.columns columns) found in
-      no_fault (is_hidden e) (fault.HiddenFormula v.id e.id) (both_none (chain_fault x perm.U (open_columns x v) v.id (Some e.id)) (formula_fault v.id e) column).1
+      = found_all shown_id (λ (d : ViewCol). column_fault x (open_columns x v) v.id d ≡ None) c v.columns e (each_none (column_fault x (open_columns x v) v.id) v.columns columns_closed) found in
+      no_fault (is_hidden e) (fault.HiddenFormula v.id e.id) (behind_none (chain_fault x perm.U (open_columns x v) v.id (Some e.id)) (formula_fault v.id e) column)
 
 -- ---- what a column is
-
-no_text : (text : List ℕ) → is_empty text ≡ true → text ≡ []
-no_text [] h = refl
-no_text (c ∷ text) h = let few : length (c ∷ text) ≤ 0 = leb-true (length (c ∷ text)) 0 h in absurd (omega arith)
 
 -- its formula, where it is shown, or the column has none
 formula_told : (is_formula shown : Bool) (text : List ℕ) → (is_formula && elim (cond shown (Some text) None) as (λ (o : Option (List ℕ)). Bool) [ None ↦ true | Some t ↦ false ]) ≡ false
     → (is_formula || is_empty text) ≡ true → text ≡ cond is_formula (unwrap_or (cond shown (Some text) None) []) []
 formula_told true true text h k = refl
 formula_told true false text h k = absurd (true≢false h)
-formula_told false shown text h k = no_text text k
+formula_told false shown text h k = let few : length text ≤ 0 = leb-true (length text) 0 k in nil_from_length text (omega (arith, few))
 
 info_told : (q : Readable) (d : ColDef) → is_hidden (shown_column q d) ≡ false → is_sound_info d.info ≡ true → d.info ≡ told_info (shown_column q d)
 info_told q d shown sound =

@@ -1,5 +1,5 @@
 -- What rules say of actions on records, in documents that look alike.
-use Rattle.std.proofs.Common.{◌≡◌, ◌∙◌, ap, refl, sym, ℕ, ℤ, Bool, true, false, ◌&&◌, List, [], ◌∷◌, map, length, Option, Some, None}
+use Rattle.std.proofs.Common.{◌≡◌, ◌∙◌, ap, refl, sym, ℕ, true, false, List, [], ◌∷◌, map, length, Option, Some, None}
 use Rattle.std.proofs.lemmas.Bool.{and_parts}
 use Rattle.doc_model.specs.declared.action.DocAction.{DocAction}
 use Rattle.doc_model.specs.declared.action.DocAction.TheVariants.{BulkRemove}
@@ -9,9 +9,8 @@ use Rattle.doc_model.specs.declared.refusal.Refusal.TheVariants as refusal
 use Rattle.doc_model.specs.declared.user.User.{User}
 use Rattle.doc_model.specs.declared.user_action.UserAction.{UserAction}
 use Rattle.doc_model.specs.declared.user_action.UserAction.TheVariants.{Add, Update, Remove, AddTable, RemoveTable, RenameTable, AddColumn, RemoveColumn, RenameColumn, ModifyColumn}
-use Rattle.doc_model.specs.declared.user_action.UserColumn.{UserColumn}
 use Rattle.doc_model.specs.declared.view.ViewTable.{ViewTable}
-use Rattle.doc_model.specs.Apply.{all_valid, apply}
+use Rattle.doc_model.specs.Apply.{all_valid}
 use Rattle.doc_model.specs.Counts.{over}
 use Rattle.doc_model.specs.Document.{Document}
 use Rattle.doc_model.specs.DocumentLaws.{IsWhole}
@@ -19,7 +18,6 @@ use Rattle.doc_model.specs.Valid.{valid}
 use Rattle.doc_model.specs.ViewEdits.{if_any}
 use Rattle.doc_model.specs.WellFormed.{has_whole_columns, is_well_formed}
 use Rattle.doc_model.proofs.WellFormedLaws.{has_whole_columns-is_well_formed}
-use Rattle.doc_readers.specs.Parts.{grid_at}
 use Rattle.acl_rules.specs.declared.decision.Ctx.{Ctx}
 use Rattle.acl_checks.specs.Denials.{first_denied}
 use Rattle.acl_reading.specs.RulesLet.{rules_let}
@@ -34,11 +32,10 @@ use Rattle.user_actions.specs.StepLaws.{action_of}
 use Rattle.user_actions.specs.Steps.{row_ids, steps_of}
 use Rattle.user_actions.proofs.StepsValid.{all_valid-steps_of}
 use Rattle.user_objections.specs.Objections.{against, objection_to, on_columns, on_rules, on_values, to_records}
-use Rattle.rule_contexts.specs.Context.{context, view, view_in}
+use Rattle.rule_contexts.specs.Context.{context, view_in}
 use Rattle.rule_contexts.specs.SeenLaws.{AllowedLaw}
 use Rattle.bundle_judge.specs.Denials.{denial_of, denied_by}
-use Rattle.bundle_judge.specs.Judgement.{opposed, opposed_at}
-use Rattle.bundle_judge.specs.declared.bare_verdict.BareVerdict.{BareVerdict}
+use Rattle.bundle_judge.specs.Judgement.{opposed}
 use Rattle.audited_cells.specs.CellLaws.{added, written}
 use Rattle.audited_records.specs.RecordsLaws.{RecordsLaw}
 use Rattle.audited_records.specs.SeeAlike.{SeeAlike}

@@ -126,10 +126,10 @@ look_alike user s t h = record {
 }
 
 pub records_same : AllowedLaw → RecordsLaw
-records_same law user s t a h about formed opposed opposed_too =
+records_same law user s t a h about formed unopposed unopposed_too =
     let x : Ctx = context user s in
     let alike : LookAlike x s t = look_alike user s t h in
-    let none : objection_to (view_in x s) a ≡ None = none_shown 0 (objection_to (view_in x s) a) (over (after s a)) opposed in
+    let none : objection_to (view_in x s) a ≡ None = none_shown 0 (objection_to (view_in x s) a) (over (after s a)) unopposed in
     let none_too : objection_to (view_in x t) a ≡ None = ap (λ v. objection_to v a) (sym alike.views) ∙ none in
     by_action x s t 0 alike a about none
     (steps_valid s a h.whole (law x s a h.whole none) about formed)

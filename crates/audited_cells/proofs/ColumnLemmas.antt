@@ -34,7 +34,7 @@ use Rattle.rule_audit.specs.Open.{is_open, open_columns}
 use Rattle.rule_audit.specs.Reached.{is_column_safe, is_given}
 use Rattle.rule_audit.specs.SeenLaws.{IsSeen}
 use Rattle.audited_checks.proofs.AlikeLemmas.{among_open}
-use Rattle.audited_cells.specs.CellLaws.{IsToldColumn, TypesLaw}
+use Rattle.audited_cells.specs.CellLaws.{TypesLaw}
 
 -- ---- columns that are shown
 

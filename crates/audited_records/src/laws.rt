@@ -2,7 +2,11 @@
 
 ghost use Rattle.audited_records.specs.RecordsLaws.{RecordsLaw};
 
+use rule_contexts::seen_law;
+
 /// Of a closed user the verdict of rules on an action on records rests on the view alone.
 pub fn records_law()
     ensures { RecordsLaw }
-{}
+{
+    seen_law();
+}

@@ -113,7 +113,7 @@ module _ (x : Ctx) (s t : Document) (i : ℕ) (alike : LookAlike x s t) where
 -- ---- documents that show a user the same
 
 -- nothing in the view stands against it
-none_shown : (i : ℕ) (o : Option Refusal) (kind : Option LimitKind) → opposed i o kind ≡ None → o ≡ None
+pub none_shown : (i : ℕ) (o : Option Refusal) (kind : Option LimitKind) → opposed i o kind ≡ None → o ≡ None
 none_shown i None kind h = refl
 none_shown i (Some this) kind h = absurd (cc)
 

@@ -34,7 +34,7 @@ use Rattle.audited_checks.specs.CheckLaws.{AreShown, AreShownColumns, ShowAlike}
 -- ---- tables
 
 -- a table that is shown of a whole document
-seen_table : (x : Ctx) (s : Document) → IsWhole s → (table : List ℕ) (v : ViewTable) → is_metadata_id table ≡ false → find_id shown_table_id table (view (rules_let x) (filled s)) ≡ Some v → IsSeen x (filled s) v
+pub seen_table : (x : Ctx) (s : Document) → IsWhole s → (table : List ℕ) (v : ViewTable) → is_metadata_id table ≡ false → find_id shown_table_id table (view (rules_let x) (filled s)) ≡ Some v → IsSeen x (filled s) v
 seen_table x s whole table v apart there =
     let name : v.id ≡ table = found_id shown_table_id table (view (rules_let x) (filled s)) v there in
     record {
@@ -63,7 +63,7 @@ none_of_own table schema acl = ap (λ b. b || is_acl_id table) schema ∙ acl
 
 -- ---- objections that do not apply
 
-applies_not : (b : Bool) (this : Refusal) (next : Option Refusal) → against b this next ≡ None → (b ≡ false) × (next ≡ None)
+pub applies_not : (b : Bool) (this : Refusal) (next : Option Refusal) → against b this next ≡ None → (b ≡ false) × (next ≡ None)
 applies_not true this next h = absurd (cc)
 applies_not false this next h = (refl, h)
 

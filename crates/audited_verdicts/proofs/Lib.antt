@@ -1,4 +1,4 @@
 pub mod FollowingSteps
-pub mod FollowingDenials
+pub mod LaterDenials
 pub mod SchemaLemmas
 pub mod VerdictLemmas

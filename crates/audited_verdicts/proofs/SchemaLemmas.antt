@@ -1,11 +1,11 @@
 -- What rules say of an action on tables or columns, by what the view tells.
-use Rattle.std.proofs.Common.{◌≡◌, ◌∙◌, ap, refl, subst, sym, ℕ, Bool, true, false, cond, not, List, [], ◌∷◌, ◌++◌, map, Option, Some, None, bytes_eq}
+use Rattle.std.proofs.Common.{◌≡◌, ◌∙◌, ap, refl, subst, sym, ℕ, true, false, cond, not, List, [], ◌∷◌, ◌++◌, map, Option, Some, None, bytes_eq}
+use Rattle.std.specs.List.{list_any}
 use Rattle.cell_types.specs.declared.column_type.ColType.TheVariants as type
 use Rattle.doc_model.specs.declared.action.DocAction.TheVariants as action
 use Rattle.doc_model.specs.declared.action.Step.{Step}
 use Rattle.doc_model.specs.declared.column.ColDef.{ColDef}
 use Rattle.doc_model.specs.declared.column.ColInfo.{ColInfo}
-use Rattle.doc_model.specs.declared.limit.LimitKind.{LimitKind}
 use Rattle.doc_model.specs.declared.refusal.Refusal.{Refusal}
 use Rattle.doc_model.specs.declared.refusal.Refusal.TheVariants as refusal
 use Rattle.doc_model.specs.declared.user_action.UserAction.{UserAction}
@@ -25,7 +25,6 @@ use Rattle.doc_model.specs.ViewEdits.{shown_id}
 use Rattle.doc_model.proofs.ByIdsLaws.{found_id}
 use Rattle.doc_readers.specs.Parts.{grid_at}
 use Rattle.recalc.specs.Evaluated.{filled}
-use Rattle.recalc.proofs.FilledLaws.{laid_out_law}
 use Rattle.acl_rules.specs.declared.decision.Ctx.{Ctx}
 use Rattle.acl_checks.specs.Checks.{schema_check}
 use Rattle.name_rules.specs.FreeName.{free_name}
@@ -42,12 +41,15 @@ use Rattle.user_objections.specs.Objections.{against, in_table, objection_to, on
 use Rattle.rule_contexts.specs.Context.{context, view, view_in}
 use Rattle.action_limits.specs.Tallies.{after}
 use Rattle.bundle_judge.specs.declared.bare_verdict.BareVerdict.{BareVerdict}
+use Rattle.bundle_judge.specs.CarriedContexts.{renames}
 use Rattle.bundle_judge.specs.Denials.{denial_of}
-use Rattle.bundle_judge.specs.Judgement.{opposed}
+use Rattle.bundle_judge.proofs.CarriedLemmas.{no_renames}
 use Rattle.audited_columns.specs.ColumnLaws.{InfosLaw, IsAsShown, told_info}
+use Rattle.audited_records.proofs.ActionLemmas.{none_shown}
+use Rattle.audited_records.proofs.ShownLemmas.{applies_not, seen_table}
 use Rattle.audited_verdicts.specs.SchemaActionsLaw.{SchemaActionsLaw}
-use Rattle.audited_verdicts.proofs.FollowingDenials.{denial_for, first_asked, later_asked}
 use Rattle.audited_verdicts.proofs.FollowingSteps.{columns_follow, emptied_follows, filled_follows, tables_follow}
+use Rattle.audited_verdicts.proofs.LaterDenials.{denial_for, first_asked, later_asked}
 
 -- ---- what is said of a column in a view
 
@@ -83,14 +85,10 @@ table_shown v table rest h =
       | Some t ↦ λ h. (t, (refl, h))
     ] h
 
-unopposed_plain : (b : Bool) (next : Option Refusal) → against b refusal.MetaTable next ≡ None → (b ≡ false) × (next ≡ None)
-unopposed_plain true next h = absurd (cc)
-unopposed_plain false next h = (refl, h)
-
 -- where nothing stands against its change
 changed_shown : (v : List ViewTable) (table : List ℕ) (c : UserCol) → objection_to v (user.ModifyColumn table c) ≡ None → IsColumnShown v table c.id
 changed_shown v table c h =
-    let parts = unopposed_plain (is_metadata_id table) (in_table v table (λ t. on_change t c)) h in
+    let parts = applies_not (is_metadata_id table) refusal.MetaTable (in_table v table (λ t. on_change t c)) h in
     let there = table_shown v table (λ t. on_change t c) parts.1 in
     let column = column_shown there.0 c there.1.1 in
     record { plain = parts.0; shown = there.0; found = there.1.0; column = column.0; there = column.1 }
@@ -140,19 +138,22 @@ module _ (x : Ctx) (s : Document) (i : ℕ) where
       ]
 
   -- a column that becomes what is said
-  becomes : (table : List ℕ) (g : Grid ColDef) (d : ColDef) (info : ColInfo) → denial_of x s i (modified_to table g d info) ≡ cond (same_info d.info info) None (denial_for x i (schema_check (Some table) (Some d.id)))
-  becomes table g d info =
+  becomes : (table : List ℕ) (g : Grid ColDef) (d : ColDef) (info : ColInfo) → list_any renames (modified_to table g d info) ≡ false
+      → denial_of x s i (modified_to table g d info) ≡ cond (same_info d.info info) None (denial_for x i (schema_check (Some table) (Some d.id)))
+  becomes table g d info stay =
       let front : List Step = emptied table g d info in
       let rear : List Step = refilled table g d info in
-      elim (same_info d.info info) as (λ b. denial_of x s i (cond b [] ((front ++ direct (action.ModifyColumn table d.id info) ∷ []) ++ rear)) ≡ cond b None (denial_for x i (schema_check (Some table) (Some d.id)))) [
-        | true ↦ refl
-        | false ↦ later_asked (action.ModifyColumn table d.id info) (schema_check (Some table) (Some d.id)) (λ u w. refl) x s i front rear (emptied_follows table g d info) (filled_follows table g d info)
-      ]
+      let steps : List Step = (front ++ direct (action.ModifyColumn table d.id info) ∷ []) ++ rear in
+      elim (same_info d.info info) as (λ b. list_any renames (cond b [] steps) ≡ false → denial_of x s i (cond b [] steps) ≡ cond b None (denial_for x i (schema_check (Some table) (Some d.id)))) [
+        | true ↦ λ stay. refl
+        | false ↦ λ stay. later_asked (action.ModifyColumn table d.id info) (schema_check (Some table) (Some d.id)) (λ u w. refl) x s i front rear stay (emptied_follows table g d info) (filled_follows table g d info)
+      ] stay
 
   column_changed : (table : List ℕ) (c : UserCol) (d : ColDef) → find_id column_id c.id (grid_at s table).columns ≡ Some d → denial_of x s i (steps_of s (user.ModifyColumn table c)) ≡ change_said x i table c d.info
   column_changed table c d found =
-      ap (λ (o : Option ColDef). denial_of x s i (elim o as (λ _. List Step) [ None ↦ [] | Some e ↦ modified_to table (grid_at s table) e (info_said e.info c) ])) found
-      ∙ becomes table (grid_at s table) d (info_said d.info c)
+      let steps : Option ColDef → List Step = λ o. elim o as (λ _. List Step) [ None ↦ [] | Some e ↦ modified_to table (grid_at s table) e (info_said e.info c) ] in
+      ap (λ o. denial_of x s i (steps o)) found
+      ∙ becomes table (grid_at s table) d (info_said d.info c) (sym (ap (λ o. list_any renames (steps o)) found) ∙ no_renames s (user.ModifyColumn table c) refl)
       ∙ ap (λ n. cond (same_info d.info (info_said d.info c)) None (denial_for x i (schema_check (Some table) (Some n)))) (found_id column_id c.id (grid_at s table).columns d found)
 
 module _ (law : InfosLaw) (x : Ctx) (s : Document) (whole : IsWhole s) (closed : IsClosed x (view_in x s)) where
@@ -161,11 +162,7 @@ module _ (law : InfosLaw) (x : Ctx) (s : Document) (whole : IsWhole s) (closed :
   change_told i table c none =
       let here : IsColumnShown (view_in x s) table c.id = changed_shown (view_in x s) table c none in
       let named : here.shown.id ≡ table = found_id shown_table_id table (view_in x s) here.shown here.found in
-      let seen : IsSeen x (filled s) here.shown = record {
-        laid_out = laid_out_law s whole;
-        plain = ap is_metadata_id named ∙ here.plain;
-        found = ap (λ n. find_id shown_table_id n (view_in x s)) named ∙ here.found;
-      } in
+      let seen : IsSeen x (filled s) here.shown = seen_table x s whole table here.shown here.plain here.found in
       let own : IsAsShown s here.shown c.id here.column = law x s here.shown c.id here.column whole seen closed here.there in
       column_changed x s i table c own.column (ap (λ n. find_id column_id c.id (grid_at s n).columns) (sym named) ∙ own.there)
       ∙ ap (change_said x i table c) (own.told ∙ told_there (view_in x s) table c.id here)
@@ -174,26 +171,22 @@ module _ (law : InfosLaw) (x : Ctx) (s : Document) (whole : IsWhole s) (closed :
   schema_told i (user.Add table single count has_row_ids ks) h none = absurd (cc)
   schema_told i (user.Update table single rows ks) h none = absurd (cc)
   schema_told i (user.Remove table single rows) h none = absurd (cc)
-  schema_told i (user.AddTable table cs) h none = first_asked (table_said s table cs) (schema_check None None) (λ u w. refl) x s i [] tt
-  schema_told i (user.RemoveTable table) h none = first_asked (action.RemoveTable table) (schema_check (Some table) None) (λ u w. refl) x s i [] tt
+  schema_told i (user.AddTable table cs) h none = first_asked (table_said s table cs) (schema_check None None) (λ u w. refl) x s i [] refl
+  schema_told i (user.RemoveTable table) h none = first_asked (action.RemoveTable table) (schema_check (Some table) None) (λ u w. refl) x s i [] refl
   schema_told i (user.RenameTable table new) h none = table_renamed x s i table new
-  schema_told i (user.AddColumn table c) h none = first_asked (action.AddColumn table (column_said s table c)) (schema_check (Some table) None) (λ u w. refl) x s i [] tt
-  schema_told i (user.RemoveColumn table column) h none = first_asked (action.RemoveColumn table column) (schema_check (Some table) (Some column)) (λ u w. refl) x s i [] tt
+  schema_told i (user.AddColumn table c) h none = first_asked (action.AddColumn table (column_said s table c)) (schema_check (Some table) None) (λ u w. refl) x s i [] refl
+  schema_told i (user.RemoveColumn table column) h none = first_asked (action.RemoveColumn table column) (schema_check (Some table) (Some column)) (λ u w. refl) x s i [] refl
   schema_told i (user.RenameColumn table column new) h none = column_renamed x s i table column new
   schema_told i (user.ModifyColumn table c) h none = change_told i table c none
 
 -- ---- in two
-
-unopposed : (i : ℕ) (o : Option Refusal) (kind : Option LimitKind) → opposed i o kind ≡ None → o ≡ None
-unopposed i None kind h = refl
-unopposed i (Some this) kind h = absurd (cc)
 
 pub schema_actions_same : InfosLaw → SchemaActionsLaw
 schema_actions_same law u s t a like plain un_s un_t =
     let x : Ctx = context u s in
     let y : Ctx = context u t in
     let closed : IsClosed y (view u t) = subst (λ z. IsClosed z (view u t)) like.contexts (subst (λ v. IsClosed x v) like.views like.closed) in
-    schema_told law x s like.whole like.closed 0 a plain (unopposed 0 (objection_to (view u s) a) (over (after s a)) un_s)
+    schema_told law x s like.whole like.closed 0 a plain (none_shown 0 (objection_to (view u s) a) (over (after s a)) un_s)
     ∙ ap (λ z. said z 0 (view u s) a) like.contexts
     ∙ ap (λ v. said y 0 v a) like.views
-    ∙ sym (schema_told law y t like.other closed 0 a plain (unopposed 0 (objection_to (view u t) a) (over (after t a)) un_t))
+    ∙ sym (schema_told law y t like.other closed 0 a plain (none_shown 0 (objection_to (view u t) a) (over (after t a)) un_t))

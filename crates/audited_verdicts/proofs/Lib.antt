@@ -1,3 +1,4 @@
+pub mod ClosedAnswer
 pub mod FollowingSteps
 pub mod LaterDenials
 pub mod SchemaLemmas

@@ -1,2 +1,3 @@
 pub mod SchemaActionsLaw
+pub mod ClosedLaw
 pub mod AuditLaw

@@ -2,9 +2,9 @@
 //!
 //! Stands on `bundle_judge` (judgements), `rule_contexts` (contexts and views), `audited_records`
 //! (actions on records), `audited_columns` (what columns are), `rule_audit` (audits), `acl_checks`,
-//! `acl_rules`, `acl_formula`, `user_actions` (steps), `user_objections`, `action_limits`, `recalc`,
-//! `renamed_resources`, `name_rules`, `doc_readers`, `doc_model` and `cell_types`. No program calls
-//! it.
+//! `acl_rules`, `acl_formula`, `user_actions` (steps), `user_objections`, `action_limits`,
+//! `recalc`, `renamed_resources`, `name_rules`, `doc_readers`, `doc_model` and `cell_types`. No
+//! program calls it.
 //!
 //! Promises: `audit_law`: where an audit says `Closed`, and two whole documents show the user the
 //! same under the same rules, a bundle of one action is accepted in both, or refused in both with

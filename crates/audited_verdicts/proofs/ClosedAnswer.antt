@@ -1,5 +1,6 @@
 -- No fault is called `Closed`.
-use Rattle.std.proofs.Common.{◌≡◌, ⊤, ap, refl, subst, ℕ, true, false, cond, List, [], ◌∷◌, Option, Some, None}
+use Rattle.std.proofs.Common.{◌≡◌, ap, refl, subst, ℕ, true, false, cond, List, [], ◌∷◌, Option, Some, None}
+use Rattle.std.specs.Bool.{⊤}
 use Rattle.doc_model.specs.declared.view.ViewCol.{ViewCol}
 use Rattle.doc_model.specs.declared.view.ViewTable.{ViewTable}
 use Rattle.doc_model.specs.MetadataIds.{is_metadata_id}

@@ -1,5 +1,6 @@
 -- What rules come to for all rows, and tests one behind another.
-use Rattle.std.proofs.Common.{◌≡◌, ◌∙◌, ap, refl, sym, ℕ, Bool, true, false, not, cond, ◌&&◌, List, [], ◌∷◌, ◌++◌, Option, Some, None, option_map, unwrap_or}
+use Rattle.std.proofs.Common.{◌≡◌, ◌∙◌, ap, refl, sym, ℕ, ◌+◌, ◌<◌, Bool, true, false, not, cond, ◌&&◌, drop, get_or, length, List, [], ◌∷◌, ◌++◌, Option, Some, None, option_map, unwrap_or}
+use Rattle.std.proofs.lemmas.List.{at_drop_more}
 use Rattle.std.specs.List.{slice_get}
 use Rattle.formula_parse.specs.Tree.{Tree}
 use Rattle.acl_formula.specs.Asked.{Asked}
@@ -12,19 +13,20 @@ use Rattle.acl_formula.specs.declared.truth.RuleTruth.{RuleTruth}
 use Rattle.acl_formula.specs.declared.truth.RuleTruth.TheVariants as says
 use Rattle.acl_formula.specs.declared.user_info.UserInfo.{UserInfo}
 use Rattle.acl_rules.specs.declared.decision.Ctx.{Ctx}
-use Rattle.acl_rules.specs.declared.decision.Decision.{Decision}
 use Rattle.acl_rules.specs.declared.decision.Decision.TheVariants as decision
 use Rattle.acl_rules.specs.declared.rule.Rule.{Rule}
-use Rattle.acl_rules.specs.Chain.{Part, chain_of, is_of, of_document, of_table, rules_of}
-use Rattle.acl_rules.specs.Decided.{answer, decides, decision_in, first_answer, is_match, mentions, truth_in}
+use Rattle.acl_rules.specs.Chain.{Part, is_of, of_document, of_table, rules_of}
+use Rattle.acl_rules.specs.Decided.{answer, decides, first_answer, is_match, mentions, truth_in}
 use Rattle.acl_rules.specs.Places.{picked}
 use Rattle.acl_rules.specs.RuleBook.{BookRule}
 use Rattle.censored_view.specs.declared.row_tests.RowTest.{RowTest}
 use Rattle.censored_view.specs.RowTests.{is_match as is_test_match, is_matched, or_answer, tests_say}
+use Rattle.acl_reading.specs.declared.choosing.Choice.{Choice}
+use Rattle.acl_reading.specs.declared.choosing.Choice.TheVariants as kind
 use Rattle.acl_reading.specs.Choosing.{choice_for_all, choice_says, rule_reads}
 use Rattle.acl_reading.specs.Shown.{is_cell_shown, reading_row}
 use Rattle.acl_reading.specs.Walk.{allows, asks_row, built_in_shows, without_row}
-use Rattle.acl_reading.specs.Walking.{reads_at}
+use Rattle.acl_reading.specs.Walking.{or_end, reads_among, reads_at}
 use Rattle.acl_reading.proofs.HiddenLemmas.{decides_same}
 use Rattle.acl_reading.proofs.WalkLemmas.{behind_all, read_before}
 
@@ -50,12 +52,12 @@ module _ (u : UserInfo) (row : RuleRow) (r : Rule) (denies : Bool) (tells : ment
   asked t e d =
       let truth : truth_in (reading_row u row) r ≡ rule_truth (reading_row u row) t.formula.now = ap (λ (o : Option (Option Tree)). elim o [ None ↦ says.Fails | Some tree ↦ rule_truth (reading_row u row) tree ]) e in
       let matched : decides (reading_row u row) perm.R r ≡ is_matched u row t =
-          ap (λ (m : Bool). m && is_match perm.R r.permissions (truth_in (reading_row u row) r)) tells
-          ∙ ap (is_match perm.R r.permissions) truth
-          ∙ same_match r.permissions denies (rule_truth (reading_row u row) t.formula.now) is
-          ∙ ap (λ (b : Bool). is_test_match b (rule_truth (reading_row u row) t.formula.now)) (sym d) in
+      ap (λ (m : Bool). m && is_match perm.R r.permissions (truth_in (reading_row u row) r)) tells
+      ∙ ap (is_match perm.R r.permissions) truth
+      ∙ same_match r.permissions denies (rule_truth (reading_row u row) t.formula.now) is
+      ∙ ap (λ (b : Bool). is_test_match b (rule_truth (reading_row u row) t.formula.now)) (sym d) in
       sym (ap (λ (m : Bool). cond m (Some (allows (answer perm.R r))) None) matched
-          ∙ ap (λ (b : Bool). cond (is_matched u row t) (Some b) None) (said denies r is ∙ ap not (sym d)))
+      ∙ ap (λ (b : Bool). cond (is_matched u row t) (Some b) None) (said denies r is ∙ ap not (sym d)))
 
   -- and one that uses none decides alike of all
   pub for_all : asks_row r ≡ false → choice_says u row (choice_for_all u r denies) ≡ rule_reads (reading_row u row) r
@@ -70,9 +72,9 @@ module _ (u : UserInfo) (row : RuleRow) (r : Rule) (denies : Bool) (tells : ment
 module _ (x : Asked) (part : Part) (book : List BookRule) (place : ℕ) where
   one_alone : (b : BookRule) → option_map allows (first_answer x perm.R (b ∷ [])) ≡ rule_reads x b.rule
   one_alone b = elim (decides x perm.R b.rule) as (λ (d : Bool). option_map allows (cond d (Some (answer perm.R b.rule)) None) ≡ cond d (Some (allows (answer perm.R b.rule))) None) [
-      | true ↦ refl
-      | false ↦ refl
-    ]
+    | true ↦ refl
+    | false ↦ refl
+  ]
 
   pub none_there : slice_get book place ≡ None → reads_at x part book place ≡ None
   none_there e = cc
@@ -102,6 +104,33 @@ tests_append u row (t ∷ ts) vs =
       | true ↦ refl
       | false ↦ tests_append u row ts vs
     ]
+
+or_alike : (o q : Option Bool) → or_end o q ≡ or_answer o q
+or_alike None q = refl
+or_alike (Some b) q = refl
+
+module _ (u : UserInfo) (row : RuleRow) (ts now : List RowTest) (choice : Choice) where
+  -- what a choice adds
+  pub passed_on : choice ≡ kind.Passed → now ≡ ts → tests_say u row now ≡ or_answer (tests_say u row ts) (choice_says u row choice)
+  passed_on is same = ap (tests_say u row) same ∙ sym (or_none (tests_say u row ts)) ∙ ap (λ c. or_answer (tests_say u row ts) (choice_says u row c)) (sym is)
+
+  pub one_asked : (t : RowTest) → choice ≡ kind.Asks t → now ≡ ts ++ t ∷ [] → tests_say u row now ≡ or_answer (tests_say u row ts) (choice_says u row choice)
+  one_asked t is more = ap (tests_say u row) more ∙ tests_append u row ts (t ∷ []) ∙ ap (λ c. or_answer (tests_say u row ts) (choice_says u row c)) (sym is)
+
+  -- one place more
+  pub with_place : (part : Part) (book : List BookRule) (places : List ℕ) (i : ℕ) (total : Option Bool) → i < length places
+      → choice_says u row choice ≡ reads_at (reading_row u row) part book (get_or places i 0)
+      → tests_say u row now ≡ or_answer (tests_say u row ts) (choice_says u row choice)
+      → or_answer (tests_say u row ts) (reads_among (reading_row u row) part book (drop i places)) ≡ total
+      → or_answer (tests_say u row now) (reads_among (reading_row u row) part book (drop (i + 1) places)) ≡ total
+  with_place part book places i total lt says grown so_far =
+      let x = reading_row u row in
+      let rest = reads_among x part book (drop (i + 1) places) in
+      let here = reads_at x part book (get_or places i 0) in
+      ap (λ o. or_answer o rest) (grown ∙ ap (or_answer (tests_say u row ts)) says)
+      ∙ or_append (tests_say u row ts) here rest
+      ∙ ap (or_answer (tests_say u row ts)) (sym (or_alike here rest) ∙ sym (at_drop_more (reads_among x part book) places i 0 lt))
+      ∙ so_far
 
 -- an answer for all rows goes before whatever is behind
 pub or_all : (o q : Option Bool) (b : Bool) → or_answer (or_answer o (Some b)) q ≡ or_answer o (Some b)

@@ -1,5 +1,5 @@
 -- What rules come to before any row is seen.
-use Rattle.std.specs.Prelude.{Bool, not, cond, List, [], ◌∷◌, Option, Some, None}
+use Rattle.std.specs.Prelude.{Bool, not, cond, [], ◌∷◌, Option, Some, None}
 use Rattle.acl_formula.specs.Asked.{Asked}
 use Rattle.acl_formula.specs.RuleRow.{RuleRow}
 use Rattle.acl_formula.specs.declared.permissions.Perm.TheVariants as perm

@@ -4,13 +4,15 @@
 
 ghost use Rattle.std.specs.Prelude.{◌≡◌, None, Some, false, IfOk, MatchOption, option_map, unwrap_or};
 ghost use Rattle.acl_formula.specs.RuleRow.{RuleRow};
-ghost use Rattle.acl_rules.specs.Chain.{part_in};
+ghost use Rattle.acl_formula.specs.declared.permissions.Perm.TheVariants as perm;
+ghost use Rattle.acl_rules.specs.Chain.{of_column, of_document, of_table, part_in, rules_of};
+ghost use Rattle.acl_rules.specs.Decided.{first_answer};
 ghost use Rattle.censored_view.specs.RowTests.{answer_of, or_answer, tests_say};
 ghost use Rattle.censored_view.specs.Tested.{AreRowTests};
 ghost use Rattle.acl_reading.specs.Choosing.{choice_for_all, choice_says, rule_reads};
 ghost use Rattle.acl_reading.specs.RulesLet.{shown_of};
 ghost use Rattle.acl_reading.specs.Shown.{own_answer, reading_row};
-ghost use Rattle.acl_reading.specs.Walk.{asks_row};
+ghost use Rattle.acl_reading.specs.Walk.{allows, asks_row};
 ghost use Rattle.acl_reading.specs.Walking.{reads_among, reads_at};
 
 use crate::ending::{built_in_shows, tells_of_reading};
@@ -67,12 +69,7 @@ fn choice_of<'a>(rule: &'a Rule, user: &UserInfo) -> Choice<'a>
 }
 
 // What the rule at a place comes to, where it is of the part.
-fn choice_at<'a>(
-    book: &'a RuleBook,
-    place: usize,
-    part: Part<'_>,
-    user: &UserInfo,
-) -> Choice<'a>
+fn choice_at<'a>(book: &'a RuleBook, place: usize, part: Part<'_>, user: &UserInfo) -> Choice<'a>
     ensures { (row : RuleRow) → choice_says user.now row result
         ≡ reads_at (reading_row user.now row) (part_in part.entry) book.now place }
 {
@@ -95,7 +92,7 @@ fn add_tests<'a>(
 ) -> Result<RowTests<'a>, AllocError>
     ensures user { IfOk result (λ t. t.user.now ≡ user.now) }
     ensures says { IfOk result (λ t. (row : RuleRow) → answer_of t row
-        ≡ or_answer (tests_say user.now row tests.items)
+        ≡ or_answer (tests_say user.now row tests.entry.items)
         (reads_among (reading_row user.now row) (part_in part.entry) book.now places.now)) }
 {
     let mut chosen = tests;
@@ -126,10 +123,11 @@ fn add_behind<'a>(
     part: Part<'_>,
     chosen: RowTests<'a>,
 ) -> Result<RowTests<'a>, AllocError>
-    ensures user { IfOk result (λ t. t.user.now ≡ chosen.user.now) }
+    ensures user { IfOk result (λ t. t.user.now ≡ chosen.entry.user.now) }
     ensures says { IfOk result (λ t. (row : RuleRow) → answer_of t row
-        ≡ or_answer (answer_of chosen row)
-        (reads_among (reading_row chosen.user.now row) (part_in part.entry) book.now places.now)) }
+        ≡ or_answer (answer_of chosen.entry row)
+        (reads_among (reading_row chosen.entry.user.now row) (part_in part.entry) book.now
+        places.now)) }
 {
     match chosen.otherwise {
         Some(_) => Ok(chosen),
@@ -139,9 +137,9 @@ fn add_behind<'a>(
 
 // These tests, with an answer for all rows behind them.
 fn or_else<'a>(chosen: RowTests<'a>, answer: bool) -> RowTests<'a>
-    ensures user { result.user.now ≡ chosen.user.now }
+    ensures user { result.user.now ≡ chosen.entry.user.now }
     ensures says { (row : RuleRow) → answer_of result row
-        ≡ or_answer (answer_of chosen row) (Some answer) }
+        ≡ or_answer (answer_of chosen.entry row) (Some answer) }
 {
     match chosen.otherwise {
         Some(_) => chosen,
@@ -164,6 +162,52 @@ pub(crate) fn always<'a>(alloc: Global, user: &'a UserInfo, answer: bool) -> Row
     }
 }
 
+// The tests of the rules that list a column.
+fn column_tests<'a>(
+    alloc: Global,
+    book: &'a RuleBook,
+    table: &str,
+    column: &str,
+    user: &'a UserInfo,
+) -> Result<RowTests<'a>, AllocError>
+    ensures { IfOk result (λ t. (row : RuleRow) → answer_of t row ≡ option_map allows
+        (first_answer (reading_row user.now row) perm.R
+        (rules_of (of_column table.now column.now) book.now))) }
+{
+    let part = Part::Column(table, column);
+    let tests = add_tests(book, book.places_on(table), part, user, Vec::new(alloc))?;
+    Ok(tests)
+}
+
+// The tests of the rules of a whole table.
+fn table_tests<'a>(
+    alloc: Global,
+    book: &'a RuleBook,
+    table: &str,
+    user: &'a UserInfo,
+) -> Result<RowTests<'a>, AllocError>
+    ensures user { IfOk result (λ t. t.user.now ≡ user.now) }
+    ensures says { IfOk result (λ t. (row : RuleRow) → answer_of t row ≡ option_map allows
+        (first_answer (reading_row user.now row) perm.R
+        (rules_of (of_table table.now) book.now))) }
+{
+    let part = Part::Table(table);
+    let tests = add_tests(book, book.places_on(table), part, user, Vec::new(alloc))?;
+    Ok(tests)
+}
+
+// These tests, and behind them those of the rules of the document.
+fn with_document<'a>(book: &'a RuleBook, chosen: RowTests<'a>) -> Result<RowTests<'a>, AllocError>
+    ensures { IfOk result (λ t. (row : RuleRow) → answer_of t row
+        ≡ or_answer (answer_of chosen.entry row) (option_map allows
+        (first_answer (reading_row chosen.entry.user.now row) perm.R
+        (rules_of of_document book.now)))) }
+{
+    let places = book.places_on_document();
+    let tests = add_behind(book, places, Part::Document, chosen)?;
+    Ok(tests)
+}
+
 /// The tests by which the rules that list a column decide of its cell in a row.
 ///
 /// Errors: out of memory. Cost: the rules that are about the table.
@@ -176,9 +220,7 @@ pub(crate) fn own_tests<'a>(
     ensures { IfOk result (λ t. (row : RuleRow)
         → answer_of t row ≡ own_answer ctx.now table.now column.now row) }
 {
-    let part = Part::Column(table.as_str(), column.as_str());
-    let places = ctx.book.places_on(table.as_str());
-    add_tests(&ctx.book, places, part, &ctx.user, Vec::new(alloc))
+    column_tests(alloc, &ctx.book, table.as_str(), column.as_str(), &ctx.user)
 }
 
 /// The tests by which a table's chain lets a row be read.
@@ -191,10 +233,7 @@ pub(crate) fn row_tests<'a>(
 ) -> Result<RowTests<'a>, AllocError>
     ensures { IfOk result (AreRowTests (shown_of ctx.now table.now)) }
 {
-    let book = &ctx.book;
-    let on_table = book.places_on(table.as_str());
-    let part = Part::Table(table.as_str());
-    let first = add_tests(book, on_table, part, &ctx.user, Vec::new(alloc))?;
-    let both = add_behind(book, book.places_on_document(), Part::Document, first)?;
+    let first = table_tests(alloc, &ctx.book, table.as_str(), &ctx.user)?;
+    let both = with_document(&ctx.book, first)?;
     Ok(or_else(both, built_in_shows(&ctx.user.user)))
 }

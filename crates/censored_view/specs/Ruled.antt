@@ -1,9 +1,7 @@
 -- Shown columns, each with what decides its cells.
-use Rattle.std.specs.Prelude.{⊤, List, map, Some, None, unwrap_or, ◌≡◌, false, IfSome}
+use Rattle.std.specs.Prelude.{⊤, List, map, IfSome}
 use Rattle.std.specs.List.{AllByRecursion}
 use Rattle.doc_model.specs.declared.view.ViewCol.{ViewCol}
-use Rattle.acl_formula.specs.RuleRow.{RuleRow}
-use Rattle.censored_view.specs.declared.row_tests.RowTests.{RowTests}
 use Rattle.censored_view.specs.declared.ruled_columns.Deciding.{Deciding}
 use Rattle.censored_view.specs.declared.ruled_columns.Deciding.TheVariants as by
 use Rattle.censored_view.specs.declared.ruled_columns.RuledColumn.{RuledColumn}

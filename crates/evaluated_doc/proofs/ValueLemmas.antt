@@ -33,7 +33,7 @@ pub data_values : (s : Document) (ks : List KeptTable) → IsEvaluated s ks → 
 data_values s ks is t c e there plain rows =
     same_cells (cell_at s t c) (cell_at (filled s) t c) rows
     (λ r. sym (told_again (cell_at s t c r)) ∙ ap value_told (column_told s ks is.of_document t c e there plain r)
-        ∙ filled_told (value_of s) s (held_at s ks) t c r (λ f h. is.values (cell_of t c r) f h))
+    ∙ filled_told (value_of s) s (held_at s ks) t c r (λ f h. is.values (cell_of t c r) f h))
 
 -- where no column has a formula, all are
 pub plain_values : (s : Document) → has_formulas s ≡ false → (t c : List ℕ) (rows : List ℕ) → map (cell_at s t c) rows ≡ map (cell_at (filled s) t c) rows

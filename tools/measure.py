@@ -11,6 +11,7 @@ has what the page says now. With --small each is run over less, to see that it r
 """
 import os
 import pathlib
+import re
 import shutil
 import statistics
 import subprocess
@@ -299,11 +300,7 @@ def tasks(count):
     yield from rows("People", Email=[f"{name}@x.org" for name in names],
                     Region=["South" if name == "vi" else "North" for name in names])
     yield from rows("Projects", Name=[f"Project {n}" for n in range(12)])
-    about = list(dict.fromkeys((table, columns) for table, columns, _, _ in RULES))
-    yield from rows("_grist_ACLResources", tableId=[it[0] for it in about], colIds=[it[1] for it in about])
-    yield from rows("_grist_ACLRules", resource=[about.index(it[:2]) + 1 for it in RULES] + [0],
-                    aclFormula=[it[2] for it in RULES] + [""], permissionsText=[it[3] for it in RULES] + [""],
-                    userAttributes=[""] * len(RULES) + [ATTRIBUTE])
+    yield from rules_lines(RULES)
 
 
 def views():
@@ -350,6 +347,103 @@ def postgres_reading(programs, count):
             server.stop()
 
 
+def audits():
+    """An audit of one user of a wide table under many rules, and one of many users under few."""
+    ids, count, many = [f"C{n}" for n in range(size(1_024))], size(1_000), size(4_096)
+    wide = [USER, OPEN, table("Wide", **dict.fromkeys(ids, "Int")),
+            *rows("_grist_ACLResources", tableId=["Wide"], colIds=["*"]),
+            *rows("_grist_ACLRules", resource=[1] * count, permissionsText=["-U"] * count,
+                  aclFormula=[f"rec.{ids[n % len(ids)]} == 1 and user.Access == EDITOR" for n in range(count)])]
+    users = [user(f"t{n}", "editors", n, "Ed") for n in range(many)]
+    with tempfile.TemporaryDirectory() as folder:
+        for name, lines in (("wide", wide), ("work", tasks(size(5_000)))):
+            run_once(lines, ("replay", "--doc", name), folder)
+        words = {name: ("audit", "--doc", name) for name in ("wide", "work")}
+        alone, one = least([], 3, words["wide"], folder)[0], least([USER], 3, words["wide"], folder)[0]
+        none, all_of_them = least([], 3, words["work"], folder)[0], least(users, 3, words["work"], folder)[0]
+    yield (f"an audit of a user of a table of {len(ids):,} columns under {count:,} rules of all of them",
+           f"{one:.2f} s ({alone:.2f} s without a user)", "2 s")
+    yield (f"an audit of {many:,} users of the tasks under 12 rules",
+           f"{all_of_them:.2f} s ({none:.2f} s without users)", "2 s")
+
+
+WORK = {"Who": "Ref:People", "Title": "Text", "Region": "Text=$Project.Region", "Rate": "Int", "Project": "Ref:Projects",
+        "Open": "=IF($Done, 0, $Hours)", "Hours": "Int", "Done": "Bool", "Cost": "=$Hours * $Rate"}
+WORK_RULES = (
+    ("Tasks", "*", "user.Access == EDITOR and rec.Region != user.Who.Region", "-R"),
+    ("Tasks", "Rate,Cost", "user.Access == VIEWER", "-R"),
+    ("Tasks", "*", "rec.Done and user.Access == EDITOR", "-U"),
+    ("Projects", "Budget,Left", "user.Access != OWNER", "-R"),
+    ("Projects", "*", "user.Access == EDITOR", "-CD"),
+    ("People", "Email", "user.Access == VIEWER", "-R"),
+    ("*", "*", "user.Access == EDITOR", "-S"),
+    ("Tasks", "*", "user.Access == EDITOR", "-D"),
+    ("Tasks", "Who", "rec.Done and user.Access == VIEWER", "-R"),
+)
+WORKERS = (("owners", "ann"), ("editors", "p3"), ("editors", "p4"), ("viewers", "vi"))
+
+
+def work(count):
+    """The lines of a document of tasks, people and projects with sums over lookups, which four users have open."""
+    people = max(count // 25, 8)
+    yield from (user(name, access, number + 1, name) for number, (access, name) in enumerate(WORKERS))
+    yield opening("s0", "ann")
+    yield bundle(["AddTable", "Tasks", [column(name, kind) for name, kind in WORK.items()]],
+                 ["AddTable", "People", [column(name, kind) for name, kind in dict(
+                     Name="Text", Email="Text", Region="Text",
+                     Load="=SUM(Tasks.lookupRecords(Who=$id).Open)").items()]],
+                 ["AddTable", "Projects", [column(name, kind) for name, kind in dict(
+                     Title="Text", Region="Text", Budget="Int", Spent="=SUM(Tasks.lookupRecords(Project=$id).Cost)",
+                     Left="=$Budget - $Spent").items()]], session="s0")
+    for line in (*rows("People", Name=[f"P{n}" for n in range(people)], Email=[f"p{n}@x.org" for n in range(people)],
+                       Region=[REGIONS[n % 2] for n in range(people)]),
+                 *rows("Projects", Title=[f"Project {n}" for n in range(people)], Budget=[1_000 * n for n in range(people)],
+                       Region=[REGIONS[n % 3] for n in range(people)]),
+                 *rules_lines(WORK_RULES),
+                 *rows("Tasks", 250, Who=[n * 7 % people + 1 for n in range(count)], Title=[f"Task {n}" for n in range(count)],
+                       Rate=[n % 9 for n in range(count)], Project=[n * 11 % people + 1 for n in range(count)],
+                       Hours=[n * 13 % 40 for n in range(count)], Done=[n % 3 == 0 for n in range(count)])):
+        yield line.replace('"session": "s1"', '"session": "s0"')
+    yield from (opening(f"s{number + 1}", name) for number, (_, name) in enumerate(WORKERS[1:]))
+
+
+def rules_lines(wanted):
+    """The lines that add these rules, and an attribute of users."""
+    about = list(dict.fromkeys((table, columns) for table, columns, _, _ in wanted))
+    yield from rows("_grist_ACLResources", tableId=[it[0] for it in about], colIds=[it[1] for it in about])
+    yield from rows("_grist_ACLRules", resource=[about.index(it[:2]) + 1 for it in wanted] + [0],
+                    aclFormula=[it[2] for it in wanted] + [""], permissionsText=[it[3] for it in wanted] + [""],
+                    userAttributes=[""] * len(wanted) + [ATTRIBUTE])
+
+
+def counted(lines):
+    """The instructions of a run over these lines, as callgrind counts them."""
+    with tempfile.TemporaryDirectory() as folder:
+        place = os.path.join(folder, "counted")
+        words = ["valgrind", "--tool=callgrind", f"--callgrind-out-file={place}", scripts.PROGRAM, "replay"]
+        run = subprocess.run(words, input="".join(lines).encode(), capture_output=True, cwd=folder)
+        if run.returncode or b'"error"' in run.stdout:
+            raise SystemExit(f"the program ended with {run.returncode}: {run.stdout[-300:]}")
+        with open(place) as text:
+            return int(re.search(r"^(?:summary|totals): (\d+)", text.read(), re.M).group(1))
+
+
+def of_changes():
+    """Instructions of single changes of a document that four users look at, and of an opening."""
+    def each(before, more):
+        return (counted(before + more) - counted(before)) / len(more) / 1e6
+
+    few, many = (each(list(work(count)), [update("Tasks", n * 37 % count + 1, "s0", Hours=100 + n) for n in range(20)])
+                 for count in (size(1_000), size(4_000)))
+    before = list(work(size(4_000)))
+    turned = each(before, [update("People", 4, "s0", Region=REGIONS[n % 2]) for n in range(4)])
+    opened = each(before, [opening(f"v{n}", "vi") for n in range(4)])
+    yield f"instructions of an updated task of {size(4_000):,}, beside four users, sums over lookups, rules and an attribute", f"{many:.2f} million", "3 million"
+    yield f"the same beside {size(1_000):,} tasks", f"{many / few:.2f} times", "1.3"
+    yield "instructions of a person's changed region there, by which that person sees other tasks", f"{turned:.1f} million", ""
+    yield "instructions of an opening there by a viewer", f"{opened:.1f} million", ""
+
+
 def generated():
     """A generated run, by its one line."""
     count = size(5_000)
@@ -359,7 +453,7 @@ def generated():
 
 WORKLOADS = {
     "adds": added_rows, "bundles": bundles, "undo": undo, "rules": rules, "formulas": formulas, "updates": updates,
-    "opening": opened, "keeping": keeping, "serving": serving, "views": views, "gen": generated,
+    "opening": opened, "keeping": keeping, "serving": serving, "views": views, "told": of_changes, "audits": audits, "gen": generated,
 }
 
 

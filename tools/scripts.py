@@ -38,13 +38,14 @@ USER, OPEN = user(), opening()
 
 
 def table(id, **types):
-    """A bundle that adds a table with these columns; a type that begins with `=` is the formula of an Int column."""
+    """A bundle that adds a table with these columns; what is behind a `=` is a formula, of an Int column where no type stands before it."""
     return bundle(["AddTable", id, [column(name, kind) for name, kind in types.items()]])
 
 
 def column(id, kind):
-    if kind.startswith("="):
-        return {"id": id, "type": "Int", "formula": kind[1:], "isFormula": True}
+    kind, is_formula, text = kind.partition("=")
+    if is_formula:
+        return {"id": id, "type": kind or "Int", "formula": text, "isFormula": True}
     return {"id": id, "type": kind}
 
 

@@ -92,12 +92,14 @@ def action(chance):
 
 
 def pair(chance, rules):
+    """The rows of two documents, which differ in what the rules hide."""
     secrets = [chance.choice([1, 2, 3]) for _ in range(6)]
     shown = [(chance.choice("abc"), chance.randint(0, 8)) for _ in range(6)]
     first = [(it, *cells) for it, cells in zip(secrets, shown)]
     second = [(1 if it == 1 else chance.choice([2, 3, 4, 5, 6]), *cells) for it, cells in zip(secrets, shown)]
     if HIDES_ROWS in rules:
-        second = [(1, chance.choice("abc"), chance.randint(0, 8)) if it[0] == 1 else it for it in second]
+        hidden = [(1, chance.choice("abc"), chance.randint(0, 8)) for _ in range(8)]
+        second = [hidden.pop() if it[0] == 1 else it for it in second] + hidden[:chance.randint(0, 2)]
     return first, second
 
 
@@ -107,7 +109,9 @@ def tried(program, chance, rules, actions):
     for rows in pair(chance, rules):
         with tempfile.TemporaryDirectory() as folder:
             words = ["--doc", "book"]
-            run(program, folder, ["replay", *words], document(rules, rows))
+            made = run(program, folder, ["replay", *words], document(rules, rows))
+            if '"bundle":1' not in made[-1]:
+                sys.exit(f"the document was not made: {made[-1]}")
             opened = line("s1", method="openDoc", token="te")
             bundles = [line("s1", method="applyUserActions", actions=[it, ABSENT]) for it in actions]
             answers = run(program, folder, ["replay", *words], [ED, opened, *bundles])

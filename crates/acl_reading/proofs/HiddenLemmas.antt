@@ -126,7 +126,7 @@ module _ (u : UserInfo) (row : RuleRow) where
       by None e = cc
       by (Some tree) e = let free : uses_row tree ≡ false = cc in let same = tree_same tree free in cc
 
-  decides_same : (r : Rule) → asks_row r ≡ false → decides (without_row u) perm.R r ≡ decides (reading_row u row) perm.R r
+  pub decides_same : (r : Rule) → asks_row r ≡ false → decides (without_row u) perm.R r ≡ decides (reading_row u row) perm.R r
   decides_same r h = ap (λ (t : RuleTruth). mentions perm.R r.permissions && is_match perm.R r.permissions t) (truth_same r h)
 
   -- ---- rules that do not show

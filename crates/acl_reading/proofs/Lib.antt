@@ -1,3 +1,4 @@
+pub mod ChoosingLemmas
 pub mod HiddenLemmas
 pub mod LawLemmas
 pub mod LettingLemmas

@@ -1,3 +1,4 @@
+pub mod Choosing
 pub mod Laws
 pub mod RulesLet
 pub mod Shown

@@ -19,14 +19,11 @@ no_float token (fault.HiddenFormula table column) = refl
 pub one_more : (s : Document) (us : List User) (i : ℕ) (u : User) (done now total : List ℕ) → i < length us → u ≡ get_or us i u → done ++ lines_for s (drop i us) ≡ total → now ≡ done ++ line_for s u
     → now ++ lines_for s (drop (i + 1) us) ≡ total
 one_more s us i u done now total lt is so_far line =
+    let split : drop i us ≡ u ∷ drop (i + 1) us = rw (add-one i) (drop-cons us i u lt ∙ ap (λ y. y ∷ drop (suc i) us) (sym is)) in
     ap (λ l. l ++ lines_for s (drop (i + 1) us)) line
     ∙ append_assoc done (line_for s u) (lines_for s (drop (i + 1) us))
-    ∙ ap (λ v. done ++ line_for s v ++ lines_for s (drop (i + 1) us)) is
-    ∙ ap (λ l. done ++ l) (sym (ap (lines_for s) (front us i u lt)))
+    ∙ ap (λ vs. done ++ lines_for s vs) (sym split)
     ∙ so_far
-  where
-    front : (us : List User) (i : ℕ) (u : User) → i < length us → drop i us ≡ get_or us i u ∷ drop (i + 1) us
-    front us i u lt = rw (add-one, drop-cons us i u) refl
 
 -- and none
 pub all_told : (s : Document) (us : List User) (i : ℕ) (done total : List ℕ) → length us ≤ i → done ++ lines_for s (drop i us) ≡ total → done ≡ total

@@ -1,6 +1,5 @@
 -- What an audit did, by how it ended.
-use Rattle.std.proofs.Common.{◌≡◌, ◌∙◌, ℕ, ◌≤◌, List, [], Option, refl, sym, subst}
-use Rattle.std.specs.Io.KnownBytes.{Appends}
+use Rattle.std.proofs.Common.{◌≡◌, ℕ, ◌≤◌, List, [], Option, sym, subst}
 use Rattle.doc_model.specs.declared.entry.Entry.{Entry}
 use Rattle.doc_model.specs.declared.user.User.{User}
 use Rattle.doc_model.specs.Document.{Document}
@@ -14,7 +13,7 @@ use Rattle.grist_run.specs.declared.status.Status.TheVariants.{Done, Usage, BadU
 use Rattle.grist_run.specs.Starting.{start_status}
 use Rattle.users_alone.specs.UsersAlone.{SaysUsers, StopsAlone}
 use Rattle.audit_run.specs.AuditLines.{lines_for}
-use Rattle.audit_run.specs.AuditRuns.{Audits, AuditsAll, AuditsFront, AuditsNone, IsAudit, TellsAudits, TellsText}
+use Rattle.audit_run.specs.AuditRuns.{Audits, IsAudit, TellsAudits, TellsText}
 
 pub tells : (told : Option (List (List ℕ))) (users : List User) (text : List ℕ) (s : Document) (n : ℕ) → Opens told new_document s n → text ≡ lines_for s users → TellsAudits told users text
 tells told users text s n opens lines = record { document = s; number = n; opens = opens; lines = lines }
@@ -36,14 +35,14 @@ module _ (l m w : Option (List ℕ)) (told : Option (List (List ℕ))) where
 
   -- no document was opened, or there was no room for the lines
   pub unopened : (users : List User) → SaysUsers l m users → (c : StartCause) → Audits l m w w told (start_status c)
-  unopened users says cause.StoreFault = record { users = users; input = says; written = appends_none w }
-  unopened users says (cause.BadStore number) = record { users = users; input = says; written = appends_none w }
+  unopened users says cause.StoreFault = record { users = users; input = says; wrote = appends_none w }
+  unopened users says (cause.BadStore number) = record { users = users; input = says; wrote = appends_none w }
   unopened users says cause.NoMemory = appends_none w
 
   -- the lines were sent
   pub sent : (z : Option (List ℕ)) (users : List User) → SaysUsers l m users → (text : List ℕ) → TellsAudits told users text → (status : Status) → TellsText status text w z → Audits l m w z told status
-  sent z users says text tells Done t = record { users = users; input = says; text = text; tells = tells; written = t }
-  sent z users says text tells WriteFault t = record { users = users; input = says; text = text; tells = tells; written = t }
+  sent z users says text tells Done t = record { users = users; input = says; text = text; tells = tells; wrote = t }
+  sent z users says text tells WriteFault t = record { users = users; input = says; text = text; tells = tells; wrote = t }
   sent z users says text tells Usage t = absurd t
   sent z users says text tells (BadUsers number) t = absurd t
   sent z users says text tells ReadFault t = absurd t
@@ -53,10 +52,6 @@ module _ (l m w : Option (List ℕ)) (told : Option (List (List ℕ))) where
   sent z users says text tells TurnsSpent t = absurd t
   sent z users says text tells PortFault t = absurd t
   sent z users says text tells HistoryFull t = absurd t
-
--- it is never `Usage`
-pub never_usage : (l m w z : Option (List ℕ)) (told : Option (List (List ℕ))) (status : Status) → Audits l m w z told status → status ≡ Usage → ⊥
-never_usage l m w z told status done is = subst (λ s. Audits l m w z told s) is done
 
 -- the same, told by an outcome
 module _ {l m w z : Option (List ℕ)} {told now : Option (List (List ℕ))} {before after : ℕ} where

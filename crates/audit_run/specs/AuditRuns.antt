@@ -34,7 +34,7 @@ module _ (left left_new : Option (List ℕ)) (written written_new : Option (List
     pub input : SaysUsers left left_new users
     pub text : List ℕ
     pub tells : TellsAudits told users text
-    pub written : Appends written written_new text
+    pub wrote : Appends written written_new text
 
   -- the same, and a front of the lines was written
   pub record AuditsFront : Type 0 where
@@ -42,13 +42,13 @@ module _ (left left_new : Option (List ℕ)) (written written_new : Option (List
     pub input : SaysUsers left left_new users
     pub text : List ℕ
     pub tells : TellsAudits told users text
-    pub written : SendsFront text written written_new
+    pub wrote : SendsFront text written written_new
 
   -- the whole input said users, and nothing was written
   pub record AuditsNone : Type 0 where
     pub users : List User
     pub input : SaysUsers left left_new users
-    pub written : Appends written written_new []
+    pub wrote : Appends written written_new []
 
   -- what an audit did, by how it ended
   abbrev pub Audits : Status → Type 0

@@ -16,7 +16,7 @@ use Rattle.doc_model.specs.Document.{Document}
 use Rattle.doc_model.specs.DocumentLaws.{IsWhole}
 use Rattle.doc_model.specs.Valid.{valid}
 use Rattle.doc_model.specs.ViewEdits.{if_any}
-use Rattle.doc_model.specs.WellFormed.{has_whole_columns, is_well_formed}
+use Rattle.doc_model.specs.WellFormed.{is_well_formed}
 use Rattle.doc_model.proofs.WellFormedLaws.{has_whole_columns-is_well_formed}
 use Rattle.acl_rules.specs.declared.decision.Ctx.{Ctx}
 use Rattle.acl_checks.specs.Denials.{first_denied}

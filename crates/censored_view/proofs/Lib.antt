@@ -1,6 +1,7 @@
 pub mod PlacedLemmas
 pub mod ShownRows
 pub mod RowWalk
+mod ReadLemmas
 pub mod SortedRows
 pub mod ColumnWalk
 pub mod TableWalk

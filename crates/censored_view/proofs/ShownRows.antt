@@ -27,7 +27,7 @@ use mathlib.Core.Path.{fun_ext}
 
 -- ---- a row as a document tells it
 
-cell_of_row : (s : Document) (t c : List ℕ) (r : ℕ) → cell_at s t c r ≡ (row_of (grid_at s t) r).cell c
+pub cell_of_row : (s : Document) (t c : List ℕ) (r : ℕ) → cell_at s t c r ≡ (row_of (grid_at s t) r).cell c
 cell_of_row s t c r =
     elim (find_id table_id t s) as (λ (o : Option Table). elim o as (λ _. Option CellValue) [ None ↦ None | Some t ↦ cond (has_id column_id t.grid.columns c && has t.grid.rows r) (Some (cell column_id t.grid c r)) None ]
     ≡ (row_of (elim o as (λ _. Grid ColDef) [ None ↦ no_grid | Some t ↦ t.grid ]) r).cell c) [

@@ -2,6 +2,9 @@ pub mod Readable
 pub mod View
 pub mod Parts
 pub mod Rows
+pub mod ReadRows
+pub mod RowTests
+pub mod Tested
 pub mod Ruled
 pub mod Questions
 pub mod ViewLaws

@@ -12,7 +12,9 @@
 //! rows go through `shown_rows`, and it alone censors cells.
 //! Not promised: what a context lets be read.
 //! Costs: those of `shown_rows`, and the squares of the tables and of each table's columns. A row
-//! is decided once for all columns that have no rules of their own (`Lets::has_own_rules`).
+//! is decided once for all columns that have no rules of their own (`Lets::has_own_rules`), and a
+//! context that can tell once by which formulas it decides is not asked for each row
+//! (`Lets::row_tests`, `Lets::own_tests`).
 //! Read first: specs/Readable.antt and specs/View.antt, then reading.rt, ruled_columns.rt, rows.rt
 //! and parts.rt.
 #![tactic(auto)]
@@ -22,8 +24,10 @@ mod document_row;
 mod laws;
 mod parts;
 mod questions;
+mod read_rows;
 mod reading;
 mod row_lists;
+mod row_tests;
 mod rows;
 mod ruled_columns;
 mod tables;
@@ -36,6 +40,7 @@ pub use parts::{Selection, part};
 pub use questions::{is_column_seen, is_row_seen, is_table_seen, seen_table};
 pub use reading::Lets;
 pub use row_lists::{once_in_order, rows_among, rows_there};
+pub use row_tests::{RowTest, RowTests};
 pub use rows::shown_rows;
 pub use tables::{put_seen, seen_part};
 pub use whole::whole_view;

@@ -1,12 +1,15 @@
 //! What a context answers of a table.
 
+use crate::row_tests::RowTests;
 use acl_formula::RowReader;
 use cell_types::Name;
+use std::alloc::{AllocError, Global};
 
 /// What is in force for a user: what it lets the user read of each table.
 pub trait Lets {
-    ghost use Rattle.std.specs.Prelude.{◌≡◌, ℕ, List, None, Some, false, option_map, unwrap_or};
+    ghost use Rattle.std.specs.Prelude.{◌≡◌, ℕ, List, None, Some, false, option_map, unwrap_or, IfOk, IfSome};
     ghost use Rattle.censored_view.specs.Readable.{IsAsRow, Readable};
+    ghost use Rattle.censored_view.specs.Tested.{AreOwnTests, AreRowTests};
 
     /// What may be read of each table.
     ghost lets: { Self → List ℕ → Readable };
@@ -50,4 +53,28 @@ pub trait Lets {
     fn is_cell_shown<W: RowReader>(&self, table: &Name, column: Option<&Name>, row: &W) -> bool
         ensures { result ≡ (lets self.now table.now).cell
             (option_map (λ c. c.now) column.entry) (W.told row.now) };
+
+    /// The tests that decide whether rows of the table may be read alone, chosen once for all rows;
+    /// nothing where each row has to be asked for.
+    ///
+    /// Errors: out of memory.
+    fn row_tests<'a>(
+        &'a self,
+        alloc: Global,
+        table: &Name,
+    ) -> Result<Option<RowTests<'a>>, AllocError>
+        ensures { IfOk result (λ o. IfSome o (AreRowTests (lets self.now table.now))) };
+
+    /// The tests by which rules of its own decide the cells of the column, chosen once for all
+    /// rows; nothing where each cell has to be asked for.
+    ///
+    /// Errors: out of memory.
+    fn own_tests<'a>(
+        &'a self,
+        alloc: Global,
+        table: &Name,
+        column: &Name,
+    ) -> Result<Option<RowTests<'a>>, AllocError>
+        ensures { IfOk result
+            (λ o. IfSome o (AreOwnTests (lets self.now table.now) column.now)) };
 }

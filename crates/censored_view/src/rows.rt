@@ -4,11 +4,11 @@ ghost use Rattle.std.specs.Prelude.{◌≡◌, ◌++◌, ◌∷◌, [], None, So
 ghost use Rattle.std.specs.List.{list_any};
 ghost use Rattle.cell_types.specs.declared.value.CellValue.TheVariants.{Null};
 ghost use Rattle.doc_model.specs.declared.view.ViewCol.{ViewCol};
-ghost use Rattle.censored_view.specs.Ruled.{AreRuled, IsRuled, columns_in};
+ghost use Rattle.censored_view.specs.Ruled.{AreRuled, IsRuled, IsRuledTable, columns_in};
 ghost use Rattle.censored_view.specs.View.{is_row_shown, shown_rows, shown_value};
 
 use crate::reading::Lets;
-use crate::ruled_columns::{RuledColumn, is_read_in, ruled_columns};
+use crate::ruled_columns::{RuledColumn, RuledTable, is_read_alone, is_read_in, ruled_table};
 use acl_formula::RowReader;
 use cell_types::{CellValue, Name, RowList, ValueList, copy_of};
 use doc_model::{CellRowList, ViewCol, ViewColList, ViewTable};
@@ -115,20 +115,21 @@ fn show_row<X: Lets, W: RowReader>(
     alloc: Global,
     ctx: &X,
     table: &Name,
-    columns: &[RuledColumn<'_>],
+    ruled: &RuledTable<'_>,
     row: &W,
     shown: &mut Shown,
 ) -> Result<(), AllocError>
-    requires { AreRuled (X.lets ctx.now table.now) columns.now }
+    requires { IsRuledTable (X.lets ctx.now table.now) ruled.now }
     ensures rows { OnOk result (shown.new.rows.items ≡ shown.old.rows.items ++ cond
-        (is_row_shown (X.lets ctx.now table.now) (columns_in columns.now) (W.told row.now))
-        ((W.told row.now).id ∷ []) []) }
+        (is_row_shown (X.lets ctx.now table.now) (columns_in ruled.now.columns.items)
+        (W.told row.now)) ((W.told row.now).id ∷ []) []) }
     ensures cells { OnOk result (shown.new.cells.items ≡ shown.old.cells.items ++ cond
-        (is_row_shown (X.lets ctx.now table.now) (columns_in columns.now) (W.told row.now))
-        (map (shown_value (X.lets ctx.now table.now) (W.told row.now)) (columns_in columns.now)
-        ∷ []) []) }
+        (is_row_shown (X.lets ctx.now table.now) (columns_in ruled.now.columns.items)
+        (W.told row.now)) (map (shown_value (X.lets ctx.now table.now) (W.told row.now))
+        (columns_in ruled.now.columns.items) ∷ []) []) }
 {
-    let alone = ctx.is_cell_shown(table, None, row);
+    let columns = ruled.columns.as_slice();
+    let alone = is_read_alone(ctx, table, &ruled.tests, row);
     if is_row_shown(ctx, table, columns, row, alone) {
         let cells = row_cells(alloc, ctx, table, columns, row, alone)?;
         shown.cells.push(cells)?;
@@ -149,21 +150,22 @@ fn show_rows<X: Lets, W: RowReader>(
     ensures cells { IfOk result (λ s. s.cells.items ≡ (shown_rows (X.lets ctx.now table.now)
         table.now columns.now (map W.told rows.now)).cells) }
 {
-    let ruled = ruled_columns(alloc, ctx, table, columns)?;
+    let ruled = ruled_table(alloc, ctx, table, columns)?;
     let mut shown = Shown {
         rows: Vec::new(alloc),
         cells: Vec::new(alloc),
     };
     for row in rows {
-        show_row(alloc, ctx, table, ruled.as_slice(), row, &mut shown)?;
+        show_row(alloc, ctx, table, &ruled, row, &mut shown)?;
     }
     Ok(shown)
 }
 
 /// A table of these shown columns, made of rows: those that are shown, each with its cells.
 ///
-/// Errors: out of memory. Cost: a decision for each row, and one for each of its cells in columns
-/// with rules of their own; a copy for each cell that is shown.
+/// Errors: out of memory. Cost: the rules of the table are chosen once; then a decision for each
+/// row, and one for each of its cells in columns with rules of their own, and a copy for each cell
+/// that is shown.
 pub fn shown_rows<X: Lets, W: RowReader>(
     alloc: Global,
     ctx: &X,

@@ -1,35 +1,62 @@
-//! Shown columns, each with whether rules of its own may decide its cells.
+//! A table's rows and shown columns, each with what decides them.
 
-ghost use Rattle.std.specs.Prelude.{◌≡◌, None, Some, IfOk};
-ghost use Rattle.censored_view.specs.Ruled.{AreRuled, IsRuled, columns_in};
+ghost use Rattle.std.specs.Prelude.{◌≡◌, None, Some, IfOk, IfSome};
+ghost use Rattle.censored_view.specs.Ruled.{AreRuled, IsDecidedBy, IsRuled, IsRuledTable, columns_in};
+ghost use Rattle.censored_view.specs.Tested.{AreRowTests};
 
 use crate::reading::Lets;
+use crate::row_tests::RowTests;
 use acl_formula::RowReader;
 use cell_types::Name;
 use doc_model::ViewCol;
 use std::alloc::{AllocError, Global};
 
-/// A shown column. Where it has no rules of its own, its cells are decided as their rows are.
+/// What decides the cells of a shown column.
+#[derive(Drop)]
+pub(crate) enum Deciding<'a> {
+    /// Their rows alone.
+    Rows,
+    /// Rules of its own, which are asked for each cell.
+    Asked,
+    /// Rules of its own, which were chosen for all cells.
+    Tests(RowTests<'a>),
+}
+
+/// A shown column, with what decides its cells.
 #[derive(Drop)]
 pub(crate) struct RuledColumn<'a> {
     pub column: &'a ViewCol,
-    pub has_own: bool,
+    pub deciding: Deciding<'a>,
 }
 
-fn ruled_column<'a, X: Lets>(ctx: &X, table: &Name, column: &'a ViewCol) -> RuledColumn<'a>
-    ensures column { result.column.now ≡ column.now }
-    ensures ruled { IsRuled (X.lets ctx.now table.now) result }
-{
-    let has_own = ctx.has_own_rules(table, &column.id);
-    RuledColumn { column, has_own }
+/// What decides the rows of a table and the cells of its shown columns. Where there are no tests of
+/// the rows, the context is asked for each.
+#[derive(Drop)]
+pub(crate) struct RuledTable<'a> {
+    pub tests: Option<RowTests<'a>>,
+    pub columns: Vec<RuledColumn<'a>>,
 }
 
-/// These shown columns of a table, each asked once for rules of its own.
-///
-/// Errors: out of memory.
-pub(crate) fn ruled_columns<'a, X: Lets>(
+fn deciding_of<'a, X: Lets>(
     alloc: Global,
-    ctx: &X,
+    ctx: &'a X,
+    table: &Name,
+    column: &ViewCol,
+) -> Result<Deciding<'a>, AllocError>
+    ensures { IfOk result (IsDecidedBy (X.lets ctx.now table.now) column.now) }
+{
+    if !ctx.has_own_rules(table, &column.id) {
+        return Ok(Deciding::Rows);
+    }
+    match ctx.own_tests(alloc, table, &column.id)? {
+        Some(tests) => Ok(Deciding::Tests(tests)),
+        None => Ok(Deciding::Asked),
+    }
+}
+
+fn ruled_columns<'a, X: Lets>(
+    alloc: Global,
+    ctx: &'a X,
     table: &Name,
     columns: &'a [ViewCol],
 ) -> Result<Vec<RuledColumn<'a>>, AllocError>
@@ -38,9 +65,45 @@ pub(crate) fn ruled_columns<'a, X: Lets>(
 {
     let mut ruled = Vec::with_capacity(alloc, columns.len())?;
     for column in columns {
-        ruled.push(ruled_column(ctx, table, column))?;
+        let deciding = deciding_of(alloc, ctx, table, column)?;
+        ruled.push(RuledColumn { column, deciding })?;
     }
     Ok(ruled)
+}
+
+/// What decides the rows of a table and the cells of these shown columns of it, each asked once.
+///
+/// Errors: out of memory.
+pub(crate) fn ruled_table<'a, X: Lets>(
+    alloc: Global,
+    ctx: &'a X,
+    table: &Name,
+    columns: &'a [ViewCol],
+) -> Result<RuledTable<'a>, AllocError>
+    ensures columns { IfOk result (λ t. columns_in t.columns.items ≡ columns.now) }
+    ensures ruled { IfOk result (IsRuledTable (X.lets ctx.now table.now)) }
+{
+    let columns = ruled_columns(alloc, ctx, table, columns)?;
+    let tests = ctx.row_tests(alloc, table)?;
+    Ok(RuledTable { tests, columns })
+}
+
+/// Whether a row may be read alone, by the tests of its table where there are any.
+///
+/// Memory: none.
+pub(crate) fn is_read_alone<X: Lets, W: RowReader>(
+    ctx: &X,
+    table: &Name,
+    tests: &Option<RowTests<'_>>,
+    row: &W,
+) -> bool
+    requires { IfSome tests.now (AreRowTests (X.lets ctx.now table.now)) }
+    ensures { result ≡ (X.lets ctx.now table.now).cell None (W.told row.now) }
+{
+    match tests {
+        Some(tests) => tests.answer(row).unwrap_or(false),
+        None => ctx.is_cell_shown(table, None, row),
+    }
 }
 
 /// Whether a row may be read in a column, by whether it may be read alone.
@@ -58,10 +121,11 @@ pub(crate) fn is_read_in<X: Lets, W: RowReader>(
     ensures { result ≡ (X.lets ctx.now table.now).cell (Some column.now.column.now.id)
         (W.told row.now) }
 {
-    if column.has_own {
-        return ctx
+    match &column.deciding {
+        Deciding::Rows => alone,
+        Deciding::Asked => ctx
             .own_answer(table, &column.column.id, row)
-            .unwrap_or(alone);
+            .unwrap_or(alone),
+        Deciding::Tests(tests) => tests.answer(row).unwrap_or(alone),
     }
-    alone
 }

@@ -8,13 +8,15 @@ ghost use Rattle.doc_model.specs.Changes.{shown_table_id};
 ghost use Rattle.doc_model.specs.Document.{table_id};
 ghost use Rattle.doc_model.specs.LaidOut.{IsLaidOut};
 ghost use Rattle.censored_view.specs.Parts.{seen_part, with_seen};
+ghost use Rattle.censored_view.specs.Rows.{rows_at};
+ghost use Rattle.censored_view.specs.View.{shown_rows};
 
 use crate::columns::{is_shown, shown_columns};
-use crate::document_row::document_rows;
+use crate::read_rows::{read_columns, read_rows};
 use crate::reading::Lets;
 use crate::rows::shown_rows;
 use cell_types::Name;
-use doc_model::{DocReader, ViewTable};
+use doc_model::{DocReader, ViewCol, ViewTable};
 use doc_readers::has_table;
 use std::alloc::{AllocError, Global};
 
@@ -48,6 +50,25 @@ pub fn put_seen(tables: &mut Vec<ViewTable>, table: Option<ViewTable>) -> Result
     }
 }
 
+// A table of these shown columns and these rows of the document. It is asked for all cells of a
+// column at once.
+fn made_of<X: Lets, D: DocReader>(
+    alloc: Global,
+    ctx: &X,
+    tables: &D,
+    table: &Name,
+    columns: Vec<ViewCol>,
+    rows: &[u32],
+) -> Result<ViewTable, AllocError>
+    ensures { IfOk result (λ t. t ≡ shown_rows (X.lets ctx.now table.now) table.now columns.items
+        (rows_at (D.document tables.now) table.now rows.now)) }
+{
+    let read = read_columns(alloc, tables, table, columns.as_slice(), rows)?;
+    let rows = read_rows(alloc, tables, table, read.as_slice(), rows)?;
+    let shown = shown_rows(alloc, ctx, table, columns, rows.as_slice())?;
+    Ok(shown)
+}
+
 /// What is seen of a table, made of these of its rows: nothing where it is not there or not shown.
 ///
 /// Errors: out of memory. Cost: that of `shown_rows`, and the square of the table's columns.
@@ -69,7 +90,6 @@ pub fn seen_part<X: Lets, D: DocReader>(
         return Ok(None);
     }
     let columns = shown_columns(alloc, ctx, tables, table)?;
-    let rows = document_rows(alloc, tables, table, rows)?;
-    let shown = shown_rows(alloc, ctx, table, columns, rows.as_slice())?;
+    let shown = made_of(alloc, ctx, tables, table, columns, rows)?;
     Ok(Some(shown))
 }

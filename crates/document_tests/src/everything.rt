@@ -2,7 +2,8 @@
 
 use acl_formula::RowReader;
 use cell_types::Name;
-use censored_view::Lets;
+use censored_view::{Lets, RowTests};
+use std::alloc::{AllocError, Global};
 
 /// What shows each table with all its columns, formulas and cells.
 #[derive(Drop)]
@@ -35,5 +36,22 @@ impl Lets for Everything {
 
     fn is_cell_shown<W: RowReader>(&self, _table: &Name, _column: Option<&Name>, _row: &W) -> bool {
         true
+    }
+
+    fn row_tests<'a>(
+        &'a self,
+        _alloc: Global,
+        _table: &Name,
+    ) -> Result<Option<RowTests<'a>>, AllocError> {
+        Ok(None)
+    }
+
+    fn own_tests<'a>(
+        &'a self,
+        _alloc: Global,
+        _table: &Name,
+        _column: &Name,
+    ) -> Result<Option<RowTests<'a>>, AllocError> {
+        Ok(None)
     }
 }

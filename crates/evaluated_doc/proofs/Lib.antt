@@ -5,3 +5,4 @@ pub mod SpentLemmas
 pub mod StartLemmas
 pub mod TouchedLemmas
 pub mod UpdateLemmas
+mod ValueLemmas

@@ -1,6 +1,6 @@
 //! A document with its formula cells evaluated.
 
-ghost use Rattle.std.specs.Prelude.{true, ◌≡◌, ◌<◌, ◌↔◌, false, Err, None, Some, IfOk, OnOk, OnErr, MatchOption};
+ghost use Rattle.std.specs.Prelude.{true, ◌≡◌, ◌<◌, ◌↔◌, false, Err, None, Some, IfOk, OnOk, OnErr, MatchOption, map};
 ghost use Rattle.std.specs.Option.{option_copied, option_map};
 ghost use Rattle.doc_model.specs.Apply.{apply};
 ghost use Rattle.doc_model.specs.DocumentLaws.{IsWhole};
@@ -36,7 +36,9 @@ use doc_model::{ColDef, DocAction, DocReader, DocTables};
 use formula_eval::{Reading, Steps};
 use known_reads::{KnownReads, ReadsFault};
 use recalc::laws::{may_lose_law, stays_plain_law};
-use recalc::{ColumnIndex, KeptTable, brings_formula, cell_told, keep_lost, watched_cells};
+use recalc::{
+    ColumnIndex, KeptTable, brings_formula, cell_told, column_at, keep_lost, watched_cells,
+};
 use std::alloc::{AllocError, Global};
 use std::marker::{Brand, Model};
 use std::mem;
@@ -570,6 +572,47 @@ fn value_in<'a, D: DocTables>(
     value_told(cell_told(tables, kept, table, column, row))
 }
 
+// The values of the cells of a column at these rows, each looked up by itself.
+fn each_value<'a, D: DocTables>(
+    alloc: Global,
+    tables: &'a D,
+    kept: &'a [KeptTable],
+    table: &Name,
+    column: &Name,
+    rows: &[u32],
+) -> Result<Vec<Option<&'a CellValue>>, AllocError>
+    requires whole { IsWhole (D.document tables.now) }
+    requires evaluated { IsEvaluated (D.document tables.now) kept.now }
+    ensures { IfOk result (λ values. map option_copied values.items
+        ≡ map (cell_at (filled (D.document tables.now)) table.now column.now) rows.now) }
+{
+    let mut values = Vec::with_capacity(alloc, rows.len())?;
+    for row in rows {
+        values.push(value_in(tables, kept, table, column, *row))?;
+    }
+    Ok(values)
+}
+
+// The same, where a data column is looked up once.
+fn values_in<'a, D: DocTables>(
+    alloc: Global,
+    tables: &'a D,
+    kept: &'a [KeptTable],
+    table: &Name,
+    column: &Name,
+    rows: &[u32],
+) -> Result<Vec<Option<&'a CellValue>>, AllocError>
+    requires whole { IsWhole (D.document tables.now) }
+    requires evaluated { IsEvaluated (D.document tables.now) kept.now }
+    ensures { IfOk result (λ values. map option_copied values.items
+        ≡ map (cell_at (filled (D.document tables.now)) table.now column.now) rows.now) }
+{
+    match column_at(kept, table, column) {
+        Some(held) if !held.is_formula => tables.cells(alloc, table, column, rows),
+        _ => each_value(alloc, tables, kept, table, column, rows),
+    }
+}
+
 /// The document, with the value of each formula cell in its place.
 impl<D: DocTables> DocReader for Doc<D> {
     ghost use Rattle.recalc.specs.Evaluated.{filled};
@@ -592,6 +635,19 @@ impl<D: DocTables> DocReader for Doc<D> {
         match &self.kept {
             Some(kept) => value_in(&self.tables, kept, table, column, row),
             None => self.tables.cell(table, column, row),
+        }
+    }
+
+    fn cells(
+        &self,
+        alloc: Global,
+        table: &Name,
+        column: &Name,
+        rows: &[u32],
+    ) -> Result<Vec<Option<&CellValue>>, AllocError> {
+        match &self.kept {
+            Some(kept) => values_in(alloc, &self.tables, kept, table, column, rows),
+            None => self.tables.cells(alloc, table, column, rows),
         }
     }
 }

@@ -6,8 +6,9 @@ ghost use Rattle.view_tests.specs.ByHand.{guards, is_true};
 
 use acl_formula::RowReader;
 use cell_types::{CellValue, Name};
-use censored_view::Lets;
+use censored_view::{Lets, RowTests};
 use doc_readers::is_schema_id;
+use std::alloc::{AllocError, Global};
 
 /// A context that shows nothing of the schema tables, and of the others all but one column, the
 /// formula of one, and the cells of the guarded column, or of all, in rows whose key is not true.
@@ -66,5 +67,22 @@ impl Lets for ByHand {
 
     fn is_cell_shown<W: RowReader>(&self, table: &Name, column: Option<&Name>, row: &W) -> bool {
         !is_schema_id(table.as_str()) && (!guards(self, column) || is_true(row.cell(&self.key)))
+    }
+
+    fn row_tests<'a>(
+        &'a self,
+        _alloc: Global,
+        _table: &Name,
+    ) -> Result<Option<RowTests<'a>>, AllocError> {
+        Ok(None)
+    }
+
+    fn own_tests<'a>(
+        &'a self,
+        _alloc: Global,
+        _table: &Name,
+        _column: &Name,
+    ) -> Result<Option<RowTests<'a>>, AllocError> {
+        Ok(None)
     }
 }

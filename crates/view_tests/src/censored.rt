@@ -7,6 +7,7 @@ ghost use Rattle.std.specs.Prelude.{◌≡◌, map, IfOk};
 ghost use Rattle.doc_model.specs.declared.action.DocAction.{DocAction};
 ghost use Rattle.doc_model.specs.Changes.{IsView};
 ghost use Rattle.doc_model.specs.DocumentLaws.{IsWhole};
+ghost use Rattle.doc_model.specs.LaidOut.{IsLaidOut};
 ghost use Rattle.action_censor.specs.Step.{are_records, is_of_records, step_of};
 
 use crate::bundles::{Edit, Given, bundle_of};
@@ -18,18 +19,19 @@ use Given::{Number, Truth};
 use action_censor::{StepTrace, follow, touched_tables};
 use censored_view::whole_view;
 use doc_model::laws::new_document_law;
-use doc_model::{DocAction, DocActionList, View, ViewActionList};
+use doc_model::{DocAction, DocActionList, DocReader, View, ViewActionList};
 use evaluated_doc::{Doc, Trace};
 use plain_view::changes;
 use recalc::laws::laid_out_law;
 use row_tables::RowTables;
 use std::alloc::{AllocError, Global};
 
-// Of a context: the hidden column, the one whose formula is hidden, the guarded one, and whether
-// all are guarded.
-type Hand = (&'static str, &'static str, &'static str, bool);
+/// Of a context: the hidden column, the one whose formula is hidden, the guarded one, and whether
+/// all are guarded.
+pub(crate) type Hand = (&'static str, &'static str, &'static str, bool);
 
-fn by_hand(alloc: Global, hand: Hand) -> Result<ByHand, AllocError> {
+/// The context of these.
+pub(crate) fn by_hand(alloc: Global, hand: Hand) -> Result<ByHand, AllocError> {
     let hidden = name(alloc, hand.0)?;
     let closed = name(alloc, hand.1)?;
     let guarded = name(alloc, hand.2)?;
@@ -61,8 +63,8 @@ fn done_one(
     }
 }
 
-// Does the actions, and keeps what each one did.
-fn done(
+/// Does the actions, and keeps what each one did.
+pub(crate) fn done(
     alloc: Global,
     doc: &mut Doc<RowTables>,
     actions: &DocActionList,
@@ -81,8 +83,8 @@ fn new_document(alloc: Global) -> Result<RowTables, AllocError>
     RowTables::new_document(alloc)
 }
 
-// The small document: its rows 1 and 3 have a true key, and C is twice B.
-fn started(alloc: Global) -> Result<Doc<RowTables>, AllocError> {
+/// The small document: its rows 1 and 3 have a true key, and C is twice B.
+pub(crate) fn started(alloc: Global) -> Result<Doc<RowTables>, AllocError> {
     let tables = new_document(alloc)?;
     let mut doc = Doc::start(alloc, tables)?;
     let actions = bundle_of(alloc, &START)?;
@@ -164,8 +166,8 @@ fn are_records(steps: &[StepTrace<'_>]) -> bool
     true
 }
 
-// The steps of a bundle that was done.
-fn steps_of<'a>(
+/// The steps of a bundle that was done.
+pub(crate) fn steps_of<'a>(
     alloc: Global,
     actions: &'a [DocAction],
     traces: &'a [Trace<RowTables>],
@@ -180,17 +182,18 @@ fn steps_of<'a>(
     Ok(steps)
 }
 
-fn followed(
+/// What is told of steps that were done.
+pub(crate) fn followed<D: DocReader>(
     alloc: Global,
     context: &ByHand,
-    doc: &Doc<RowTables>,
+    doc: &D,
     steps: &[StepTrace<'_>],
-) -> Result<ViewActionList, AllocError> {
+) -> Result<ViewActionList, AllocError>
+    requires { IsLaidOut (D.document doc.now) }
+{
     if !are_records(steps) {
         return Err(AllocError);
     }
-    laid_out_law();
-    let _tables = doc.tables();
     let touched = touched_tables(alloc, doc, steps)?;
     follow(alloc, context, doc, touched.as_slice())
 }
@@ -204,6 +207,8 @@ fn told_line(
     traces: &[Trace<RowTables>],
 ) -> Result<String, AllocError> {
     let steps = steps_of(alloc, actions.as_slice(), traces)?;
+    laid_out_law();
+    let _tables = doc.tables();
     let told = followed(alloc, context, doc, steps.as_slice())?;
     changes_line(alloc, &told)
 }
@@ -262,7 +267,8 @@ type Bundle = (Hand, &'static [Edit], &'static str);
 
 const OPEN: Hand = ("Z", "Z", "Z", false);
 
-const GUARDED: Hand = ("Z", "Z", "B", false);
+/// A context that guards a column.
+pub(crate) const GUARDED: Hand = ("Z", "Z", "B", false);
 
 const ROWS: Hand = ("Z", "Z", "Z", true);
 

@@ -7,8 +7,8 @@
 //!
 //! Promises: nothing. What is tested is what no clause says: that the definitions mean what is
 //! meant, by values that were worked out by hand, and that calls succeed where there is memory.
-//! Read first: changes.rt, then parts.rt, censored.rt and refusals.rt. What they try is made in
-//! steps.rt, asking.rt, by_hand.rt and bundles.rt, and shown in shown.rt and told_views.rt.
+//! Read first: changes.rt, then parts.rt, censored.rt, narrow.rt and refusals.rt. What they try is
+//! made in steps.rt, asking.rt, by_hand.rt and bundles.rt, and shown in shown.rt and told_views.rt.
 #![tactic(auto)]
 
 #[cfg(test)]
@@ -20,6 +20,8 @@ mod by_hand;
 mod censored;
 #[cfg(test)]
 mod changes;
+#[cfg(test)]
+mod narrow;
 #[cfg(test)]
 mod parts;
 #[cfg(test)]

@@ -9,7 +9,7 @@ pub loop-row-preserved : goal.loop-row-preserved
 loop-row-preserved g c =
     let x = g.X.Lets.lets c.args.ctx.now c.args.table.now in
     let row = g.W.RowReader.told c.row-item.result in
-    let same : columns_in c.as_slice.result.now ≡ c.args.columns.now = ap columns_in c.as_slice.ensures.value ∙ c.in_ok-ruled.ensures.columns in (
+    let same : columns_in c.in_ok-ruled.ruled.columns.items ≡ c.args.columns.now = c.in_ok-ruled.ensures.columns in (
       rows_next g.W.RowReader.told x c.args.table.now c.args.columns.now c.args.rows.now c.loop-row.row-index c.row-item.result c.loop-row-test.true c.row-item.is
           c.loop-row.shown.rows.items c.show_row.new.shown.rows.items c.loop-row.invariant.0
           (c.in_ok-show_row.ensures.rows ∙ ap (λ (ds : List ViewCol). c.loop-row.shown.rows.items ++ cond (is_row_shown x ds row) (row.id ∷ []) []) same),

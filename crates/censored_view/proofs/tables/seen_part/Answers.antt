@@ -1,7 +1,6 @@
-use Rattle.std.proofs.Common.{map, sym, ap, ◌∙◌}
-use Rattle.doc_readers.specs.Parts.{grid_at}
-use Rattle.censored_view.specs.Rows.{row_told}
-use Rattle.censored_view.specs.View.{shown_columns, shown_rows}
+use Rattle.std.proofs.Common.{sym, ap, ◌∙◌}
+use Rattle.censored_view.specs.Rows.{rows_at}
+use Rattle.censored_view.specs.View.{shown_rows}
 use Rattle.censored_view.proofs.TableWalk.{seen_absent, seen_hidden, seen_made}
 use Rattle.censored_view.proofs.tables.seen_part.Goals as goal
 
@@ -21,7 +20,4 @@ returns g c =
     let s = g.D.DocReader.document c.args.tables.now in
     let id = c.args.table.now in
     seen_made x s id c.args.rows.now (sym c.has_table.ensures ∙ c.if-not-has_table.false) c.in_ok-shown.shown (sym c.is_shown.ensures ∙ c.if-not-is_shown.false)
-    (c.in_ok-shown.ensures
-    ∙ ap (λ ds. shown_rows x id ds (map (row_told g.D.DocReader.document) c.as_slice.result.now)) c.in_ok-columns.ensures
-    ∙ ap (λ l. shown_rows x id (shown_columns x (grid_at s id).columns) (map (row_told g.D.DocReader.document) l)) c.as_slice.ensures.value
-    ∙ ap (shown_rows x id (shown_columns x (grid_at s id).columns)) c.in_ok-rows.ensures)
+    (c.in_ok-shown.ensures ∙ ap (λ ds. shown_rows x id ds (rows_at s id c.args.rows.now)) c.in_ok-columns.ensures)

@@ -7,8 +7,8 @@
 //! program calls it.
 //!
 //! Promises: `audit_law`: where an audit says `Closed`, and two whole documents show the user the
-//! same under the same rules, a bundle of one action is accepted in both, or refused in both with
-//! one verdict: a refusal by what is shown, or a denial by one rule with one memo.
+//! same by the same rules and attributes, a bundle of one action is accepted in both, or refused in
+//! both with one verdict: a refusal by what is shown, or a denial by one rule with one memo.
 //! `schema_actions_law`: so it is of denials alone where the action is on tables or columns.
 //! `closed_law`: an audit says `Closed` exactly where no fault is found, as these laws have it.
 //! Not promised: anything where a limit refuses the action, as limits count what is hidden; which

@@ -1,0 +1,4 @@
+pub mod ShownLemmas
+pub mod RecordLemmas
+pub mod DenialLemmas
+pub mod ActionLemmas

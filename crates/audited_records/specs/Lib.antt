@@ -1,0 +1,2 @@
+pub mod SeeAlike
+pub mod RecordsLaws

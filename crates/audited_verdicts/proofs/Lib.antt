@@ -1,0 +1,5 @@
+pub mod ClosedAnswer
+pub mod FollowingSteps
+pub mod LaterDenials
+pub mod SchemaLemmas
+pub mod VerdictLemmas

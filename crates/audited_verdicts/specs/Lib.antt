@@ -1,0 +1,3 @@
+pub mod SchemaActionsLaw
+pub mod ClosedLaw
+pub mod AuditLaw

@@ -10,6 +10,6 @@ returns-clause-line g c =
     let u = c.args.user.now in
     let a = c.in_ok-told.told in
     let said : audit_line c.as_str.result.now a ≡ line_for s u =
-        ap (λ t. audit_line t a) c.as_str.ensures
-        ∙ ap (audit_line u.token) (c.in_ok-told.ensures ∙ ap (λ x. audit x (view_in x s)) c.in_ok-turn_to.ensures) in
+    ap (λ t. audit_line t a) c.as_str.ensures
+    ∙ ap (audit_line u.token) (c.in_ok-told.ensures ∙ ap (λ x. audit x (view_in x s)) c.in_ok-turn_to.ensures) in
     subst (λ l. OnOk c.push_line.result (string_bytes c.push_line.new.text ≡ string_bytes c.args.text.now ++ l)) said c.push_line.ensures

@@ -196,13 +196,14 @@ def broken_neighbour(program):
 
 def few_descriptors(program):
     """What is wrong with a server that has descriptors for its listeners and for one connection more."""
+    # Linux takes the descriptor of a connection before it waits for one, so that one lane waits and the other tries again.
     def bounded():
         resource.setrlimit(resource.RLIMIT_NOFILE, (6, 6))
 
     with Server(program, preexec_fn=bounded) as server:
+        links = [server.link(lane) for lane in (0, 1)]
         told = []
-        for lane in (0, 1):
-            link, lines = server.link(lane)
+        for link, lines in links[::-1]:
             told.append(reply((link, lines), OPENED))
             lines.close()
             link.close()

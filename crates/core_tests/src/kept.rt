@@ -1,9 +1,10 @@
 //! Plan: runs over a keeper that fails, or that has a record already. Of a script, a line behind
 //! `> ` comes, one behind `< ` is given, and one behind `+ ` is a record that the keeper has
-//! afterwards. A bundle whose record is not kept is refused, and the next one is kept
-//! (`keeps_what_is_accepted`, where both forms of a record are read too); what keeps a document
-//! from being opened (`ends_where_no_document_opens`); and a keeper that is handed on to the next
-//! run (`opens_again_what_was_kept`). The lines are worked out by hand.
+//! afterwards. A bundle whose record is not kept is refused, be it the first, the second or the
+//! third, and the next one is kept (`keeps_what_is_accepted`, where both forms of a record are read
+//! too); what keeps a document from being opened, `ready` and each `load` that fail among it
+//! (`ends_where_no_document_opens`); and a keeper that is handed on to the next run
+//! (`opens_again_what_was_kept`). The lines are worked out by hand.
 
 use crate::runs::{lines_behind, no_watchers};
 use doc_keeper::{Keeper, MemKeeper, SureKeeper};
@@ -92,7 +93,29 @@ fn ends_as_told(alloc: Global, case: &Case) -> bool {
         && has_records(&mut keeper, case.script)
 }
 
-static KEPT: [Case; 3] = [
+const RECORD: &str =
+    r#"{"actions":[["BulkAddRecord","Table1",[1],{"A":[5],"B":["x"]}]],"number":0}"#;
+
+static KEPT: [Case; 5] = [
+    Case {
+        fails: 2,
+        record: "",
+        script: r#"> {"user":{"access":"editors","email":"e","id":2,"name":"Ed","token":"te"}}
+> {"line":{"method":"openDoc","token":"te"},"session":"s2"}
+< {"line":{"ok":{"actions":[["AddTable","Table1",[{"formula":"","id":"A","isFormula":false,"type":"Any"},{"formula":"","id":"B","isFormula":false,"type":"Any"},{"formula":"","id":"C","isFormula":false,"type":"Any"}]]]}},"session":"s2"}
+> {"line":{"actions":[["AddRecord","Table1",null,{"A":1}]],"method":"applyUserActions"},"session":"s2"}
+< {"line":{"error":{"code":19,"name":"StoreFault"}},"session":"s2"}
+> {"line":{"actions":[["AddRecord","Table1",null,{"A":2}]],"method":"applyUserActions"},"session":"s2"}
+< {"line":{"actions":[["BulkAddRecord","Table1",[1],{"A":[2],"B":[null],"C":[null]}]],"seq":1},"session":"s2"}
+< {"line":{"ok":{"bundle":1,"retValues":[1]}},"session":"s2"}
+> {"line":{"actions":[["AddRecord","Table1",null,{"A":3}]],"method":"applyUserActions"},"session":"s2"}
+< {"line":{"actions":[["BulkAddRecord","Table1",[2],{"A":[3],"B":[null],"C":[null]}]],"seq":2},"session":"s2"}
+< {"line":{"ok":{"bundle":2,"retValues":[2]}},"session":"s2"}
++ {"actions":[["BulkAddRecord","Table1",[1],{"A":[2]}]],"number":0,"version":2}
++ {"actions":[["BulkAddRecord","Table1",[2],{"A":[3]}]],"number":1,"version":2}"#,
+        end: Status::Done,
+        at: 0,
+    },
     Case {
         fails: 3,
         record: "",
@@ -113,8 +136,27 @@ static KEPT: [Case; 3] = [
         at: 0,
     },
     Case {
+        fails: 4,
+        record: "",
+        script: r#"> {"user":{"access":"editors","email":"e","id":2,"name":"Ed","token":"te"}}
+> {"line":{"method":"openDoc","token":"te"},"session":"s2"}
+< {"line":{"ok":{"actions":[["AddTable","Table1",[{"formula":"","id":"A","isFormula":false,"type":"Any"},{"formula":"","id":"B","isFormula":false,"type":"Any"},{"formula":"","id":"C","isFormula":false,"type":"Any"}]]]}},"session":"s2"}
+> {"line":{"actions":[["AddRecord","Table1",null,{"A":1}]],"method":"applyUserActions"},"session":"s2"}
+< {"line":{"actions":[["BulkAddRecord","Table1",[1],{"A":[1],"B":[null],"C":[null]}]],"seq":1},"session":"s2"}
+< {"line":{"ok":{"bundle":1,"retValues":[1]}},"session":"s2"}
+> {"line":{"actions":[["AddRecord","Table1",null,{"A":2}]],"method":"applyUserActions"},"session":"s2"}
+< {"line":{"actions":[["BulkAddRecord","Table1",[2],{"A":[2],"B":[null],"C":[null]}]],"seq":2},"session":"s2"}
+< {"line":{"ok":{"bundle":2,"retValues":[2]}},"session":"s2"}
+> {"line":{"actions":[["AddRecord","Table1",null,{"A":3}]],"method":"applyUserActions"},"session":"s2"}
+< {"line":{"error":{"code":19,"name":"StoreFault"}},"session":"s2"}
++ {"actions":[["BulkAddRecord","Table1",[1],{"A":[1]}]],"number":0,"version":2}
++ {"actions":[["BulkAddRecord","Table1",[2],{"A":[2]}]],"number":1,"version":2}"#,
+        end: Status::Done,
+        at: 0,
+    },
+    Case {
         fails: 99,
-        record: r#"{"actions":[["BulkAddRecord","Table1",[1],{"A":[5],"B":["x"]}]],"number":0}"#,
+        record: RECORD,
         script: r#"> {"user":{"access":"editors","email":"e","id":2,"name":"Ed","token":"te"}}
 > {"line":{"method":"openDoc","token":"te"},"session":"s2"}
 < {"line":{"ok":{"actions":[["AddTable","Table1",[{"formula":"","id":"A","isFormula":false,"type":"Any"},{"formula":"","id":"B","isFormula":false,"type":"Any"},{"formula":"","id":"C","isFormula":false,"type":"Any"}]],["BulkAddRecord","Table1",[1],{"A":[5],"B":["x"],"C":[null]}]]}},"session":"s2"}
@@ -157,8 +199,14 @@ const UNANSWERED: &str =
     r#"> {"user":{"access":"editors","email":"e","id":2,"name":"Ed","token":"te"}}
 > {"line":{"method":"openDoc","token":"te"},"session":"s2"}"#;
 
-// What keeps a document from being opened; a bad user line comes before that.
-static UNOPENED: [Case; 3] = [
+const UNANSWERED_KEPT: &str =
+    r#"> {"user":{"access":"editors","email":"e","id":2,"name":"Ed","token":"te"}}
+> {"line":{"method":"openDoc","token":"te"},"session":"s2"}
++ {"actions":[["BulkAddRecord","Table1",[1],{"A":[5],"B":["x"]}]],"number":0}"#;
+
+// What keeps a document from being opened; a bad user line comes before that. Where there is a
+// record, it stays: `ready` fails, the load of the record, and the one behind it.
+static UNOPENED: [Case; 6] = [
     Case {
         fails: 0,
         record: "",
@@ -180,6 +228,27 @@ static UNOPENED: [Case; 3] = [
 > {"user":1}"#,
         end: Status::BadUsers { line: 2 },
         at: 2,
+    },
+    Case {
+        fails: 1,
+        record: RECORD,
+        script: UNANSWERED_KEPT,
+        end: Status::StoreFault,
+        at: 0,
+    },
+    Case {
+        fails: 2,
+        record: RECORD,
+        script: UNANSWERED_KEPT,
+        end: Status::StoreFault,
+        at: 0,
+    },
+    Case {
+        fails: 3,
+        record: RECORD,
+        script: UNANSWERED_KEPT,
+        end: Status::StoreFault,
+        at: 0,
     },
 ];
 

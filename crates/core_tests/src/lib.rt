@@ -5,9 +5,11 @@
 //!
 //! Promises: nothing. What is tested is what no clause says: that the definition of a run means
 //! what the protocol says, and that calls succeed where there is memory.
-//! Read first: runs.rt, then kept.rt, generated.rt and strangers.rt.
+//! Read first: runs.rt, then kept.rt, faults.rt, generated.rt and strangers.rt.
 #![tactic(auto)]
 
+#[cfg(test)]
+mod faults;
 #[cfg(test)]
 mod generated;
 #[cfg(test)]

@@ -191,7 +191,7 @@ const UNANSWERED: &str =
 > no"#;
 
 // What ends a run before its input does.
-static ENDED: [Case; 6] = [
+static ENDED: [Case; 7] = [
     Case {
         word: "replay",
         read: 99,
@@ -233,6 +233,13 @@ static ENDED: [Case; 6] = [
         read: 99,
         write: 0,
         script: UNANSWERED,
+        end: Status::WriteFault,
+    },
+    Case {
+        word: "replay",
+        read: 99,
+        write: 1,
+        script: BAD_LINE,
         end: Status::WriteFault,
     },
 ];

@@ -78,6 +78,9 @@ def checked(folder):
             shutil.copy(os.path.join(folder, name), place)
         with sqlite3.connect(os.path.join(place, "book.grist")) as file:
             word = file.execute("PRAGMA integrity_check").fetchone()[0]
+            # A run that is killed as it makes the file leaves it without its table.
+            if not file.execute("SELECT count(*) FROM sqlite_master WHERE name = 'record'").fetchone()[0]:
+                return word, 0
             return word, file.execute("SELECT count(*) FROM record").fetchone()[0]
 
 

@@ -19,10 +19,7 @@ const THINGS: &str = "SELECT count(*) FROM sqlite_schema";
 // How many records there are, and the least and the greatest number.
 const NUMBERS: &str = "SELECT count(*), min(number), max(number) FROM record";
 
-// In the place of what a call that failed may have left there.
-const ADD: &str = "INSERT OR REPLACE INTO record (number, bytes) VALUES (?1, ?2)";
-
-const TAKE_BACK: &str = "DELETE FROM record WHERE number >= ?1";
+const ADD: &str = "INSERT INTO record (number, bytes) VALUES (?1, ?2)";
 
 const FROM: &str = "SELECT number, bytes FROM record WHERE number >= ?1 ORDER BY number LIMIT 256";
 
@@ -101,26 +98,6 @@ fn add(db: &mut Db, number: u64, bytes: &[u8]) -> Result<(), KeepFault> {
     };
     db.execute(ADD, params![number, bytes]).map_err(fault_of)?;
     Ok(())
-}
-
-fn take_back(db: &mut Db, number: u64) -> Result<(), KeepFault> {
-    let Ok(number) = i64::try_from(number) else {
-        return Err(KeepFault::Failed);
-    };
-    db.execute(TAKE_BACK, params![number]).map_err(fault_of)?;
-    Ok(())
-}
-
-// Adds a record, or leaves none: one whose sync failed was written, and would be read by the next
-// run. Where taking it back fails too, the next record takes its place.
-fn kept(db: &mut Db, number: u64, bytes: &[u8]) -> Result<(), KeepFault> {
-    match add(db, number, bytes) {
-        Ok(()) => Ok(()),
-        Err(fault) => {
-            let _ = take_back(db, number);
-            Err(fault)
-        }
-    }
 }
 
 fn closed(db: Db) -> Result<(), KeepFault> {
@@ -279,7 +256,7 @@ impl Keeper for SqliteKeeper {
 
     fn keep(&mut self, number: u64, bytes: &[u8]) -> Result<(), KeepFault> {
         let added = match &mut self.db {
-            Some(db) => kept(db, number, bytes),
+            Some(db) => add(db, number, bytes),
             None => Err(KeepFault::Failed),
         };
         match added {

@@ -5,13 +5,18 @@
      memories NUMBER    the same; this one and all behind it are refused
      input NUMBER       reads of standard input, which give seven bytes at most
      output NUMBER      writes to standard output
+     disk NUMBER        reads, writes, syncs and cuts of files, by their place in them
+     comes NUMBER       reads of connections that came to the port OUTSIDE_PORT of this machine
+     goes NUMBER        writes to them
    OUTSIDE_COUNT, where it is set, names a file to which the number of counted calls is written at the end. */
 #define _GNU_SOURCE
 #include <errno.h>
 #include <fcntl.h>
+#include <netinet/in.h>
 #include <stdio.h>
 #include <stdlib.h>
 #include <string.h>
+#include <sys/socket.h>
 #include <sys/syscall.h>
 #include <sys/types.h>
 #include <unistd.h>
@@ -23,13 +28,16 @@ extern void *__libc_realloc(void *old, size_t size);
 enum { PIECE = 7 };
 
 static char word[16];
-static long wanted = -1, counted;
+static long wanted = -1, port = -1, counted;
 
 __attribute__((constructor)) static void begin(void)
 {
     const char *told = getenv("OUTSIDE");
     if (told)
         sscanf(told, "%15s %ld", word, &wanted);
+    told = getenv("OUTSIDE_PORT");
+    if (told)
+        port = atol(told);
 }
 
 static void tell_count(void)
@@ -87,16 +95,80 @@ static size_t piece_of(int file, size_t size)
     return file == 0 && !strcmp(word, "input") && size > PIECE ? PIECE : size;
 }
 
+/* Whether the file is a connection that came to the port. */
+static int came_to_port(int file)
+{
+    struct sockaddr_in here;
+    socklen_t length = sizeof here;
+    return port >= 0 && !getsockname(file, (struct sockaddr *)&here, &length) && here.sin_family == AF_INET
+        && ntohs(here.sin_port) == port;
+}
+
+static int fails_to_come(int file)
+{
+    return !strcmp(word, "comes") && came_to_port(file) && fails("comes", NULL);
+}
+
+static int fails_to_go(int file)
+{
+    return !strcmp(word, "goes") && came_to_port(file) && fails("goes", NULL);
+}
+
 ssize_t read(int file, void *to, size_t size)
 {
-    if (file == 0 && fails("input", NULL))
+    if ((file == 0 && fails("input", NULL)) || fails_to_come(file))
         return is_refused(EIO);
     return syscall(SYS_read, file, to, piece_of(file, size));
 }
 
 ssize_t write(int file, const void *from, size_t size)
 {
-    if (file == 1 && fails("output", NULL))
+    if ((file == 1 && fails("output", NULL)) || fails_to_go(file))
         return is_refused(ENOSPC);
     return syscall(SYS_write, file, from, size);
 }
+
+ssize_t recv(int file, void *to, size_t size, int flags)
+{
+    if (fails_to_come(file))
+        return is_refused(EIO);
+    return syscall(SYS_recvfrom, file, to, size, flags, NULL, NULL);
+}
+
+ssize_t send(int file, const void *from, size_t size, int flags)
+{
+    if (fails_to_go(file))
+        return is_refused(EPIPE);
+    return syscall(SYS_sendto, file, from, size, flags, NULL, 0);
+}
+
+ssize_t pread64(int file, void *to, size_t size, off64_t place)
+{
+    return fails("disk", NULL) ? is_refused(EIO) : syscall(SYS_pread64, file, to, size, place);
+}
+
+ssize_t pwrite64(int file, const void *from, size_t size, off64_t place)
+{
+    return fails("disk", NULL) ? is_refused(EIO) : syscall(SYS_pwrite64, file, from, size, place);
+}
+
+int fsync(int file)
+{
+    return fails("disk", NULL) ? is_refused(EIO) : syscall(SYS_fsync, file);
+}
+
+int fdatasync(int file)
+{
+    return fails("disk", NULL) ? is_refused(EIO) : syscall(SYS_fdatasync, file);
+}
+
+int ftruncate64(int file, off64_t size)
+{
+    return fails("disk", NULL) ? is_refused(EIO) : syscall(SYS_ftruncate, file, size);
+}
+
+ssize_t pread(int file, void *to, size_t size, off_t place) { return pread64(file, to, size, place); }
+
+ssize_t pwrite(int file, const void *from, size_t size, off_t place) { return pwrite64(file, from, size, place); }
+
+int ftruncate(int file, off_t size) { return ftruncate64(file, size); }

@@ -3,139 +3,21 @@ ghost use Rattle.std.specs.Prelude.{◌≡◌, ◌≤◌, None};
 ghost use Rattle.io_edges.specs.Causes.{Rose};
 
 use crate::new_file::begin_small;
+use crate::records::{Db, NotAdded, add, closed, open, read_from, see_to_records, take_back};
 use doc_keeper::{KeepFault, Keeper};
-use sqlite::{Connection, Error, ErrorCode, File, FileStore, params};
-use std::alloc::Global;
 
-type Db = Connection<FileStore<File>>;
-
-const MAKE: &str = "CREATE TABLE record (number INTEGER PRIMARY KEY, bytes BLOB NOT NULL) STRICT";
-
-// The text of what is called `record`, and how many other things there are.
-const NAMED: &str = "SELECT type, sql FROM sqlite_schema WHERE name = 'record'";
-
-const THINGS: &str = "SELECT count(*) FROM sqlite_schema";
-
-// How many records there are, and the least and the greatest number.
-const NUMBERS: &str = "SELECT count(*), min(number), max(number) FROM record";
-
-const ADD: &str = "INSERT INTO record (number, bytes) VALUES (?1, ?2)";
-
-const FROM: &str = "SELECT number, bytes FROM record WHERE number >= ?1 ORDER BY number LIMIT 256";
-
-/// Of how many bytes records are read ahead, but for the last one.
-const AHEAD_BYTES: usize = 1_048_576;
-
-// Calls of the database stand in functions of their own, so that no proof carries their clauses.
-fn fault_of(error: Error) -> KeepFault {
-    match error {
-        Error::SqliteFailure(ErrorCode::OutOfMemory) => KeepFault::NoMemory,
-        _ => KeepFault::Failed,
-    }
-}
-
-fn open(rt: &HostRuntime, path: &str) -> Result<Db, KeepFault> {
-    Connection::open(rt, path).map_err(fault_of)
-}
-
-fn make(db: &mut Db) -> Result<(), KeepFault> {
-    db.execute(MAKE, &[]).map_err(fault_of)?;
-    Ok(())
-}
-
-fn things(db: &mut Db) -> Result<i64, KeepFault> {
-    let row = db.query_row(THINGS, &[]).map_err(fault_of)?;
-    row.get(0).map_err(fault_of)
-}
-
-// Whether records are as this crate makes them; nothing where there is none of that name.
-fn is_ours(db: &mut Db) -> Result<Option<bool>, KeepFault> {
-    let mut rows = db.query(NAMED, &[]).map_err(fault_of)?;
-    let Some(row) = rows.next().map_err(fault_of)? else {
-        return Ok(None);
-    };
-    let kind: String = row.get(0).map_err(fault_of)?;
-    let text: String = row.get(1).map_err(fault_of)?;
-    Ok(Some(kind.as_str() == "table" && text.as_str() == MAKE))
-}
-
-// Whether the numbers are those from 0 on, none left out.
-fn is_whole(db: &mut Db) -> Result<bool, KeepFault> {
-    let row = db.query_row(NUMBERS, &[]).map_err(fault_of)?;
-    let count: i64 = row.get(0).map_err(fault_of)?;
-    if count == 0 {
-        return Ok(true);
-    }
-    let least: i64 = row.get(1).map_err(fault_of)?;
-    let greatest: i64 = row.get(2).map_err(fault_of)?;
-    Ok(least == 0 && greatest == count.saturating_sub(1))
-}
-
-// Sees to the table of records: it is made in a file that holds nothing, and else has to be there,
-// as this crate makes it and with no number left out. A gap would hide the records behind it, until
-// new ones had filled it.
-fn see_to_records(db: &mut Db) -> Result<(), KeepFault> {
-    match is_ours(db)? {
-        Some(true) => {}
-        Some(false) => return Err(KeepFault::Failed),
-        None => {
-            if things(db)? > 0 {
-                return Err(KeepFault::Failed);
-            }
-            return make(db);
-        }
-    }
-    if is_whole(db)? {
-        Ok(())
-    } else {
-        Err(KeepFault::Failed)
-    }
-}
-
-fn add(db: &mut Db, number: u64, bytes: &[u8]) -> Result<(), KeepFault> {
-    let Ok(number) = i64::try_from(number) else {
-        return Err(KeepFault::Failed);
-    };
-    db.execute(ADD, params![number, bytes]).map_err(fault_of)?;
-    Ok(())
-}
-
-fn closed(db: Db) -> Result<(), KeepFault> {
-    db.close().map_err(fault_of)
-}
-
-// Reads records from that number on: those that follow each other, in their order.
-fn read_from(alloc: Global, db: &mut Db, number: u64) -> Result<Vec<Vec<u8>>, KeepFault> {
-    let mut found = Vec::new(alloc);
-    let Ok(from) = i64::try_from(number) else {
-        return Ok(found);
-    };
-    let mut next = from;
-    let mut size = 0usize;
-    let mut rows = db.query(FROM, params![from]).map_err(fault_of)?;
-    for _ in 0..256u32 {
-        let Some(row) = rows.next().map_err(fault_of)? else {
-            return Ok(found);
-        };
-        let at: i64 = row.get(0).map_err(fault_of)?;
-        if at != next {
-            return Ok(found);
-        }
-        let bytes: Vec<u8> = row.get(1).map_err(fault_of)?;
-        size = size.saturating_add(bytes.len());
-        let Ok(()) = found.push(bytes) else {
-            return Err(KeepFault::NoMemory);
-        };
-        if size >= AHEAD_BYTES {
-            return Ok(found);
-        }
-        next = next.saturating_add(1);
-    }
-    Ok(found)
+// A record that was refused and may be in the file, and its number.
+#[derive(Drop)]
+struct Doubt {
+    number: u64,
+    bytes: Vec<u8>,
 }
 
 /// A keeper over a file, which is opened or made by `ready`, and which nobody else can open from
 /// then on. Each record is one transaction, and is on the disk once `keep` has answered.
+///
+/// Where the disk fails in `keep`, the record may have come to it all the same. Then the file is
+/// opened anew and the record taken back, at once or before the next call that can.
 #[derive(Drop)]
 pub struct SqliteKeeper {
     host: HostRuntime,
@@ -145,6 +27,8 @@ pub struct SqliteKeeper {
     // Records that were read ahead, the last one first, and the number of the next one.
     ahead: Vec<Vec<u8>>,
     next: u64,
+    // Where there is one, the connection is of no use, and nothing is kept until it is settled.
+    doubt: Option<Doubt>,
     faults: u64,
 }
 
@@ -161,6 +45,7 @@ impl SqliteKeeper {
             db: None,
             ahead: Vec::new(rt.alloc()),
             next: 0,
+            doubt: None,
             faults: 0,
         }
     }
@@ -182,19 +67,59 @@ impl SqliteKeeper {
     /// Closes the file, where it was opened, with all records in it. Beside the file of a keeper
     /// that is dropped its log stays, and the next one to open the file reads both.
     ///
-    /// Errors: `Failed` and `NoMemory`, which are not counted; the records are in one of the two.
+    /// Errors: `Failed` and `NoMemory`, which are not counted; the records are in one of the two,
+    /// and a record that was refused may be behind them.
     pub fn close(self) -> Result<(), KeepFault> {
-        let SqliteKeeper {
-            host: _,
-            path: _,
-            db,
-            ahead: _,
-            next: _,
-            faults: _,
-        } = self;
-        match db {
+        let mut keeper = self;
+        keeper.settle()?;
+        match keeper.db.take() {
             Some(db) => closed(db),
             None => Ok(()),
+        }
+    }
+
+    // Opens the file anew where a record is in doubt, and takes that one back.
+    fn settle(&mut self) -> Result<(), KeepFault>
+        ensures { self.new.faults ≡ self.old.faults }
+    {
+        let Some(doubt) = &self.doubt else {
+            return Ok(());
+        };
+        // The old connection holds the file.
+        self.db = None;
+        let mut db = open(&self.host, self.path.as_str())?;
+        take_back(&mut db, doubt.number, doubt.bytes.as_slice())?;
+        self.db = Some(db);
+        self.doubt = None;
+        Ok(())
+    }
+
+    // Gives the connection up, with a record that may be in the file. Without memory to remember it
+    // nothing is kept any more.
+    fn give_up(&mut self, number: u64, bytes: &[u8])
+        ensures { self.new.faults ≡ self.old.faults }
+    {
+        self.db = None;
+        if let Ok(bytes) = Vec::from_slice(self.host.alloc(), bytes) {
+            self.doubt = Some(Doubt { number, bytes });
+            let _ = self.settle();
+        }
+    }
+
+    fn added(&mut self, number: u64, bytes: &[u8]) -> Result<(), KeepFault>
+        ensures { self.new.faults ≡ self.old.faults }
+    {
+        self.settle()?;
+        let Some(db) = &mut self.db else {
+            return Err(KeepFault::Failed);
+        };
+        match add(db, number, bytes) {
+            Ok(()) => Ok(()),
+            Err(NotAdded::Refused(fault)) => Err(fault),
+            Err(NotAdded::Doubtful) => {
+                self.give_up(number, bytes);
+                Err(KeepFault::Failed)
+            }
         }
     }
 
@@ -255,11 +180,7 @@ impl Keeper for SqliteKeeper {
     }
 
     fn keep(&mut self, number: u64, bytes: &[u8]) -> Result<(), KeepFault> {
-        let added = match &mut self.db {
-            Some(db) => add(db, number, bytes),
-            None => Err(KeepFault::Failed),
-        };
-        match added {
+        match self.added(number, bytes) {
             Ok(()) => Ok(()),
             Err(fault) => Err(self.counted(fault)),
         }

@@ -1,3 +1,4 @@
 pub mod Summary
 pub mod Hosting
 pub mod HostingParts
+pub mod Complete

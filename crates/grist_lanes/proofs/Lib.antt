@@ -4,6 +4,7 @@ mod ServiceLemmas
 mod TakenLemmas
 mod ChainLemmas
 mod HistoryLemmas
+mod FullLemmas
 mod ReversedLemmas
 mod WholeLemmas
 mod ServedLemmas

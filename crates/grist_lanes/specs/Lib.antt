@@ -4,4 +4,5 @@ pub mod Services
 pub mod LaneEnds
 pub mod Handed
 pub mod InHistory
+pub mod FullEnds
 pub mod Places

@@ -1,8 +1,15 @@
-//! Laws over the names of sessions.
+//! Laws over the names of sessions, and over the ends of connections.
 
+ghost use Rattle.grist_lanes.specs.FullEnds.{FullLaw};
 ghost use Rattle.grist_lanes.specs.SessionNames.{NamesTellApart};
 
 /// No two connections have one name.
 pub fn lane_names_law()
     ensures { NamesTellApart }
+{}
+
+/// A connection ends `Full` only where the history has as many entries as it may have, or so many
+/// bytes that a longest line may pass their bound.
+pub fn full_law()
+    ensures { FullLaw }
 {}

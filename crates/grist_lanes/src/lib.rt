@@ -10,7 +10,8 @@
 //! these lanes alone. The entries of the session of each connection are those that `serve_link`
 //! tells of it, and what was written to it is what that history gives its session: all of it, or a
 //! front where writing failed (specs/InHistory.antt). `lane_names_law`: no two connections have
-//! one session. It counts the connections that the ports handed out, and `serve_ports` also tells
+//! one session; `full_law`: a connection that ends `Full` found the history nearly full. It counts
+//! the connections that the ports handed out, and `serve_ports` also tells
 //! whether each port said that no more will come, or one failed (specs/Handed.antt). Where there is
 //! no memory for lanes, no port was asked.
 //! Not promised: that lanes run at the same time, that a turn or a connection comes, that memory
@@ -24,6 +25,6 @@ mod laws;
 mod serving;
 mod session_names;
 
-pub use laws::lane_names_law;
+pub use laws::{full_law, lane_names_law};
 pub use serving::{NoServe, Served, ServedPorts, serve_lanes, serve_ports};
 pub use session_names::session_name;

@@ -20,19 +20,19 @@ use Rattle.grist_run.specs.UserLines.{asking_lines, bad_user, script}
 bad≢script : {n : ℕ} {us : List User} {ls : List (List ℕ)} → bad_user n ≡ script us ls → ⊥
 bad≢script e = cc
 
-stops≢takes : {hs es : List Entry} → stops_at hs ≡ takes_all es → ⊥
+pub stops≢takes : {hs es : List Entry} → stops_at hs ≡ takes_all es → ⊥
 stops≢takes e = cc
 
-bad≢opens : {n : ℕ} {s : Document} → bad n ≡ opens s → ⊥
+pub bad≢opens : {n : ℕ} {s : Document} → bad n ≡ opens s → ⊥
 bad≢opens e = cc
 
 -- no more bytes came than the input has
-few_came : (input : List ℕ) (left : Option (List ℕ)) (came : List ℕ) → Consumes (Some input) left came → length input < 4294967296 → length came < 4294967296
+pub few_came : (input : List ℕ) (left : Option (List ℕ)) (came : List ℕ) → Consumes (Some input) left came → length input < 4294967296 → length came < 4294967296
 few_came input None came c few = absurd c
 few_came input (Some rest) came c few = omega (arith, few, ap length c, length-append came rest)
 
 -- a count that stood counted nothing
-none_failed : (before n after : ℕ) → min (before + n) (2 ^ 64 - 1) ≤ after → Stood before after → n ≡ 0
+pub none_failed : (before n after : ℕ) → min (before + n) (2 ^ 64 - 1) ≤ after → Stood before after → n ≡ 0
 none_failed before zero after le stood = refl
 none_failed before (suc n) after le stood = let rose : Rose before after = grind (arith, le) in absurd (stood rose)
 
@@ -52,7 +52,7 @@ module _ (input : List ℕ) (told : Option (List (List ℕ))) (can : CanAnswer i
 
   -- how a replay ends whose input can be answered whole
   module _ (left : Option (List ℕ)) (h : List Entry) (w w' : Option (List ℕ)) (now : Option (List (List ℕ))) (before after : ℕ) (stood : Stood before after) {Read Written : Type 0} (read : Read → ⊥) (written : Written → ⊥) where
-    complete : (status : Status) → Replays status (Some input) left h w w' told now before after
+    pub complete : (status : Status) → Replays status (Some input) left h w w' told now before after
         → (status ≡ Usage → ⊥) → ((n : ℕ) → status ≡ BadStore n → FirstBad told new_document n)
         → (status ≡ ReadFault → Read) → (status ≡ WriteFault → Written) → (status ≡ StoreFault → Rose before after) → IsComplete status h
     complete Done r u b rf wf sf = none_failed before (not_kept h) after r.keeper.faults stood

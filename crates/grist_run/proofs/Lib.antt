@@ -14,4 +14,4 @@ mod DenialLemmas
 mod GivenLaws
 mod AskingLaws
 mod GeneratedLaws
-mod Complete
+pub mod Complete

@@ -29,11 +29,11 @@ came_front : (input : List ℕ) (m : Option (List ℕ)) (lines : List (List ℕ)
 came_front input None lines rest turns c = absurd c.consumed
 came_front input (Some left) lines rest turns c = (lines_of (rest ++ left), ap lines_of (c.consumed ∙ ap (λ b. b ++ left) c.split ∙ stream_of-append lines rest left) ∙ lines_of-stream_of lines (rest ++ left) c.each)
 
-came_all : (input : List ℕ) (m : Option (List ℕ)) (lines : List (List ℕ)) → CameAll (Some input) m lines → lines_of input ≡ lines
+pub came_all : (input : List ℕ) (m : Option (List ℕ)) (lines : List (List ℕ)) → CameAll (Some input) m lines → lines_of input ≡ lines
 came_all input None lines c = absurd c.consumed
 came_all input (Some left) lines c = ap lines_of (c.consumed ∙ ap (λ b. c.came ++ b) c.at_end ∙ append-nil c.came) ∙ c.split
 
-came_first : (input : List ℕ) (m : Option (List ℕ)) (lines : List (List ℕ)) → CameFirst (Some input) m lines → (more : List (List ℕ)) × (lines_of input ≡ lines ++ more)
+pub came_first : (input : List ℕ) (m : Option (List ℕ)) (lines : List (List ℕ)) → CameFirst (Some input) m lines → (more : List (List ℕ)) × (lines_of input ≡ lines ++ more)
 came_first input m lines c = ⊎_elim (λ p. came_front input m lines p.0 p.1 p.2) (λ p. ([], came_all input m lines p ∙ sym (append-nil lines))) c
 
 -- ---- what the lines asked for is the first of what the input asks for

@@ -1,0 +1,85 @@
+-- A connection that ended `Full` found the history nearly full.
+use Rattle.std.proofs.Common.{◌≡◌, ℕ, ◌+◌, ◌≤◌, ◌<◌, ◌⊎◌, Bool, true, false, ◌&&◌, ◌||◌, nat_le, nat_lt, Option, leb-true, ltb-true, ltb-false, if◌then◌else◌, List, [], ◌∷◌, ◌++◌, length, map, sum_by, inl, inr, ⊎_elim, not, refl, sym, ap, ◌∙◌, subst, arith, append_assoc, length-append}
+use Rattle.std.specs.List.{AllByRecursion}
+use Rattle.std.proofs.lemmas.List.{map-append}
+use Rattle.std.proofs.lemmas.List.Sums.{sum_by-append}
+use Rattle.doc_model.specs.declared.entry.Entry.{Entry}
+use Rattle.doc_model.specs.declared.request.Request.{Request}
+use Rattle.doc_model.specs.declared.request.Request.TheVariants.{TooLong}
+use Rattle.io_edges.specs.declared.session_end.SessionEnd.{SessionEnd}
+use Rattle.io_edges.specs.declared.session_end.SessionEnd.TheVariants.{Full, NoMemory}
+use Rattle.session_gate.specs.declared.known.Made.{Made}
+use Rattle.session_gate.specs.History.{entries_of, entry_of, made_by}
+use Rattle.bundle_core.specs.Core.{is_full, is_gone, size_of}
+use Rattle.bundle_core.specs.Core as core
+use Rattle.bundle_core.specs.declared.machine.CoreOpening.{CoreOpening}
+use Rattle.grist_serve.specs.Link.{DoesNothing, EndsBy, ServesLink, StopsFull, TellsGone}
+use Rattle.grist_json.specs.Requests.{request_at}
+use Rattle.grist_serve.specs.Requests.{asked_by, is_blank, is_long, line_entries}
+use Rattle.grist_serve.specs.Turns.{CorePass, entry_in}
+use Rattle.grist_lanes.specs.FullEnds.{FullLaw, IsNearlyFull}
+use Rattle.grist_lanes.specs.InHistory.{Begins, IsInHistory}
+use Rattle.grist_lanes.specs.Services.{IsServed, Service, Telling}
+
+-- one of the two bounds is met
+one_met : (gone many large : Bool) → not gone && (many || large) ≡ true → (many ≡ true) ⊎ (large ≡ true)
+one_met true many large e = let never : ⊥ = cc e in absurd never
+one_met false true large e = inl refl
+one_met false false large e = inr e
+
+nearly : (es : List Entry) (r : Request) (size : ℕ) → size ≤ 1048577 → is_full es r size ≡ true → IsNearlyFull es
+nearly es r size small full =
+    ⊎_elim (λ m. inl (leb-true 1048576 (length es) m))
+    (λ l. let past = ltb-true 268435456 (sum_by size_of es + size) l in inr (omega (arith, past, small)))
+    (one_met (is_gone r) (nat_le 1048576 (length es)) (nat_lt 268435456 (sum_by size_of es + size)) full)
+
+-- a history that begins with a nearly full one is nearly full
+longer : (first whole : List Entry) → Begins first whole → IsNearlyFull first → IsNearlyFull whole
+longer first whole b n =
+    let count = ap length b.split ∙ length-append first b.rest in
+    let sum = ap (sum_by size_of) b.split ∙ sum_by-append size_of first b.rest in
+    ⊎_elim (λ m. inl (omega (arith, m, count))) (λ l. inr (omega (arith, l, sum))) n
+
+-- no entry of a line is larger than a longest line and a byte
+abbrev pub IsSmall : Entry → Type 0
+IsSmall e = e.size ≤ 1048577
+
+within : (name text : List ℕ) (long blank : Bool) → (long ≡ false → length text ≤ 1048576)
+    → AllByRecursion IsSmall (if long then core.entry_of name TooLong 1048577 true ∷ [] else if blank then [] else core.entry_of name (asked_by (request_at text)) (length text) true ∷ [])
+within name text true blank few = (omega arith, tt)
+within name text false true few = tt
+within name text false false few = (omega (arith, few refl), tt)
+
+are_small : (name text : List ℕ) → AllByRecursion IsSmall (line_entries name text)
+are_small name text = within name text (is_long text) (is_blank text) (λ short. ltb-false 1048576 (length text) short)
+
+module _ {Conn : Type 0} (t : Telling Conn) (o : CoreOpening) (history : List Entry) (name : List ℕ) (s : Service Conn) (within_history : IsInHistory t o history name s) where
+  -- what was seen when the history was found full begins the whole one
+  module _ (before : CorePass) (gone : TellsGone name before s.new) where
+    seen_first : Begins (entries_of before.seen) history
+    seen_first =
+        let later : List (Made Entry) = map (made_by before.number) (map entry_in gone.turns) in
+        let more : List (Made Entry) = gone.between ++ later in
+        let parts : s.new.seen ≡ before.seen ++ more = gone.seen ∙ append_assoc before.seen gone.between later in
+        record {
+          rest = entries_of more ++ within_history.seen.rest;
+          split = within_history.seen.split ∙ ap (λ z. entries_of z ++ within_history.seen.rest) parts
+              ∙ ap (λ z. z ++ within_history.seen.rest) (map-append entry_of before.seen more)
+              ∙ append_assoc (entries_of before.seen) (entries_of more) within_history.seen.rest;
+        }
+
+    found : {l l' w w' : Option (List ℕ)} → StopsFull name l l' s.old before w w' → IsNearlyFull history
+    found f =
+        let small = subst (AllByRecursion IsSmall) f.asks (are_small name f.last) in
+        longer (entries_of before.seen) history seen_first (nearly (entries_of before.seen) f.request.request f.request.size small.0 f.full)
+
+  ended : s.end ≡ Full → {l l' w w' : Option (List ℕ)} → ServesLink s.end name l l' s.old s.new w w' → IsNearlyFull history
+  ended is {l} {l'} {w} {w'} serves =
+      found serves.before_end serves.gone (subst (λ e. EndsBy e name l l' s.old serves.before_end w w') is serves.lines)
+
+  nothing : s.end ≡ Full → {l l' w w' : Option (List ℕ)} → DoesNothing s.end l l' s.old s.new w w' → IsNearlyFull history
+  nothing is none = let never : ⊥ = cc (is, none.end_is) in absurd never
+
+pub full-law : FullLaw
+full-law Conn t o history name s served inside is =
+    ⊎_elim (ended t o history name s inside is) (nothing t o history name s inside is) served.serves

@@ -27,6 +27,7 @@ OPEN = {"method": "openDoc", "token": "ta"}
 SYNC = b'{"method":"sync"}'
 ADD = {"actions": [["AddRecord", "Table1", None, {"A": 1}]], "method": "applyUserActions"}
 FULL = 1_048_576
+KEY, ACCEPTED = "dGhlIHNhbXBsZSBub25jZQ==", b"s3pPLMBiTxaQ9kYGzzhZRbK+xOo="  # The example of RFC 6455.
 
 
 def answer(port, sent, patience=40):
@@ -81,6 +82,24 @@ def opened(port):
     client = WebClient(port, head=head_of(port, origin=f"http://{HOST}:{port}"))
     client.ask(OPEN)
     return client
+
+
+def handshakes(port, told):
+    """A head with messages right behind it, in one piece and in short ones: the key is answered, and each message."""
+    talk = head_of(port, key=KEY) + frame_of(json.dumps(OPEN).encode()) + frame_of(SYNC) + frame_of(b"", CLOSE)
+    for size in (len(talk), 23):
+        link, said = joined(port, 40), b""
+        link.setsockopt(socket.IPPROTO_TCP, socket.TCP_NODELAY, 1)
+        for start in range(0, len(talk), size):
+            link.sendall(talk[start:start + size])
+            time.sleep(0.002)
+        while part := link.recv(65_536):
+            said += part
+        link.close()
+        head, _, rest = said.partition(b"\r\n\r\n")
+        told(f"a head in pieces of {size} bytes", head.split()[1], b"101")
+        told("its key is answered", b"sec-websocket-accept: " + ACCEPTED in head.splitlines(), True)
+        told("and what stands behind it", rest.count(b'{"ok":'), 2)
 
 
 def messages(port, told):
@@ -189,7 +208,7 @@ def main():
         for name, sent, wanted in answers(port):
             found = status(port, sent)
             told(name, found if wanted else found in (0, 400), wanted or True)
-        for play in (messages, ends, pieces):
+        for play in (handshakes, messages, ends, pieces):
             play(port, told)
         deaf(port)
         half = [joined(port) for _ in range(100)]

@@ -3,19 +3,26 @@
 
     python3 tools/try_faults.py PROGRAM [EVERY]
 
-tools/outside.c, which is built with cc and loaded before the C library, lets one call of a replay fail: each read of its
-input, which comes in pieces of seven bytes (status 4, and what the lines that came whole ask for); each write of an output
-that is not gathered whole (status 5, and a front of it); each request for memory, it alone or it and all behind it
-(status 7 and a front of the answer, or the whole answer). With EVERY only each so many-th of these is refused. Its status
-is 1 where anything differs.
+tools/outside.c, which is built with cc and loaded before the C library, lets one call of the program fail. Of a replay
+that is each read of its input, which comes in pieces of seven bytes (status 4, and what the lines that came whole ask
+for); each write of an output that is not gathered whole (status 5, and a front of it); each request for memory, it alone
+or it and all behind it (status 7 and a front of the answer, or the whole answer). Over a file it is each request for
+memory and each call of the disk: the next run then opens the document of the bundles that were accepted, and where the
+disk failed a bundle is refused with 19 and the next one is kept. Of a server of two lanes it is each of the first reads
+and writes of one connection, while the other is written byte for byte what it is written alone; and requests for memory.
+With EVERY only each so many-th request for memory is refused. Its status is 1 where anything differs.
 """
 import functools
+import json
 import os
+import socket
 import subprocess
 import sys
 import tempfile
 
-from scripts import ask, bundle, closing, formula, opening, update, user
+from loopback import free_ports, joined
+from scripts import USER, ask, bundle, closing, formula, opening, update, user
+from try_lanes import alone
 
 PATIENCE = 60
 SHIM = os.path.join(os.path.dirname(os.path.abspath(__file__)), "outside.c")
@@ -28,6 +35,8 @@ REQUESTS = [
     ask("s2", method="fetchTable", table="T"), closing(), ask("s2", method="sync"),
 ]
 LONG = USERS + ["no\n"] * 1_200  # What is answered finds no room in what a run gathers.
+LINES = [b'{"method":"openDoc","token":"ta"}\n'] + [b'{"method":"sync"}\n'] * 3 + [b'{"method":"closeDoc"}\n']
+FIRST_CALLS = 8  # Of a connection: it reads and writes no more often than it has lines, and once at its end.
 
 
 def script(lines):
@@ -42,9 +51,10 @@ class Outside:
         self.shim = os.path.join(folder, "outside.so")
         subprocess.run(["cc", "-shared", "-fPIC", "-O2", "-o", self.shim, SHIM], check=True)
 
-    def surroundings(self, outside):
-        """The environment in which that call fails."""
-        return {**os.environ, "LD_PRELOAD": self.shim, "OUTSIDE": outside, "OUTSIDE_COUNT": self.count_file()}
+    def surroundings(self, outside, port=-1):
+        """The environment in which that call fails, of a connection at that port."""
+        return {**os.environ, "LD_PRELOAD": self.shim, "OUTSIDE": outside, "OUTSIDE_COUNT": self.count_file(),
+                "OUTSIDE_PORT": str(port)}
 
     def count_file(self):
         return os.path.join(self.folder, "count")
@@ -105,6 +115,134 @@ def memory(outside, every):
                 yield f"{word} {number}: status {status}, and {written[-200:]}"
 
 
+class Kept:
+    """Runs over a document in a file, in a folder of their own."""
+
+    words = ("replay", "--doc", "book")
+    bundles = [bundle(["AddRecord", "Table1", None, {"A": number, "B": "x" * 300 * number}]) for number in range(5)]
+    script = script([*USERS, opening(), *bundles])
+
+    def __init__(self, outside):
+        self.outside = outside
+
+    @functools.lru_cache(maxsize=None)
+    def view(self, kept):
+        """What a session is told that opens the document of the bundles with these places."""
+        lines = [*USERS, opening(), *(self.bundles[place] for place in kept), opening("s2")]
+        return self.outside.run(script(lines))[1].splitlines()[-1]
+
+    def run(self, outside):
+        """The status and the lines of a run that meets that fault, and what the next run tells."""
+        with tempfile.TemporaryDirectory() as folder:
+            status, written = self.outside.run(self.script, outside, self.words, folder)
+            again, told = self.outside.run(script([*USERS, opening("s2")]), None, self.words, folder)
+            return status, written.splitlines(), told if not again else f"status {again}"
+
+    def count(self, word):
+        with tempfile.TemporaryDirectory() as folder:
+            return self.outside.count(self.script, word, self.words, folder)
+
+    def fronts(self):
+        """The views of each number of bundles, those in front."""
+        return [self.view(tuple(range(count))) for count in range(len(self.bundles) + 1)]
+
+
+def files(outside):
+    """Each call of the disk fails in turn: the run ends before it has answered, or one bundle is refused with 19."""
+    kept = Kept(outside)
+    for number in range(kept.count("disk")):
+        status, lines, told = kept.run(f"disk {number}")
+        answers = [json.loads(line)["line"] for line in lines[1:]]
+        places = tuple(place for place, answer in enumerate(answers) if "ok" in answer)
+        codes = [answer["error"]["code"] for answer in answers if "error" in answer]
+        if status == 6 and not lines:
+            places = ()
+        elif status not in (0, 6) or codes not in ([], [19]) or len(answers) != len(kept.bundles):
+            yield f"disk {number}: status {status}, and {lines}"
+        if told.strip() != kept.view(places):
+            yield f"disk {number}: kept {places}, and the next run tells {told[:300]}"
+
+
+def kept_memory(outside, every):
+    """Each request for memory over a file is refused in turn: the next run opens the document of a front."""
+    kept = Kept(outside)
+    fronts = kept.fronts()
+    for number in range(0, kept.count("memory"), every):
+        status, lines, told = kept.run(f"memory {number}")
+        accepted = sum(b'"ok":{' in line for line in lines[1:])
+        if status not in (0, 7) or told.strip() not in fronts[accepted:]:
+            yield f"memory {number} over a file: status {status}, {accepted} accepted, and the next run tells {told[:300]}"
+
+
+class TwoLanes:
+    """A server of two lanes, whose first one's connection meets a fault."""
+
+    def __init__(self, outside, fault):
+        self.port = free_ports(2)
+        with tempfile.TemporaryFile() as users:
+            users.write(USER.encode())
+            users.seek(0)
+            words = [outside.program, "serve", "--lanes", "2", "--port", str(self.port), "--conns", "1"]
+            self.server = subprocess.Popen(words, stdin=users, stdout=subprocess.PIPE,
+                                           env=outside.surroundings(fault, self.port))
+
+    def joined(self, lane):
+        """A connection to that lane; nothing where the server has ended."""
+        while self.server.poll() is None:
+            try:
+                return socket.create_connection(("127.0.0.1", self.port + lane), timeout=PATIENCE)
+            except ConnectionRefusedError:
+                pass
+        return None
+
+    def written(self, lane):
+        """What that lane's connection is written, which sends all its lines at once."""
+        link, came = self.joined(lane), b""
+        if link is None:
+            return came
+        try:
+            link.sendall(b"".join(LINES))
+            link.shutdown(socket.SHUT_WR)
+            while part := link.recv(65_536):
+                came += part
+        except OSError:
+            pass
+        link.close()
+        return came
+
+    def end(self):
+        """The status, and what the server told at its end."""
+        told, _ = self.server.communicate(timeout=PATIENCE)
+        return self.server.returncode, told
+
+
+def lanes(outside):
+    """Each of the first reads and writes of one connection fails; the other is written all that it is alone."""
+    want = alone(outside.program, *LINES)
+    for word in ("comes", "goes"):
+        for number in range(FIRST_CALLS):
+            server = TwoLanes(outside, f"{word} {number}")
+            first, second = server.written(0), server.written(1)
+            status, told = server.end()
+            if second != want or not is_front(first, want) or status or json.loads(told)["connections"] != 2:
+                yield f"{word} {number}: status {status}, {first}, {second}, {told}"
+
+
+def lanes_memory(outside, every):
+    """Each request for memory of a server is refused in turn: a connection ends, or 7, and what is written is a front."""
+    want = alone(outside.program, *LINES)
+    server = TwoLanes(outside, "memory -1")
+    server.written(0), server.written(1), server.end()
+    with open(outside.count_file()) as file:
+        count = int(file.read())
+    for number in range(0, count, every):
+        server = TwoLanes(outside, f"memory {number}")
+        fronts = [server.written(lane) for lane in (0, 1)]
+        status, told = server.end()
+        if status not in (0, 7, 10) or not all(is_front(front, want) for front in fronts):
+            yield f"memory {number} of a server: status {status}, {fronts}"
+
+
 def is_front(written, want):
     return want.startswith(written) and (not written or written.endswith(b"\n"))
 
@@ -112,7 +250,8 @@ def is_front(written, want):
 def main(program, every=1):
     with tempfile.TemporaryDirectory() as folder:
         outside = Outside(os.path.abspath(program), folder)
-        tries = [reads(outside), writes(outside), memory(outside, every)]
+        tries = [reads(outside), writes(outside), memory(outside, every), files(outside), kept_memory(outside, every),
+                 lanes(outside), lanes_memory(outside, every)]
         faults = [fault for tried in tries for fault in tried]
     for fault in faults:
         print(fault)

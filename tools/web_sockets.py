@@ -9,11 +9,11 @@ from loopback import HOST, joined
 TEXT, BINARY, CLOSE, PING, PONG = 1, 2, 8, 9, 10
 
 
-def head_of(port, target="/socket", version=13, host=None, origin=None):
+def head_of(port, target="/socket", version=13, host=None, origin=None, key=None):
     """The head of a request for a connection."""
     fields = [f"GET {target} HTTP/1.1", f"Host: {host or f'{HOST}:{port}'}", "Upgrade: websocket",
               "Connection: keep-alive, Upgrade", f"Sec-WebSocket-Version: {version}",
-              f"Sec-WebSocket-Key: {base64.b64encode(os.urandom(16)).decode()}"]
+              f"Sec-WebSocket-Key: {key or base64.b64encode(os.urandom(16)).decode()}"]
     if origin:
         fields.append(f"Origin: {origin}")
     return ("\r\n".join(fields) + "\r\n\r\n").encode()

@@ -69,13 +69,13 @@ pub record IsTaken (old new : KeptCore) (session : List ℕ) (r : Request) (size
   pub taken : IsStep old.state new.state (entry_of session r size kept) lines
   pub keeps : KeepsOn old new (entry_of session r size kept)
 
--- nothing changed, but that the keeper may have failed
+-- nothing at all changed, the keeper's count of faults neither
 pub record IsUnchanged (old new : KeptCore) : Type 0 where
   pub state : new.state ≡ old.state
   pub opening : new.kept.opening ≡ old.kept.opening
   pub before : new.kept.before ≡ old.kept.before
   pub records : new.kept.records ≡ old.kept.records
-  pub later : old.kept.faults ≤ new.kept.faults
+  pub faults : new.kept.faults ≡ old.kept.faults
 
 -- the told records are those of the opening and then those of the history; those lead to the
 -- opening document, and all of them to the document now; the keeper failed once at least for each

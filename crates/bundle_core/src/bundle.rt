@@ -136,6 +136,7 @@ pub(crate) fn accept<D: DocTables, K: Keeper>(
     ensures err { OnErr result (AreSame sessions.old.items sessions.new.items) }
     ensures err_told { OnErr result (records.new.told ≡ records.old.told) }
     ensures err_count { OnErr result (records.new.count ≡ records.old.count) }
+    ensures err_faults { OnErr result (records.new.faults ≡ records.old.faults) }
     ensures known { AreKnown (D.document doc.new) known.new }
 {
     let mut trail = trail;

@@ -113,7 +113,7 @@ fn quiet(lines: Result<Vec<Line>, AllocError>) -> Result<Turn, AllocError>
 
 /// Answers an entry of a session that does not go away: the lines that it is given, with the
 /// document, the sessions and what is told of the keeper as they are after it. When out of memory,
-/// nothing that can be seen has changed, but that the keeper may have failed.
+/// nothing that can be seen has changed, and the keeper has not failed.
 pub(crate) fn answer<D: DocTables, K: Keeper>(
     alloc: Global,
     users: &[User],
@@ -140,6 +140,7 @@ pub(crate) fn answer<D: DocTables, K: Keeper>(
     ensures err { OnErr result (AreSame sessions.old.items sessions.new.items) }
     ensures err_told { OnErr result (records.new.told ≡ records.old.told) }
     ensures err_count { OnErr result (records.new.count ≡ records.old.count) }
+    ensures err_faults { OnErr result (records.new.faults ≡ records.old.faults) }
     ensures later { records.old.faults ≤ records.new.faults }
 {
     match index_of(sessions, &entry.session) {
@@ -289,6 +290,7 @@ fn answer_open<D: DocTables, K: Keeper>(
     ensures err { OnErr result (AreSame sessions.old.items sessions.new.items) }
     ensures err_told { OnErr result (records.new.told ≡ records.old.told) }
     ensures err_count { OnErr result (records.new.count ≡ records.old.count) }
+    ensures err_faults { OnErr result (records.new.faults ≡ records.old.faults) }
     ensures later { records.old.faults ≤ records.new.faults }
 {
     if sessions[index].is_lagging() {
@@ -389,6 +391,7 @@ fn answer_bundle<D: DocTables, K: Keeper>(
     ensures err { OnErr result (AreSame sessions.old.items sessions.new.items) }
     ensures err_told { OnErr result (records.new.told ≡ records.old.told) }
     ensures err_count { OnErr result (records.new.count ≡ records.old.count) }
+    ensures err_faults { OnErr result (records.new.faults ≡ records.old.faults) }
     ensures later { records.old.faults ≤ records.new.faults }
 {
     let known = &mut doc.known;
@@ -440,6 +443,7 @@ fn answer_undo<D: DocTables, K: Keeper>(
     ensures err { OnErr result (AreSame sessions.old.items sessions.new.items) }
     ensures err_told { OnErr result (records.new.told ≡ records.old.told) }
     ensures err_count { OnErr result (records.new.count ≡ records.old.count) }
+    ensures err_faults { OnErr result (records.new.faults ≡ records.old.faults) }
     ensures later { records.old.faults ≤ records.new.faults }
 {
     let known = &mut doc.known;
@@ -515,6 +519,7 @@ fn answer_judged<D: DocTables, K: Keeper>(
     ensures err { OnErr result (AreSame sessions.old.items sessions.new.items) }
     ensures err_told { OnErr result (records.new.told ≡ records.old.told) }
     ensures err_count { OnErr result (records.new.count ≡ records.old.count) }
+    ensures err_faults { OnErr result (records.new.faults ≡ records.old.faults) }
     ensures later { records.old.faults ≤ records.new.faults }
 {
     match judged {

@@ -11,7 +11,7 @@
 //! was given is what the history has of it (specs/Hosting.antt). The room for the line is taken
 //! before a port is asked. `PortFault` comes only where a port's count of faults rose; all lanes
 //! end before it is told. A replay is that of `run_alone`, an audit that of `audit_users`.
-//! `completeness_laws`: where a run can be answered whole and nothing outside fails, its status is
+//! `run_law`: where a run can be answered whole and nothing outside fails, its status is
 //! 0 with every entry kept, or 7 (specs/Complete.antt).
 //! Not promised: that memory is there, that a connection or a turn comes, that lanes run at the
 //! same time.
@@ -23,4 +23,4 @@ mod laws;
 mod summary;
 
 pub use hosting::run;
-pub use laws::completeness_laws;
+pub use laws::run_law;

@@ -15,7 +15,7 @@ mod page;
 use crate::page::PAGE;
 use grist_program::{Outside, listener_on, outside_of, status_over, words_of};
 use grist_run::Status;
-use std::alloc::{AllocError, Global};
+use std::alloc::AllocError;
 use std::net::{Net, TcpListener, TcpStream};
 use std::process::ExitCode;
 use std::sync::Wait;
@@ -26,15 +26,16 @@ use web_edges::WebSocketPort;
 // could not be bound each fails at its first connection.
 fn ports_of<R: Net<Listener = TcpListener, Stream = TcpStream>>(
     rt: &R,
-    alloc: Global,
+    host: &HostRuntime,
     outside: &Outside,
-) -> Result<Vec<WebSocketPort<TcpListener>>, AllocError>
+) -> Result<Vec<WebSocketPort<TcpListener, HostRuntime>>, AllocError>
     ensures { IfOk result (λ v. All (λ p. p.lent ≡ false) v.items) }
 {
     let shared = match outside.lanes {
         0 => None,
         _ => listener_on(rt, u32::from(outside.port)),
     };
+    let alloc = host.alloc();
     let mut ports = Vec::new(alloc);
     for _lane in 0..outside.lanes {
         let listener = match &shared {
@@ -42,7 +43,8 @@ fn ports_of<R: Net<Listener = TcpListener, Stream = TcpStream>>(
             None => None,
         };
         let page = PAGE.as_bytes();
-        ports.push(WebSocketPort::new(alloc, outside.port, page, listener, outside.conns))?;
+        let port = WebSocketPort::new(alloc, *host, outside.port, page, listener, outside.conns);
+        ports.push(port)?;
     }
     Ok(ports)
 }
@@ -53,7 +55,7 @@ fn status_of<R: Threads + Wait + Net<Listener = TcpListener, Stream = TcpStream>
     words: &[String],
 ) -> Result<Status, AllocError> {
     let outside = outside_of(host.alloc(), words)?;
-    let ports = ports_of(rt, host.alloc(), &outside)?;
+    let ports = ports_of(rt, host, &outside)?;
     status_over(rt, host, words, outside, ports)
 }
 

@@ -115,8 +115,7 @@ impl<K: Keeper, W: Watcher> WatchedCore<K, W> {
     /// Units: the size is the byte count of the request's line.
     /// Errors: `Full` where the history has no room for the request; it changes nothing.
     /// Memory: all of it is taken before the keeper is called. Where there is none, nothing
-    /// changes, but that the keeper's count of faults may have grown. A session that goes away
-    /// takes none.
+    /// changes, the keeper's count of faults neither. A session that goes away takes none.
     pub fn step(
         &mut self,
         session: &Name,

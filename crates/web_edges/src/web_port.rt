@@ -2,17 +2,20 @@
 ghost use Rattle.std.specs.Prelude.{None};
 
 use crate::WebSocketLink;
-use io_edges::{Failed, Port, SessionEnd};
+use io_edges::{Failed, Port, SessionEnd, next_stream};
 use std::alloc::Global;
 use std::io::{Read, Write};
 use std::marker::Send;
 use std::net::{OpenListener, OpenStream};
+use std::time::Clock;
 
 /// Hands out the connections that a listener accepts, up to a number. It tells none of them.
 /// Without a listener, which is how one that could not be bound is handed in, `next` fails.
+/// What passes while it accepts, as that too many files are open, is counted and does not fail it.
 #[derive(Drop)]
-pub struct WebSocketPort<L: OpenListener> {
+pub struct WebSocketPort<L: OpenListener, C: Clock> {
     alloc: Global,
+    clock: C,
     port: u16,
     page: &'static [u8],
     listener: Option<L>,
@@ -23,12 +26,14 @@ pub struct WebSocketPort<L: OpenListener> {
     faults: u64,
 }
 
-impl<L: OpenListener> WebSocketPort<L> {
+impl<L: OpenListener, C: Clock> WebSocketPort<L, C> {
     ghost use Rattle.std.specs.Prelude.{◌≡◌, false};
 
-    /// Hands out so many connections at most, of the server of that port and page.
+    /// Hands out so many connections at most, of the server of that port and page, and rests by
+    /// that clock.
     pub fn new(
         alloc: Global,
+        clock: C,
         port: u16,
         page: &'static [u8],
         listener: Option<L>,
@@ -41,6 +46,7 @@ impl<L: OpenListener> WebSocketPort<L> {
     {
         WebSocketPort {
             alloc,
+            clock,
             port,
             page,
             listener,
@@ -53,7 +59,7 @@ impl<L: OpenListener> WebSocketPort<L> {
     }
 }
 
-impl<L: OpenListener + Drop> Port for WebSocketPort<L>
+impl<L: OpenListener + Drop, C: Clock + Drop> Port for WebSocketPort<L, C>
 where
     L::Stream: Read + Write + OpenStream + Drop + Send,
 {
@@ -74,10 +80,10 @@ where
             return Ok(None);
         }
         let accepted = match &self.listener {
-            Some(listener) => listener.accept().ok(),
+            Some(listener) => next_stream(listener, &self.clock, &mut self.faults),
             None => None,
         };
-        let Some((stream, _)) = accepted else {
+        let Some(stream) = accepted else {
             self.faults = self.faults.saturating_add(1);
             return Err(Failed);
         };

@@ -35,6 +35,7 @@ returns-then-is_lagging g c =
       err = quiet_err (λ v. let t : Turn = record { lines = v; kept = true } in t) _ c.leave.result c.quiet.result c.quiet.ensures c.leave.ensures.err;
       err_told = on_err_always c.quiet.result refl;
       err_count = on_err_always c.quiet.result refl;
+      err_faults = on_err_always c.quiet.result refl;
       later = omega arith;
     }
 
@@ -62,6 +63,7 @@ returns-in-Some g c =
       err = quiet_err (λ v. let t : Turn = record { lines = v; kept = true } in t) _ c.stay.result c.quiet-in-Some.result c.quiet-in-Some.ensures c.stay.ensures.err;
       err_told = on_err_always c.quiet-in-Some.result refl;
       err_count = on_err_always c.quiet-in-Some.result refl;
+      err_faults = on_err_always c.quiet-in-Some.result refl;
       later = omega arith;
     }
 
@@ -89,6 +91,7 @@ returns-in_default-request g c =
       err = quiet_err (λ v. let t : Turn = record { lines = v; kept = true } in t) _ c.stay-in_default-request.result c.quiet-in_default-request.result c.quiet-in_default-request.ensures c.stay-in_default-request.ensures.err;
       err_told = on_err_always c.quiet-in_default-request.result refl;
       err_count = on_err_always c.quiet-in_default-request.result refl;
+      err_faults = on_err_always c.quiet-in_default-request.result refl;
       later = omega arith;
     }
 
@@ -117,6 +120,7 @@ returns-in-Fetch g c =
       err = quiet_err (λ v. let t : Turn = record { lines = v; kept = true } in t) _ c.answer_fetch.result c.quiet-in-Fetch.result c.quiet-in-Fetch.ensures c.answer_fetch.ensures.err;
       err_told = on_err_always c.quiet-in-Fetch.result refl;
       err_count = on_err_always c.quiet-in-Fetch.result refl;
+      err_faults = on_err_always c.quiet-in-Fetch.result refl;
       later = omega arith;
     }
 
@@ -144,5 +148,6 @@ returns-in-Close g c =
       err = quiet_err (λ v. let t : Turn = record { lines = v; kept = true } in t) _ c.leave-in-Close.result c.quiet-in-Close.result c.quiet-in-Close.ensures c.leave-in-Close.ensures.err;
       err_told = on_err_always c.quiet-in-Close.result refl;
       err_count = on_err_always c.quiet-in-Close.result refl;
+      err_faults = on_err_always c.quiet-in-Close.result refl;
       later = omega arith;
     }

@@ -1,5 +1,5 @@
 use Rattle.grist_hosting.proofs.CompleteLemmas.{completeness-laws}
-use Rattle.grist_hosting.proofs.laws.completeness_laws.Goals as goal
+use Rattle.grist_hosting.proofs.laws.run_law.Goals as goal
 
 pub returns : goal.returns
 returns c = completeness-laws

@@ -1,9 +1,8 @@
 -- Where nothing outside fails, all is answered or memory was wanting, whatever a run is asked for.
-use Rattle.std.proofs.Common.{◌≡◌, ℕ, ◌+◌, ◌-◌, ◌<◌, ◌≤◌, List, [], ◌∷◌, ◌++◌, length, Option, Some, refl, sym, ap, ◌∙◌, subst, arith, length-append}
+use Rattle.std.proofs.Common.{◌≡◌, ℕ, ◌+◌, ◌-◌, List, [], ◌∷◌, ◌++◌, length, Option, Some, refl, sym, ap, ◌∙◌, subst, arith, length-append}
 use Rattle.doc_model.specs.NewDocument.{new_document}
 use Rattle.doc_model.specs.declared.user.User.{User}
 use Rattle.doc_opening.specs.Opening.{FirstBad}
-use Rattle.io_edges.specs.Lines.{lines_of}
 use Rattle.io_edges.specs.Ports.{PortState}
 use Rattle.bundle_core.specs.KeptBundles.{not_kept}
 use Rattle.grist_lanes.specs.Handed.{SomeFailed}
@@ -12,15 +11,14 @@ use Rattle.grist_run.specs.declared.status.Status.{Status}
 use Rattle.grist_run.specs.declared.status.Status.TheVariants.{Done, Usage, BadUsers, ReadFault, WriteFault, StoreFault, NoMemory, BadStore, TurnsSpent, PortFault, HistoryFull}
 use Rattle.grist_run.specs.Complete.{IsComplete}
 use Rattle.grist_run.specs.Generated.{IsGenerated}
-use Rattle.grist_run.specs.Hearing.{EndsHearing}
 use Rattle.grist_run.specs.UserLines.{Script, bad_user, script, script_of}
 use Rattle.grist_run.proofs.Complete.{bad≢opens, complete, few_came, none_failed, stops≢takes}
 use Rattle.grist_run.proofs.Said.{script-asks, script-bad}
 use Rattle.grist_run.proofs.ToldLaws.{came_first}
 use Rattle.users_alone.specs.UsersAlone.{RefusesLine, StopsAlone, bad_line, said_alone, says, users_alone}
 use Rattle.audit_run.specs.AuditRuns.{IsAudit}
-use Rattle.grist_hosting.specs.Complete.{AreGood, Audited, CanHost, CompletenessLaws, Completes, Ended, Generated, HasCauses, Hosted, NoneFailed, Replayed}
-use Rattle.grist_hosting.specs.Hosting.{Hosts, IsHosting}
+use Rattle.grist_hosting.specs.Complete.{AreGood, CanHost, CompletenessLaws, Ended, Generated, HasCauses, NoneFailed, Replayed}
+use Rattle.grist_hosting.specs.Hosting.{IsHosting}
 
 bad≢says : {n : ℕ} {us : List User} → bad_line n ≡ says us → ⊥
 bad≢says e = cc
@@ -113,10 +111,10 @@ module _ (e : Ended) (c : HasCauses e) (f : NoneFailed e) where
       hosted PortFault is d = let never : ⊥ = stood d.hosts.hosted.ended in absurd never
       hosted HistoryFull is d = absurd d.hosts
 
-pub completeness-laws : CompletenessLaws
-completeness-laws = record {
+pub completeness-laws : {Conn : Type 0} (t : Telling Conn) → CompletenessLaws t
+completeness-laws t = record {
   replay = λ e input r c f. replayed e c f input r;
   generated = λ e rows g c f. generated e c f rows g e.status refl g.did;
   audit = λ e input a c f. audited e c f input a.can e.status refl a.did;
-  serve = λ Conn t ports ports_now e input h c f. hosted e c f input h.can t ports ports_now h.ports_stood e.status refl h.did;
+  serve = λ e input ports ports_now h c f. hosted e c f input h.can t ports ports_now h.ports_stood e.status refl h.did;
 }

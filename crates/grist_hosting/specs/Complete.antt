@@ -99,10 +99,10 @@ module _ (e : Ended) where
   abbrev pub Completes : Type 0
   Completes = HasCauses → NoneFailed → IsComplete e.status e.history
 
--- whatever a run is asked for
-pub record CompletenessLaws : Type 1 where
+-- whatever a run is asked for, over ports of such connections
+pub record CompletenessLaws {Conn : Type 0} (t : Telling Conn) : Type 0 where
   pub replay : (e : Ended) (input : List ℕ) → Replayed e input → Completes e
   pub generated : (e : Ended) (rows : ℕ) → Generated e rows → Completes e
   pub audit : (e : Ended) (input : List ℕ) → Audited e input → Completes e
-  pub serve : (Conn : Type 0) (t : Telling Conn) (ports ports_now : List (PortState Conn))
-      (e : Ended) (input : List ℕ) → Hosted e t input ports ports_now → Completes e
+  pub serve : (e : Ended) (input : List ℕ) (ports ports_now : List (PortState Conn))
+      → Hosted e t input ports ports_now → Completes e

@@ -1,13 +1,12 @@
 -- A connection that ended `Full` found the history nearly full.
-use Rattle.std.proofs.Common.{◌≡◌, ℕ, ◌+◌, ◌≤◌, ◌<◌, ◌⊎◌, Bool, true, false, ◌&&◌, ◌||◌, nat_le, nat_lt, Option, leb-true, ltb-true, ltb-false, if◌then◌else◌, List, [], ◌∷◌, ◌++◌, length, map, sum_by, inl, inr, ⊎_elim, not, refl, sym, ap, ◌∙◌, subst, arith, append_assoc, length-append}
+use Rattle.std.proofs.Common.{◌≡◌, ℕ, ◌+◌, ◌≤◌, ◌⊎◌, Bool, true, false, ◌&&◌, ◌||◌, nat_le, nat_lt, Option, leb-true, ltb-true, ltb-false, if◌then◌else◌, List, [], ◌∷◌, ◌++◌, length, map, sum_by, inl, inr, ⊎_elim, not, refl, ap, ◌∙◌, subst, arith, append_assoc, length-append}
 use Rattle.std.specs.List.{AllByRecursion}
 use Rattle.std.proofs.lemmas.List.{map-append}
 use Rattle.std.proofs.lemmas.List.Sums.{sum_by-append}
 use Rattle.doc_model.specs.declared.entry.Entry.{Entry}
 use Rattle.doc_model.specs.declared.request.Request.{Request}
 use Rattle.doc_model.specs.declared.request.Request.TheVariants.{TooLong}
-use Rattle.io_edges.specs.declared.session_end.SessionEnd.{SessionEnd}
-use Rattle.io_edges.specs.declared.session_end.SessionEnd.TheVariants.{Full, NoMemory}
+use Rattle.io_edges.specs.declared.session_end.SessionEnd.TheVariants.{Full}
 use Rattle.session_gate.specs.declared.known.Made.{Made}
 use Rattle.session_gate.specs.History.{entries_of, entry_of, made_by}
 use Rattle.bundle_core.specs.Core.{is_full, is_gone, size_of}
@@ -19,7 +18,7 @@ use Rattle.grist_serve.specs.Requests.{asked_by, is_blank, is_long, line_entries
 use Rattle.grist_serve.specs.Turns.{CorePass, entry_in}
 use Rattle.grist_lanes.specs.FullEnds.{FullLaw, IsNearlyFull}
 use Rattle.grist_lanes.specs.InHistory.{Begins, IsInHistory}
-use Rattle.grist_lanes.specs.Services.{IsServed, Service, Telling}
+use Rattle.grist_lanes.specs.Services.{Service, Telling}
 
 -- one of the two bounds is met
 one_met : (gone many large : Bool) → not gone && (many || large) ≡ true → (many ≡ true) ⊎ (large ≡ true)
@@ -80,6 +79,6 @@ module _ {Conn : Type 0} (t : Telling Conn) (o : CoreOpening) (history : List En
   nothing : s.end ≡ Full → {l l' w w' : Option (List ℕ)} → DoesNothing s.end l l' s.old s.new w w' → IsNearlyFull history
   nothing is none = let never : ⊥ = cc (is, none.end_is) in absurd never
 
-pub full-law : FullLaw
-full-law Conn t o history name s served inside is =
+pub full-law : {Conn : Type 0} (t : Telling Conn) → FullLaw t
+full-law t o history name s served inside is =
     ⊎_elim (ended t o history name s inside is) (nothing t o history name s inside is) served.serves

@@ -12,7 +12,6 @@ abbrev pub IsNearlyFull : List Entry → Type 0
 IsNearlyFull h = (1048576 ≤ length h) ⊎ (268435456 < sum_by size_of h + 1048577)
 
 -- a connection of the history that ended so found it nearly full
-abbrev pub FullLaw : Type 1
-FullLaw = (Conn : Type 0) (t : Telling Conn) (o : CoreOpening) (history : List Entry)
-    (name : List ℕ) (s : Service Conn) → IsServed t name s → IsInHistory t o history name s
-    → s.end ≡ Full → IsNearlyFull history
+abbrev pub FullLaw : {Conn : Type 0} → Telling Conn → Type 0
+FullLaw {Conn} t = (o : CoreOpening) (history : List Entry) (name : List ℕ) (s : Service Conn)
+    → IsServed t name s → IsInHistory t o history name s → s.end ≡ Full → IsNearlyFull history

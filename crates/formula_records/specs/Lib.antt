@@ -1,0 +1,2 @@
+pub mod RecordTables
+pub mod Recs

@@ -69,13 +69,12 @@ rewritten_spells x d text t g s =
     let e = rewritten_some text x.new s.tokens (marks x t) s.spelled in
     subst (λ (other : List ℕ). SpellsIn d other (Some (renamed x t))) (sym e) (by_tokens x d text t s.tokens g s.spelled s.tree e)
 
-
 pub rewritten_formula : RewrittenFormulaLaw
 rewritten_formula x text t g e =
     elim (spelled_formula text t e) [
       | inl s ↦ formula_spelled (rewritten_text text (marks x t) x.new) (renamed x t) (inl (rewritten_spells x _ text t g s))
       | inr s ↦
-        let empty : SpellsText text [] = subst (λ (ts : List Token). SpellsText text ts) s.1.tree s.1.spelled in
-        let stays : rewritten_text text (marks x t) x.new ≡ text = rewritten_some text x.new [] (marks x t) empty in
-        ap formula_of stays ∙ e ∙ ap Some (s.0 ∙ sym (ap (renamed x) s.0))
+          let empty : SpellsText text [] = subst (λ (ts : List Token). SpellsText text ts) s.1.tree s.1.spelled in
+          let stays : rewritten_text text (marks x t) x.new ≡ text = rewritten_some text x.new [] (marks x t) empty in
+          ap formula_of stays ∙ e ∙ ap Some (s.0 ∙ sym (ap (renamed x) s.0))
     ]

@@ -1,6 +1,5 @@
 -- Plans made part by part, and rows one after the other.
-use Rattle.std.proofs.Common.{◌≡◌, ◌∙◌, ap, refl, sym, arith, ℕ, zero, suc, ◌+◌, ◌<◌, Bool, true, false, cond, List, [], ◌∷◌, ◌++◌, length, get_or, drop, Option, Some, None, append_assoc}
-use Rattle.std.specs.Prelude.{filter}
+use Rattle.std.proofs.Common.{◌≡◌, ap, refl, arith, ℕ, zero, suc, ◌+◌, ◌<◌, List, [], ◌∷◌, ◌++◌, length, get_or, drop, Option, Some, None, append_assoc}
 use Rattle.doc_model.specs.declared.view.ViewTable.{ViewTable}
 use Rattle.acl_rules.specs.declared.resource.Resource.{Resource}
 use Rattle.user_attrs.specs.declared.attribute_rule.AttributeRule.{AttributeRule}

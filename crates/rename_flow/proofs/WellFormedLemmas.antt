@@ -1,8 +1,7 @@
 -- Planned actions are well formed.
-use Rattle.std.proofs.Common.{◌≡◌, ◌∙◌, ap, refl, sym, ℕ, ℤ, ◌+◌, Bool, true, false, ◌&&◌, cond, codes, List, [], ◌∷◌, ◌++◌, length, length-append, nat_eq, Option, Some, None, Result, Ok, Err, IfOk, arith}
+use Rattle.std.proofs.Common.{◌≡◌, ◌∙◌, ap, refl, sym, ℕ, ℤ, ◌+◌, Bool, true, false, cond, codes, List, [], ◌∷◌, ◌++◌, length, length-append, Option, Some, None, Result, Ok, Err, IfOk, arith}
 use Rattle.std.specs.Prelude.{filter}
 use Rattle.std.specs.List.{AllByRecursion, list_all}
-use Rattle.std.specs.Bool.{⊤}
 use Rattle.std.proofs.lemmas.Bool.{and_from}
 use Rattle.std.proofs.lemmas.List.Folds.{list_all-append}
 use Rattle.cell_types.specs.declared.value.CellValue.{CellValue}
@@ -11,7 +10,6 @@ use Rattle.doc_model.specs.declared.view.ViewCol.{ViewCol}
 use Rattle.doc_model.specs.declared.view.ViewTable.{ViewTable}
 use Rattle.doc_model.specs.WellFormed.{is_well_formed}
 use Rattle.rename_marks.specs.declared.column_rename.ColumnRename.{ColumnRename}
-use Rattle.rename_flow.specs.declared.column_parts.Place.{Place}
 use Rattle.rename_flow.specs.declared.column_parts.Place.TheVariants as place
 use Rattle.rename_flow.specs.declared.rename_plan.RenamePlan.{RenamePlan}
 use Rattle.rename_flow.specs.declared.row_changes.RowChanges.{RowChanges}

@@ -1,4 +1,4 @@
-use Rattle.std.proofs.Common.{◌≡◌, ◌∙◌, ◌++◌, ap, sym, subst, ℕ, List, codes, IfOk, string_bytes}
+use Rattle.std.proofs.Common.{◌≡◌, ◌∙◌, ◌++◌, ap, subst, ℕ, List, codes, IfOk, string_bytes}
 use Rattle.user_attrs.specs.AttributeText.{property_text}
 use Rattle.rename_flow.specs.AttributeTexts.{attribute_text}
 use Rattle.rename_flow.proofs.attribute_texts.attribute_text.Goals as goal

@@ -1,4 +1,4 @@
-use Rattle.std.proofs.Common.{◌≡◌, ◌∙◌, ◌+◌, ap, sym, List, drop}
+use Rattle.std.proofs.Common.{◌∙◌, ◌+◌, ap, sym, List, drop}
 use Rattle.doc_model.specs.declared.view.ViewTable.{ViewTable}
 use Rattle.formula_records.proofs.ItemLemmas.{drop_next}
 use Rattle.rename_flow.specs.declared.rename_plan.RenamePlan.{RenamePlan}

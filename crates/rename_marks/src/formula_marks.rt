@@ -3,10 +3,10 @@
 ghost use Rattle.std.specs.Prelude.{◌≡◌, IfOk, OnOk, length};
 ghost use Rattle.formula_parse.specs.Grammar.{op_lexemes};
 ghost use Rattle.formula_parse.specs.Seen.{keys_of};
-ghost use Rattle.formula_parse.specs.Tree.{atom, from_list, keys_from};
+ghost use Rattle.formula_parse.specs.Tree.{atom, conditional, from_list, keys_from};
 ghost use Rattle.formula_records.specs.RecordTables.{only};
 ghost use Rattle.rename_texts.specs.Marked.{marks};
-ghost use Rattle.rename_marks.specs.Noted.{capped, used, walked, walked_items, walked_keys, walked_more, walked_more_keys, with_key};
+ghost use Rattle.rename_marks.specs.Noted.{capped, stayed, used, walked, walked_items, walked_keys, walked_more, walked_more_keys, with_key};
 ghost use Rattle.rename_marks.specs.Scope.{rename_in, scope_at, tables_of};
 ghost use Rattle.rename_marks.specs.ScopeUses.{uses};
 ghost use Rattle.rename_marks.specs.Uses.{unresolved_among, use_of};
@@ -183,26 +183,16 @@ fn note_formula(
             note_formula(alloc, found, rename, place, inner)
         }
         Node::Conditional(value, condition, other) => {
-            note_formula(alloc, found, rename, place, value)?;
-            found.skip(1)?;
-            note_formula(alloc, found, rename, place, condition)?;
-            found.skip(1)?;
-            note_formula(alloc, found, rename, place, other)
+            note_conditional(alloc, found, rename, place, value, condition, other)
         }
         Node::Parentheses(inner) => {
             found.skip(1)?;
             note_formula(alloc, found, rename, place, inner)?;
             found.skip(1)
         }
-        Node::List(items) => {
-            found.skip(1)?;
-            note_items(alloc, found, rename, place, items.as_slice())?;
-            found.skip(1)
-        }
+        Node::List(items) => note_listed(alloc, found, rename, place, 1, items.as_slice()),
         Node::Call(_, arguments) => {
-            found.skip(2)?;
-            note_items(alloc, found, rename, place, arguments.as_slice())?;
-            found.skip(1)
+            note_listed(alloc, found, rename, place, 2, arguments.as_slice())
         }
         Node::Attribute(inner, name) => {
             note_formula(alloc, found, rename, place, inner)?;
@@ -218,6 +208,46 @@ fn note_formula(
         Node::Rule(asked) => note_atom(alloc, found, rename, place, asked),
         Node::Number(_) | Node::Text(_) | Node::Constant(_) => found.skip(1),
     }
+}
+
+// Notes what is in a conditional formula.
+#[tactic(auto, using(crate::proofs::WalkLemmas::walked_conditional))]
+#[cycle(marks)]
+fn note_conditional(
+    alloc: Global,
+    found: &mut Marking,
+    rename: &ColumnRename,
+    place: &FormulaPlace<'_>,
+    value: &Formula,
+    condition: &Formula,
+    other: &Formula,
+) -> Result<(), AllocError>
+    ensures { OnOk result (found.new ≡ walked rename.now (scope_at place.now) found.old
+        (conditional value.now condition.now other.now)) }
+{
+    note_formula(alloc, found, rename, place, value)?;
+    found.skip(1)?;
+    note_formula(alloc, found, rename, place, condition)?;
+    found.skip(1)?;
+    note_formula(alloc, found, rename, place, other)
+}
+
+// Notes so many lexemes, what is in formulas, and what closes them.
+#[cycle(marks)]
+fn note_listed(
+    alloc: Global,
+    found: &mut Marking,
+    rename: &ColumnRename,
+    place: &FormulaPlace<'_>,
+    before: usize,
+    items: &[Formula],
+) -> Result<(), AllocError>
+    ensures { OnOk result (found.new ≡ stayed (walked_items rename.now (scope_at place.now)
+        (stayed found.old before) (from_list items.now)) 1) }
+{
+    found.skip(before)?;
+    note_items(alloc, found, rename, place, items)?;
+    found.skip(1)
 }
 
 // Notes what is in formulas with commas between them.

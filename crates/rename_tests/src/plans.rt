@@ -224,14 +224,16 @@ static RULES: [(i64, &str, &str, &str, u32); 13] = [
         3,
         "user.P.K == 1 or user.Q.K == 1",
         IN_T,
-        "Key;aclFormula 1 user.P.Key == 1 or user.Q.K == 1;userAttributes 2 {\"charId\":\"Email\",\"lookupColId\":\"Key\",\"name\":\"P\",\"tableId\":\"T\"};",
+        "Key;aclFormula 1 user.P.Key == 1 or user.Q.K == 1;userAttributes 2 \
+         {\"charId\":\"Email\",\"lookupColId\":\"Key\",\"name\":\"P\",\"tableId\":\"T\"};",
         0,
     ),
     (
         2,
         "user.P.Key == 1",
         IN_T,
-        "Key;userAttributes 2 {\"charId\":\"Email\",\"lookupColId\":\"Key\",\"name\":\"P\",\"tableId\":\"T\"};",
+        "Key;userAttributes 2 \
+         {\"charId\":\"Email\",\"lookupColId\":\"Key\",\"name\":\"P\",\"tableId\":\"T\"};",
         1,
     ),
     (1, "user.P.K == user.P.Key", IN_U, "Key;", 0),
@@ -268,8 +270,8 @@ static CLAIMS: [ResourceRow; 3] = [("T", "N,Key"), ("U", "Key"), ("T", "Key,Key"
 fn are_two(alloc: Global) -> Result<bool, AllocError> {
     let two = view_of(alloc, &KEYS, &RESOURCES, &TWO)?;
     let claimed = view_of(alloc, &KEYS, &CLAIMS, &[])?;
-    let said =
-        "Key;userAttributes 2 {\"charId\":\"Email\",\"lookupColId\":\"Key\",\"name\":\"P\",\"tableId\":\"T\"};";
+    let said = "Key;userAttributes 2 \
+         {\"charId\":\"Email\",\"lookupColId\":\"Key\",\"name\":\"P\",\"tableId\":\"T\"};";
     Ok(
         is_planned(alloc, &two, ("T", "K", "Key", said, 2))?
             && is_planned(alloc, &claimed, ("T", "K", "Key", "Key;", 2))?,

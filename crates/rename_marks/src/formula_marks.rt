@@ -4,7 +4,6 @@ ghost use Rattle.std.specs.Prelude.{◌≡◌, IfOk, OnOk, length};
 ghost use Rattle.formula_parse.specs.Grammar.{op_lexemes};
 ghost use Rattle.formula_parse.specs.Seen.{keys_of};
 ghost use Rattle.formula_parse.specs.Tree.{atom, conditional, from_list, keys_from};
-ghost use Rattle.formula_records.specs.RecordTables.{only};
 ghost use Rattle.rename_texts.specs.Marked.{marks};
 ghost use Rattle.rename_marks.specs.Noted.{capped, stayed, used, walked, walked_items, walked_keys, walked_more, walked_more_keys, with_key};
 ghost use Rattle.rename_marks.specs.Scope.{rename_in, scope_at, tables_of};
@@ -27,14 +26,6 @@ fn op_len(op: BinaryOp) -> usize
         BinaryOp::NotIn | BinaryOp::IsNot => 2,
         _ => 1,
     }
-}
-
-fn only(alloc: Global, table: &Name) -> Result<RecordTables, AllocError>
-    ensures { IfOk result (λ q. q ≡ only table.now) }
-{
-    let mut tables = RecordTables::none(alloc);
-    tables.add(table)?;
-    Ok(tables)
 }
 
 // The tables where attributes of that name find their rows.
@@ -66,7 +57,7 @@ fn note_own(
         (found.new ≡ used rename.now found.old (use_of (scope_at place.now).own name.now)) }
 {
     match place {
-        FormulaPlace::Column(_, own) => found.note(rename, &only(alloc, own)?, name),
+        FormulaPlace::Column(_, own) => found.note(rename, &RecordTables::only(alloc, own)?, name),
         FormulaPlace::Rule(_, _) => found.note(rename, &RecordTables::none(alloc), name),
     }
 }
@@ -304,7 +295,7 @@ fn note_key(
     ensures { OnOk result (found.new ≡ with_key rename.now (scope_at place.now) table.now found.old
         key.now.name key.now.value) }
 {
-    found.note(rename, &only(alloc, table)?, &key.name)?;
+    found.note(rename, &RecordTables::only(alloc, table)?, &key.name)?;
     found.skip(1)?;
     note_formula(alloc, found, rename, place, &key.value)
 }

@@ -1,0 +1,3 @@
+pub mod RecordTables
+pub mod Recs
+pub mod ShownColumns

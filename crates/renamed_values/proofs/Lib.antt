@@ -1,0 +1,6 @@
+pub mod RecordTableLemmas
+pub mod RecordLemmas
+pub mod SameEvLemmas
+pub mod SameSheetLemmas
+pub mod PlainNameLemmas
+pub mod TypedLemmas

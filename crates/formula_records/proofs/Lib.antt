@@ -1,0 +1,2 @@
+pub mod UnionLemmas
+pub mod ItemLemmas

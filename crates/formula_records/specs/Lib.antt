@@ -1,2 +1,3 @@
 pub mod RecordTables
 pub mod Recs
+pub mod ShownColumns

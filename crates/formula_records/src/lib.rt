@@ -2,13 +2,17 @@
 //! columns.
 //!
 //! Stands on `cell_types` (names), `doc_model` (columns of a view) and `formula_parse` (trees).
-//! Used by `rename_flow`.
+//! Used by `rename_marks`.
 //!
-//! Promises: the definitions in specs/Recs.antt, for each formula and all types of columns.
+//! Promises: `recs_of` gives the tables that specs/Recs.antt says for each formula and view.
 //! Not promised: that a value holds a record of each of these tables.
-//! Read first: specs/RecordTables.antt, then specs/Recs.antt.
+//! Read first: specs/RecordTables.antt, then specs/Recs.antt and records.rt.
 #![tactic(auto)]
 
+mod columns;
+mod records;
 mod tables;
 
+pub use columns::find_column;
+pub use records::recs_of;
 pub use tables::RecordTables;

@@ -2,7 +2,7 @@
 
 ghost use Rattle.rename_texts.specs.Laws.{AllowedLaw, HeightLaw, LexemeLaw, StandsLaw, WrittenLaw};
 ghost use Rattle.rename_texts.specs.Respelled.{RespellLaw};
-ghost use Rattle.rename_texts.specs.Texts.{TextLaw};
+ghost use Rattle.rename_texts.specs.Texts.{RewrittenFormulaLaw, RewrittenLaw, TextLaw};
 
 /// The marked lexemes of a tree are those of the tree, and with the marked names replaced they are
 /// those of the renamed tree, which is as high, of the grammar, and has names that are allowed.
@@ -23,4 +23,11 @@ pub fn respell_law()
 /// A text that spells a tree, with the new name in the marked places, spells the renamed tree.
 pub fn text_law()
     ensures { TextLaw }
+{}
+
+/// What `rewrite` makes of a text with the marks of its tree spells the renamed tree, as it has to
+/// where the new name is one and the text does not get too long.
+pub fn rewritten_law()
+    ensures spells { RewrittenLaw }
+    ensures formula { RewrittenFormulaLaw }
 {}

@@ -1,0 +1,5 @@
+pub mod Uses
+pub mod Scope
+pub mod ScopeUses
+pub mod Marks
+pub mod Noted

@@ -4,3 +4,4 @@ pub mod SameEvLemmas
 pub mod SameSheetLemmas
 pub mod PlainNameLemmas
 pub mod TypedLemmas
+pub mod ResolvedLemmas

@@ -34,11 +34,12 @@ use Rattle.formula_eval.specs.Run.{Out, Run, Stop, both, caught, circular, colle
 use Rattle.formula_records.specs.declared.tables.RecordTables.{RecordTables}
 use Rattle.formula_records.specs.RecordTables.{only}
 use Rattle.formula_records.specs.Recs.{Columns, recs}
+use Rattle.rename_marks.specs.declared.column_rename.ColumnRename.{ColumnRename}
 use Rattle.rename_texts.specs.Renamed.{Rename, all_renamed, keys_renamed, named, renamed}
 use Rattle.renamed_values.specs.HeldRecords.{IsPlain, RecordsOf}
 use Rattle.renamed_values.specs.PlainNames.{AllNamePlain, KeysNamePlain, NamesPlain}
 use Rattle.renamed_values.specs.RecordsLaw.{IsTyped}
-use Rattle.renamed_values.specs.SameEv.{AllFit, EachFits, Fits, IsKept, IsMoved, KeysFit, Move, SameEvLaw, SameOut, moved}
+use Rattle.renamed_values.specs.SameEv.{AllFit, EachFits, Fits, IsKept, IsMoved, KeysFit, SameEvLaw, SameOut, moved}
 use Rattle.renamed_values.proofs.RecordLemmas.{by_choice, records_held}
 use Rattle.renamed_values.proofs.RecordTableLemmas.{is_itself}
 
@@ -238,7 +239,7 @@ containing_same r (atom a) = refl
 
 -- ---- two readers
 
-module _ (m : Move) (r : Rename) (k : Columns) (x y : Reader) (typed : IsTyped k x) (same : IsMoved m x y) where
+module _ (m : ColumnRename) (r : Rename) (k : Columns) (x y : Reader) (typed : IsTyped k x) (same : IsMoved m x y) where
   id_same : (t n : List ℕ) → is_id (moved m t n) ≡ is_id n
   id_same t n = by (bytes_eq t m.table) (bytes_eq n m.old) refl
     where

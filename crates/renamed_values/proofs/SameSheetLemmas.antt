@@ -13,12 +13,13 @@ use Rattle.formula_eval.specs.Eval.{as_result, ev}
 use Rattle.formula_eval.specs.OfText.{evaluated_some, evaluated_text}
 use Rattle.formula_eval.specs.Reader.{Told, cell_at}
 use Rattle.formula_records.specs.Recs.{Columns}
+use Rattle.rename_marks.specs.declared.column_rename.ColumnRename.{ColumnRename}
 use Rattle.rename_texts.specs.Renamed.{Rename, renamed}
 use Rattle.renamed_values.specs.HeldRecords.{IsPlain}
 use Rattle.renamed_values.specs.PlainNames.{NamesPlain}
 use Rattle.renamed_values.specs.RecordsLaw.{IsTyped}
 use Rattle.formula_eval.specs.Run.{Out, done, gives, raises, stops}
-use Rattle.renamed_values.specs.SameEv.{IsKept, IsMoved, Move, SameOut}
+use Rattle.renamed_values.specs.SameEv.{IsKept, IsMoved, SameOut}
 use Rattle.renamed_values.specs.SameSheet.{Follow, FollowIn, IsMovedSheet, SameSheetLaw, SameValueLaw, moved_cell}
 use Rattle.recalc.specs.Sheet.{Sheet, Values, eval, finished, over, row_of, run_of, told_by, value_by}
 use Rattle.renamed_values.proofs.PlainNameLemmas.{formula_plain}
@@ -41,7 +42,7 @@ value_alone : (f g : List ℕ) (a b : Told) (o : Option CellValue) → told_by (
 value_alone f g a b None = refl
 value_alone f g a b (Some u) = refl
 
-module _ (m : Move) (r : List ℕ → Rename) (k : Columns) (s t : Sheet) (h : IsMovedSheet m r k s t) where
+module _ (m : ColumnRename) (r : List ℕ → Rename) (k : Columns) (s t : Sheet) (h : IsMovedSheet m r k s t) where
   -- what the formulas see, with values that are the same
   told_same : (v w : Values) (c : CellId) → w (moved_cell m c) ≡ v c → IsPlain c.table → IsKept m c.table c.column
       → told_by (t.formula (moved_cell m c)) (t.base (moved_cell m c)) (w (moved_cell m c)) ≡ told_by (s.formula c) (s.base c) (v c)

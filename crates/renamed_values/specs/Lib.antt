@@ -4,3 +4,4 @@ pub mod RecordsLaw
 pub mod SameEv
 pub mod SameSheet
 pub mod TypedSheet
+pub mod Resolved

@@ -9,27 +9,22 @@ use Rattle.formula_eval.specs.Run.{Out, gives, raises, stops}
 use Rattle.formula_records.specs.declared.tables.RecordTables.{RecordTables}
 use Rattle.formula_records.specs.RecordTables.{IsIn, only}
 use Rattle.formula_records.specs.Recs.{Columns, recs}
+use Rattle.rename_marks.specs.declared.column_rename.ColumnRename.{ColumnRename}
 use Rattle.rename_texts.specs.Renamed.{Rename, named, renamed}
 use Rattle.renamed_values.specs.HeldRecords.{IsPlain}
 use Rattle.renamed_values.specs.PlainNames.{NamesPlain}
 use Rattle.renamed_values.specs.RecordsLaw.{IsTyped}
 
--- a column of a table that gets a new name
-pub record Move : Type 0 where
-  pub table : List ℕ
-  pub old : List ℕ
-  pub new : List ℕ
-
 -- the name of a column then
-abbrev pub moved : Move → List ℕ → List ℕ → List ℕ
+abbrev pub moved : ColumnRename → List ℕ → List ℕ → List ℕ
 moved m t n = cond (bytes_eq t m.table && bytes_eq n m.old) m.new n
 
 -- it is not the new name in that table
-abbrev pub IsKept : Move → List ℕ → List ℕ → Type 0
+abbrev pub IsKept : ColumnRename → List ℕ → List ℕ → Type 0
 IsKept m t n = (bytes_eq t m.table && bytes_eq n m.new) ≡ false
 
 -- outside the metadata the second reader has the column under its new name, and all else as it was
-pub record IsMoved (m : Move) (x y : Reader) : Type 0 where
+pub record IsMoved (m : ColumnRename) (x y : Reader) : Type 0 where
   pub old : is_id m.old ≡ false
   pub new : is_id m.new ≡ false
   pub rows : (t : List ℕ) → IsPlain t → y.rows t ≡ x.rows t
@@ -38,12 +33,12 @@ pub record IsMoved (m : Move) (x y : Reader) : Type 0 where
       → y.cell (cell_at t (moved m t n) r) ≡ x.cell (cell_at t n r)
 
 -- in each of these tables the name is the column's then
-abbrev pub Fits : Move → RecordTables → List ℕ → List ℕ → Type 0
+abbrev pub Fits : ColumnRename → RecordTables → List ℕ → List ℕ → Type 0
 Fits m q n n' = (t : List ℕ) → IsIn q t → IsKept m t n × (moved m t n ≡ n')
 
 -- each name is replaced as it has to be
 abbrev mutual
-  pub AllFit : Move → Rename → Columns → List ℕ → Tree → Type 0
+  pub AllFit : ColumnRename → Rename → Columns → List ℕ → Tree → Type 0
   AllFit m r k own (dollar n) = Fits m (only own) n (named r r.own n)
   AllFit m r k own (binary o a b) = AllFit m r k own a × AllFit m r k own b
   AllFit m r k own (prefix o a) = AllFit m r k own a
@@ -57,11 +52,11 @@ abbrev mutual
   AllFit m r k own (lookup l t ks) = KeysFit m r k own t ks
   AllFit m r k own _ = ⊤
 
-  pub EachFits : Move → Rename → Columns → List ℕ → Trees → Type 0
+  pub EachFits : ColumnRename → Rename → Columns → List ℕ → Trees → Type 0
   EachFits m r k own no_trees = ⊤
   EachFits m r k own (one_more t ts) = AllFit m r k own t × EachFits m r k own ts
 
-  pub KeysFit : Move → Rename → Columns → List ℕ → List ℕ → Keys → Type 0
+  pub KeysFit : ColumnRename → Rename → Columns → List ℕ → List ℕ → Keys → Type 0
   KeysFit m r k own t no_keys = ⊤
   KeysFit m r k own t (one_key n a ks) =
       IsKept m t n × (moved m t n ≡ named r (r.table t) n) × AllFit m r k own a
@@ -77,6 +72,6 @@ module _ {A : Type 0} where
 
 -- the renamed formula comes to the same over the second reader
 abbrev pub SameEvLaw : Type 0
-SameEvLaw = (m : Move) (r : Rename) (k : Columns) (x y : Reader) (at : RowRef) (t : Tree)
+SameEvLaw = (m : ColumnRename) (r : Rename) (k : Columns) (x y : Reader) (at : RowRef) (t : Tree)
     → IsTyped k x → IsMoved m x y → IsPlain at.table → NamesPlain t → AllFit m r k at.table t
     → SameOut (ev x at t).out (ev y at (renamed r t)).out

@@ -2,6 +2,7 @@
 
 ghost use Rattle.renamed_values.specs.PlainNames.{PlainNamesLaw};
 ghost use Rattle.renamed_values.specs.RecordsLaw.{RecordsLaw};
+ghost use Rattle.renamed_values.specs.Resolved.{ResolvedLaw};
 ghost use Rattle.renamed_values.specs.SameEv.{SameEvLaw};
 ghost use Rattle.renamed_values.specs.SameSheet.{SameSheetLaw, SameValueLaw};
 ghost use Rattle.renamed_values.specs.TypedSheet.{TypedLaw};
@@ -25,6 +26,11 @@ pub fn typed_law()
 /// has the column under its new name.
 pub fn same_ev_law()
     ensures { SameEvLaw }
+{}
+
+/// In a formula in which each use of a name can be resolved, each is replaced as it has to be.
+pub fn resolved_law()
+    ensures { ResolvedLaw }
 {}
 
 /// Where a column gets a new name and formulas follow, each cell keeps its value.

@@ -32,19 +32,19 @@ others_none : (m n : ℕ) → m + n ≡ 0 → n ≡ 0
 others_none m n h = omega arith
 
 module _ (m : ColumnRename) where
-  abbrev IsResolved : Use → Type 0
+  abbrev pub IsResolved : Use → Type 0
   IsResolved u = is_unresolved m u ≡ false
 
-  abbrev AllResolved : List Use → Type 0
+  abbrev pub AllResolved : List Use → Type 0
   AllResolved us = AllByRecursion IsResolved us
 
-  all_resolved : (us : List Use) → unresolved_among m us ≡ 0 → AllResolved us
+  pub all_resolved : (us : List Use) → unresolved_among m us ≡ 0 → AllResolved us
   all_resolved [] h = tt
   all_resolved (u ∷ us) h =
       let sum = sym (sum_by-cons (λ v. cond (is_unresolved m v) 1 0) u us) ∙ h in
       (first_no (is_unresolved m u) (unresolved_among m us) sum, all_resolved us (others_none (cond (is_unresolved m u) 1 0) (unresolved_among m us) sum))
 
-  parts : (us vs : List Use) → AllResolved (us ++ vs) → AllResolved us × AllResolved vs
+  pub parts : (us vs : List Use) → AllResolved (us ++ vs) → AllResolved us × AllResolved vs
   parts us vs h = all_append IsResolved us vs h
 
   -- ---- one use
@@ -80,7 +80,7 @@ module _ (m : ColumnRename) where
   these_fit n false true false o w f g h = (refl, refl)
   these_fit n false false false o w f g h = (refl, refl)
 
-  use_fits : (q : RecordTables) (n : List ℕ) → IsResolved (use_of q n) → Fits m q n (cond (is_exactly m q && bytes_eq n m.old) m.new n)
+  pub use_fits : (q : RecordTables) (n : List ℕ) → IsResolved (use_of q n) → Fits m q n (cond (is_exactly m q && bytes_eq n m.old) m.new n)
   use_fits Any n h t i = any_fits n (bytes_eq t m.table) (bytes_eq n m.old) (bytes_eq n m.new) h
   use_fits (These ts) n h t i =
       these_fit n (bytes_eq t m.table) (has_table m.table ts) (list_all (λ u. bytes_eq u m.table) ts) (bytes_eq n m.old) (bytes_eq n m.new)

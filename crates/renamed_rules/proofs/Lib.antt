@@ -1,0 +1,5 @@
+pub mod RuleValueLemmas
+pub mod MovedCells
+pub mod MovedUsers
+pub mod MovedChains
+pub mod SameDecisions

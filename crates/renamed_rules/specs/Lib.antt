@@ -1,0 +1,4 @@
+pub mod RenamedCells
+pub mod RenamedRules
+pub mod RuleValues
+pub mod Decisions

@@ -13,6 +13,6 @@ mod columns;
 mod records;
 mod tables;
 
-pub use columns::find_column;
+pub use columns::{find_column, find_table};
 pub use records::recs_of;
 pub use tables::RecordTables;

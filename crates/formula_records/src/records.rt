@@ -46,7 +46,7 @@ fn note_column(
     ensures { OnOk result
         (found.new ≡ union found.old (leads (columns_of view.now table.now name.now))) }
 {
-    match find_column(view, table, name) {
+    match find_column(view, table.as_str(), name.as_str()) {
         Some(column) => note_shown(found, column),
         None => Ok(()),
     }

@@ -29,7 +29,7 @@ renamed_value same sheet m r w k s s' h t c row p kept =
     same m r k (sheet_of s) (sheet_of s') moves.0 moves.1 (cell_of t c row) p kept
 
 -- the tables outside the metadata, with values in place
-plain_filled : (v : List ℕ → List ℕ → ℕ → CellValue) (s : Document) → SchemaAgrees s → plain_tables (filled_by v s) ≡ map (λ (t : Table). on_grid (fill (v t.id)) t) (plain_tables s)
+pub plain_filled : (v : List ℕ → List ℕ → ℕ → CellValue) (s : Document) → SchemaAgrees s → plain_tables (filled_by v s) ≡ map (λ (t : Table). on_grid (fill (v t.id)) t) (plain_tables s)
 plain_filled v s h = ap (λ d. plain_tables (filled_by v d)) h.schema
 
 module _ (m : ColumnRename) (r : List ℕ → Rename) (w : Rewriting) (k : Columns) (s s' : Document) (h : AreRenamed m r w k s s') (values : RenamedValueLaw) where

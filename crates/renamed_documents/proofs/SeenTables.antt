@@ -34,7 +34,7 @@ pub plain_found : (s : Document) (a : List ℕ) → SchemaAgrees s → IsPlain a
 plain_found s a h p = ap (find_id table_id a) h.schema ∙ find_plain (resources s) (rules s) (plain_tables s) a (plain_from a p)
 
 module _ (m : ColumnRename) (w : Rewriting) (a : List ℕ) where
-  after_in : (ts : List Table) → seen_in (map (table_after m w) ts) a ≡ option_map (grid_after m w a) (seen_in ts a)
+  pub after_in : (ts : List Table) → seen_in (map (table_after m w) ts) a ≡ option_map (grid_after m w a) (seen_in ts a)
   after_in [] = refl
   after_in (t ∷ ts) = by (bytes_eq t.id a) refl (after_in ts)
     where

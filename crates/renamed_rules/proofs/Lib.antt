@@ -3,3 +3,4 @@ pub mod MovedCells
 pub mod MovedUsers
 pub mod MovedChains
 pub mod SameDecisions
+pub mod MovedFillings

@@ -1,10 +1,8 @@
 -- Cells, and the row that an attribute of users finds, under the new name of a column.
-use Rattle.std.proofs.Common.{ℕ, Bool, true, false, cond, ◌&&◌, ◌||◌, List, [], ◌∷◌, map, ◌≡◌, refl, subst, sym, ap, ◌∙◌, Option, Some, None, find}
-use Rattle.std.specs.List.{AllByRecursion, list_any}
+use Rattle.std.proofs.Common.{ℕ, Bool, true, false, cond, ◌&&◌, ◌||◌, List, [], ◌∷◌, map, ◌≡◌, refl, sym, ap, ◌∙◌, Option, Some, None, find}
 use Rattle.std.specs.Option.{option_map}
 use Rattle.std.specs.Str.{bytes_eq}
 use Rattle.std.proofs.lemmas.Slice.Eq.{bytes_eq-Decides}
-use Rattle.acl_formula.specs.declared.user_info.AttributeRow.{AttributeRow}
 use Rattle.acl_formula.specs.declared.user_info.NamedCell.{NamedCell}
 use Rattle.acl_formula.specs.RuleFields.{cell_in, found_field, read, row_id}
 use Rattle.cell_types.specs.declared.value.CellValue.{CellValue}
@@ -26,7 +24,7 @@ use Rattle.renamed_documents.proofs.SeenTables.{of_table_told, told}
 use Rattle.renamed_values.specs.HeldRecords.{IsPlain}
 use Rattle.renamed_values.specs.SameEv.{IsKept, moved}
 use Rattle.user_attrs.specs.declared.attribute_rule.AttributeRule.{AttributeRule}
-use Rattle.user_attrs.specs.UserInfos.{cell_of, cells_of, found_in, holds, kept_row, property_value, row_with}
+use Rattle.user_attrs.specs.UserInfos.{cells_of, found_in, holds, kept_row, property_value, row_with}
 use Rattle.renamed_rules.specs.RenamedCells.{HasMoved, seen}
 use Rattle.renamed_rules.specs.RenamedRules.{AttributeKept, attribute_after}
 

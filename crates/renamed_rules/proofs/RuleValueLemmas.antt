@@ -1,5 +1,5 @@
 -- Renamed rules come to the same.
-use Rattle.std.proofs.Common.{◌≡◌, ◌∙◌, ap, refl, Option, Some, None}
+use Rattle.std.proofs.Common.{◌≡◌, ◌∙◌, ap, refl}
 use Rattle.acl_formula.specs.Asked.{Asked}
 use Rattle.acl_formula.specs.RuleValue.{as_value, combined, followed, item_list, items_of, turned, value_of}
 use Rattle.formula_parse.specs.Tree.{Tree, number, text, constant, dollar, binary, prefix, conditional, parentheses, list, call, attribute, every, lookup, atom, Trees, no_trees, one_more}

@@ -1,5 +1,5 @@
 -- Rules that follow decide as they did.
-use Rattle.std.proofs.Common.{ℕ, Bool, true, false, cond, ◌&&◌, List, [], ◌∷◌, ◌++◌, map, filter, ◌≡◌, refl, subst, sym, ap, ◌∙◌, Option, Some, None}
+use Rattle.std.proofs.Common.{ℕ, Bool, true, false, cond, ◌&&◌, List, [], ◌∷◌, ◌++◌, map, ◌≡◌, refl, subst, sym, ap, ◌∙◌, Option, Some, None}
 use Rattle.std.specs.Bool.{⊤}
 use Rattle.std.specs.List.{AllByRecursion}
 use Rattle.std.specs.Option.{option_map}
@@ -14,7 +14,6 @@ use Rattle.acl_formula.specs.declared.permissions.Perm.{Perm}
 use Rattle.acl_formula.specs.declared.permissions.PermSet.{PermSet}
 use Rattle.acl_formula.specs.declared.truth.RuleTruth.{RuleTruth}
 use Rattle.acl_formula.specs.declared.truth.RuleTruth.TheVariants as says
-use Rattle.acl_rules.specs.declared.decision.Decision.{Decision}
 use Rattle.acl_rules.specs.declared.decision.Decision.TheVariants as decision
 use Rattle.acl_rules.specs.declared.resource.Resource.{Resource}
 use Rattle.acl_rules.specs.declared.rule.Rule.{Rule}
@@ -26,16 +25,17 @@ use Rattle.doc_model.specs.Document.{Document}
 use Rattle.formula_parse.specs.Tree.{Tree}
 use Rattle.formula_records.specs.RecordTables.{IsIn}
 use Rattle.rename_marks.specs.declared.column_rename.ColumnRename.{ColumnRename}
+use Rattle.rename_marks.specs.declared.formula_place.AttributeTable.{AttributeTable}
 use Rattle.rename_marks.specs.Scope.{rename_in}
 use Rattle.rename_marks.specs.ScopeUses.{uses}
 use Rattle.renamed_documents.specs.RenamedTables.{Rewriting}
 use Rattle.renamed_values.specs.HeldRecords.{IsPlain}
-use Rattle.renamed_values.specs.SameEv.{IsKept, moved}
+use Rattle.renamed_values.specs.SameEv.{moved}
 use Rattle.renamed_values.proofs.ResolvedLemmas.{all_resolved}
 use Rattle.user_attrs.specs.declared.attribute_rule.AttributeRule.{AttributeRule}
 use Rattle.renamed_rules.specs.Decisions.{IsKeptColumn, RenamedDecisionLaw, check_of, in_force}
 use Rattle.renamed_rules.specs.RenamedCells.{HasMoved}
-use Rattle.renamed_rules.specs.RenamedRules.{AllRulesFollow, AskedFollows, AttributeKept, FormulaFollows, RuleFollows, RulesFollow, attribute_after, rows_of, scope_of}
+use Rattle.renamed_rules.specs.RenamedRules.{AllRulesFollow, AskedFollows, AttributeKept, FormulaFollows, IsListed, RuleFollows, attribute_after, rows_of, scope_of}
 use Rattle.renamed_rules.proofs.MovedChains.{IsPartOf, about_part, part_after, part_same}
 use Rattle.renamed_rules.proofs.MovedUsers.{atoms_same}
 use Rattle.renamed_rules.proofs.RuleValueLemmas.{rule_value}
@@ -74,7 +74,7 @@ truth_by x (Some tree) = rule_truth x tree
 truth_is : (x : Asked) (r : Rule) → truth_in x r ≡ truth_by x r.formula
 truth_is x r = elim r.formula as (λ (o : Option (Option Tree)). elim o [ None ↦ says.Fails | Some tree ↦ rule_truth x tree ] ≡ truth_by x o) [ None ↦ refl | Some tree ↦ refl ]
 
-module _ (m : ColumnRename) (w : Rewriting) (s s' : Document) (h : HasMoved m w s s') (as' : List AttributeRule) (kept : AllByRecursion (AttributeKept m) as') (u : User) (t : List ℕ) (plain : IsPlain t) (r q : Option ℕ) (p : Perm) where
+module _ (m : ColumnRename) (w : Rewriting) (s s' : Document) (h : HasMoved m w s s') (ts : List AttributeTable) (as' : List AttributeRule) (kept : AllByRecursion (AttributeKept m) as') (listed : AllByRecursion (IsListed ts) as') (u : User) (t : List ℕ) (plain : IsPlain t) (r q : Option ℕ) (p : Perm) where
   -- the same is asked, of the two documents
   abbrev before : Asked
   before = record { user = user_info as' u s; before = option_map (row_at s t) r; after = option_map (row_at s t) q }
@@ -82,22 +82,22 @@ module _ (m : ColumnRename) (w : Rewriting) (s s' : Document) (h : HasMoved m w 
   abbrev after : Asked
   after = record { user = user_info (map (attribute_after m) as') u s'; before = option_map (row_at s' t) r; after = option_map (row_at s' t) q }
 
-  truth_same : (o : Resource) → IsIn (rows_of (Some o)) t → (f g : Option (Option Tree)) → FormulaFollows m (scope_of as' (Some o)) f g → truth_by after g ≡ truth_by before f
+  truth_same : (o : Resource) → IsIn (rows_of (Some o)) t → (f g : Option (Option Tree)) → FormulaFollows m (scope_of ts (Some o)) f g → truth_by after g ≡ truth_by before f
   truth_same o i None None e = refl
   truth_same o i (Some None) (Some None) e = refl
   truth_same o i (Some (Some a)) (Some (Some b)) e =
       ap (λ (c : Tree). rule_truth after (Some c)) e.1
-      ∙ ap truth_from (rule_value (rename_in m (scope_of as' (Some o))) before after a (atoms_same m w s s' h as' kept (rows_of (Some o)) u t plain i r q a (all_resolved m (uses (scope_of as' (Some o)) a) e.0)))
+      ∙ ap truth_from (rule_value (rename_in m (scope_of ts (Some o))) before after a (atoms_same m w s s' h ts as' kept listed (rows_of (Some o)) u t plain i r q a (all_resolved m (uses (scope_of ts (Some o)) a) e.0)))
   truth_same o i None (Some g) e = absurd e
   truth_same o i (Some None) None e = absurd e
   truth_same o i (Some (Some a)) None e = absurd e
   truth_same o i (Some None) (Some (Some b)) e = absurd e
   truth_same o i (Some (Some a)) (Some None) e = absurd e
 
-  rule_same : (b c : BookRule) → RuleFollows m as' b c → IsIn (rows_of b.resource) t → (o : Option Resource) → b.resource ≡ o → (b.resource ≡ None → ⊥) → DecideSame before after p b c
+  rule_same : (b c : BookRule) → RuleFollows m ts b c → IsIn (rows_of b.resource) t → (o : Option Resource) → b.resource ≡ o → (b.resource ≡ None → ⊥) → DecideSame before after p b c
   rule_same b c f i None e some = absurd (some e)
   rule_same b c f i (Some o) e some =
-      let follows : FormulaFollows m (scope_of as' (Some o)) b.rule.formula c.rule.formula = subst (λ (x : Option Resource). AskedFollows m as' x b.rule.formula c.rule.formula) e f.formula in
+      let follows : FormulaFollows m (scope_of ts (Some o)) b.rule.formula c.rule.formula = subst (λ (x : Option Resource). AskedFollows m ts x b.rule.formula c.rule.formula) e f.formula in
       let truth : truth_in after c.rule ≡ truth_in before b.rule
       = truth_is after c.rule ∙ truth_same o (subst (λ (x : Option Resource). IsIn (rows_of x) t) e i) b.rule.formula c.rule.formula follows ∙ sym (truth_is before b.rule) in
       record {
@@ -106,7 +106,7 @@ module _ (m : ColumnRename) (w : Rewriting) (s s' : Document) (h : HasMoved m w 
       }
 
   -- the rules of a part
-  part_decides : (x : Part) → IsPartOf m t x → (bs cs : List BookRule) → AllRulesFollow m as' bs cs → AllDecideSame before after p (rules_of x bs) (rules_of (part_after m x) cs)
+  part_decides : (x : Part) → IsPartOf m t x → (bs cs : List BookRule) → AllRulesFollow m ts bs cs → AllDecideSame before after p (rules_of x bs) (rules_of (part_after m x) cs)
   part_decides x i [] [] f = tt
   part_decides x i [] (c ∷ cs) f = absurd f
   part_decides x i (b ∷ bs) [] f = absurd f
@@ -123,22 +123,22 @@ module _ (m : ColumnRename) (w : Rewriting) (s s' : Document) (h : HasMoved m w 
       by true e later = (rule_same b c f.0 (about_part m t x i b.resource e) b.resource refl (not_none e), later)
       by false e later = later
 
-  table_decides : (bs cs : List BookRule) → AllRulesFollow m as' bs cs → AllDecideSame before after p (chain_of bs (Some t) None) (chain_of cs (Some t) None)
+  table_decides : (bs cs : List BookRule) → AllRulesFollow m ts bs cs → AllDecideSame before after p (chain_of bs (Some t) None) (chain_of cs (Some t) None)
   table_decides bs cs f =
       both_same before after p (rules_of (of_table t) bs) (rules_of (of_table t) cs) (rules_of of_document bs) (rules_of of_document cs)
       (part_decides (of_table t) refl bs cs f) (part_decides of_document tt bs cs f)
 
-  chain_decides : (c : Option (List ℕ)) → IsKeptColumn m t c → (bs cs : List BookRule) → AllRulesFollow m as' bs cs → AllDecideSame before after p (chain_of bs (Some t) c) (chain_of cs (Some t) (option_map (moved m t) c))
+  chain_decides : (c : Option (List ℕ)) → IsKeptColumn m t c → (bs cs : List BookRule) → AllRulesFollow m ts bs cs → AllDecideSame before after p (chain_of bs (Some t) c) (chain_of cs (Some t) (option_map (moved m t) c))
   chain_decides None k bs cs f = table_decides bs cs f
   chain_decides (Some c) k bs cs f =
       both_same before after p (rules_of (of_column t c) bs) (rules_of (of_column t (moved m t c)) cs) (chain_of bs (Some t) None) (chain_of cs (Some t) None)
       (part_decides (of_column t c) (refl, k) bs cs f) (table_decides bs cs f)
 
-  decided_same : (c : Option (List ℕ)) → IsKeptColumn m t c → (bs cs : List BookRule) → AllRulesFollow m as' bs cs
+  decided_same : (c : Option (List ℕ)) → IsKeptColumn m t c → (bs cs : List BookRule) → AllRulesFollow m ts bs cs
       → decision_in after p (chain_of cs (Some t) (option_map (moved m t) c)) ≡ decision_in before p (chain_of bs (Some t) c)
   decided_same c k bs cs f = ap (or_built_in before p) (first_same before after p (chain_of bs (Some t) c) (chain_of cs (Some t) (option_map (moved m t) c)) (chain_decides c k bs cs f))
 
 pub same_decision : RenamedDecisionLaw
 same_decision m w s s' as' bs book after h f user p t c r q plain k =
     ap (λ (xs : List AttributeRule). decided (in_force after xs user s') (check_of s' p t (option_map (moved m t) c) r q)) f.attributes
-    ∙ decided_same m w s s' h as' f.kept user t plain r q p c k book after f.rules
+    ∙ decided_same m w s s' h f.tables as' f.kept f.listed user t plain r q p c k book after f.rules

@@ -1,7 +1,6 @@
 -- Rules that follow a column to its new name.
-use Rattle.std.specs.Prelude.{ℕ, true, List, [], ◌∷◌, map, Option, Some, None, option_map, ◌≡◌, ⊤}
+use Rattle.std.specs.Prelude.{List, [], ◌∷◌, map, Option, Some, None, option_map, ◌≡◌, ⊤}
 use Rattle.std.specs.List.{AllByRecursion}
-use Rattle.acl_rules.specs.declared.resource.Columns.{Columns}
 use Rattle.acl_rules.specs.declared.resource.Columns.TheVariants as columns
 use Rattle.acl_rules.specs.declared.resource.Resource.{Resource}
 use Rattle.acl_rules.specs.declared.resource.Resource.TheVariants as resource
@@ -10,10 +9,10 @@ use Rattle.acl_rules.specs.RuleBook.{BookRule}
 use Rattle.formula_parse.specs.Tree.{Tree}
 use Rattle.formula_records.specs.declared.tables.RecordTables.{RecordTables}
 use Rattle.formula_records.specs.declared.tables.RecordTables.TheVariants.{Any}
-use Rattle.formula_records.specs.RecordTables.{none, only}
+use Rattle.formula_records.specs.RecordTables.{IsIn, none, only}
 use Rattle.rename_marks.specs.declared.column_rename.ColumnRename.{ColumnRename}
 use Rattle.rename_marks.specs.declared.formula_place.AttributeTable.{AttributeTable}
-use Rattle.rename_marks.specs.Scope.{Scope, in_rule, rename_in}
+use Rattle.rename_marks.specs.Scope.{Scope, in_rule, rename_in, tables_of}
 use Rattle.rename_marks.specs.ScopeUses.{uses}
 use Rattle.rename_marks.specs.Uses.{unresolved_among}
 use Rattle.rename_texts.specs.Renamed.{renamed}
@@ -36,9 +35,9 @@ pub record AttributeKept (m : ColumnRename) (a : AttributeRule) : Type 0 where
   pub plain : IsPlain a.table
   pub kept : IsKept m a.table a.column
 
--- the tables where attributes find their rows
-abbrev pub attribute_tables : List AttributeRule → List AttributeTable
-attribute_tables as' = map (λ (a : AttributeRule). record { name = a.name; table = a.table }) as'
+-- it finds its row in a table that is known for its name
+abbrev pub IsListed : List AttributeTable → AttributeRule → Type 0
+IsListed ts a = IsIn (tables_of ts a.name) a.table
 
 -- whose rows a rule is asked about
 abbrev pub rows_of : Option Resource → RecordTables
@@ -46,8 +45,8 @@ rows_of None = none
 rows_of (Some (resource.Table id cs)) = only id
 rows_of (Some resource.Document) = Any
 
-abbrev pub scope_of : List AttributeRule → Option Resource → Scope
-scope_of as' q = in_rule (rows_of q) (attribute_tables as')
+abbrev pub scope_of : List AttributeTable → Option Resource → Scope
+scope_of ts q = in_rule (rows_of q) ts
 
 -- no column that a resource lists has the new name
 abbrev pub ListsKept : ColumnRename → Option Resource → Type 0
@@ -65,29 +64,31 @@ FormulaFollows m s (Some (Some t)) (Some (Some u)) =
 FormulaFollows m s f g = ⊥
 
 -- the same of a rule that is about something; one about nothing is never asked
-abbrev pub AskedFollows : ColumnRename → List AttributeRule → Option Resource
+abbrev pub AskedFollows : ColumnRename → List AttributeTable → Option Resource
     → Option (Option Tree) → Option (Option Tree) → Type 0
-AskedFollows m as' None f g = ⊤
-AskedFollows m as' (Some q) f g = FormulaFollows m (scope_of as' (Some q)) f g
+AskedFollows m ts None f g = ⊤
+AskedFollows m ts (Some q) f g = FormulaFollows m (scope_of ts (Some q)) f g
 
 -- a rule, and the same rule after the rename
-pub record RuleFollows (m : ColumnRename) (as' : List AttributeRule) (b c : BookRule)
+pub record RuleFollows (m : ColumnRename) (ts : List AttributeTable) (b c : BookRule)
     : Type 0 where
   pub row : c.rule.row ≡ b.rule.row
   pub permissions : c.rule.permissions ≡ b.rule.permissions
   pub resource : c.resource ≡ option_map (moved_by (naming m)) b.resource
   pub lists : ListsKept m b.resource
-  pub formula : AskedFollows m as' b.resource b.rule.formula c.rule.formula
+  pub formula : AskedFollows m ts b.resource b.rule.formula c.rule.formula
 
-abbrev pub AllRulesFollow : ColumnRename → List AttributeRule → List BookRule → List BookRule
+abbrev pub AllRulesFollow : ColumnRename → List AttributeTable → List BookRule → List BookRule
     → Type 0
-AllRulesFollow m as' [] [] = ⊤
-AllRulesFollow m as' (b ∷ bs) (c ∷ cs) = RuleFollows m as' b c × AllRulesFollow m as' bs cs
-AllRulesFollow m as' bs cs = ⊥
+AllRulesFollow m ts [] [] = ⊤
+AllRulesFollow m ts (b ∷ bs) (c ∷ cs) = RuleFollows m ts b c × AllRulesFollow m ts bs cs
+AllRulesFollow m ts bs cs = ⊥
 
 -- rules and attributes, and those after the rename
-pub record RulesFollow (m : ColumnRename) (as' bs : List AttributeRule) (book after : List BookRule)
-    : Type 0 where
+pub record RulesFollow (m : ColumnRename) (as' bs : List AttributeRule)
+    (book after : List BookRule) : Type 0 where
+  pub tables : List AttributeTable
   pub attributes : bs ≡ map (attribute_after m) as'
   pub kept : AllByRecursion (AttributeKept m) as'
-  pub rules : AllRulesFollow m as' book after
+  pub listed : AllByRecursion (IsListed tables) as'
+  pub rules : AllRulesFollow m tables book after

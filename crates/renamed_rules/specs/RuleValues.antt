@@ -1,5 +1,5 @@
 -- What a rule comes to where it asks for the same under other names.
-use Rattle.std.specs.Prelude.{ℕ, Option, Some, ◌≡◌, ⊤}
+use Rattle.std.specs.Prelude.{◌≡◌, ⊤}
 use Rattle.acl_formula.specs.Asked.{Asked}
 use Rattle.acl_formula.specs.RuleValue.{atom_value, value_of}
 use Rattle.formula_parse.specs.Tree.{Tree, atom, binary, list, parentheses, prefix, Trees, no_trees, one_more}

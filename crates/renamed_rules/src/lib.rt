@@ -1,6 +1,21 @@
 //! Rules that follow a column to its new name decide as they did.
+//!
+//! Stands on `acl_rules`, `acl_checks` and `user_attrs` (chains, checks, attributes of users),
+//! `acl_formula` (what a rule comes to), `formula_parse`, `formula_records`, `rename_texts` and
+//! `rename_marks` (which names a rename replaces), `renamed_values` and `renamed_documents`
+//! (documents with a column under a new name), `recalc`, `doc_readers`, `doc_model` and
+//! `cell_types`. No program calls it.
+//!
+//! Promises: `renamed_decision_law`: where each use of a name in a rule can be resolved and is
+//! replaced as it has to be, resources and attributes name the column by its new name, and cells
+//! stand under it, each decision on a table outside the metadata is the one before: a column taken
+//! by its new name, rows and user as they were. `rule_value_law`: a rule comes to the same where
+//! each part that asks gets the same. `moved_filling_law`: cells stand so in the documents of
+//! `renamed_documents`, with all values in place.
+//! Not promised: that the rules of a document follow; anything of checks that name no table.
+//! Read first: specs/Decisions.antt, then specs/RenamedRules.antt.
 #![tactic(auto)]
 
 mod laws;
 
-pub use laws::{renamed_decision_law, rule_value_law};
+pub use laws::{moved_filling_law, renamed_decision_law, rule_value_law};

@@ -1,6 +1,6 @@
 -- The items of a written list, one after the other.
 use Rattle.std.proofs.Common.{◌≡◌, ◌<◌, ◌≤◌, ◌+◌, arith, ap, refl, ℕ, zero, suc, List, [], ◌∷◌, length, get_or, drop, add-one, drop-cons, sym}
-use Rattle.formula_parse.specs.Tree.{Tree, Trees, one_more, from_list}
+use Rattle.formula_parse.specs.Tree.{Tree, one_more, from_list}
 use Rattle.formula_parse.specs.TreeSize.{tree_size, trees_size}
 use Rattle.formula_records.specs.declared.tables.RecordTables.{RecordTables}
 use Rattle.formula_records.specs.RecordTables.{none, union}

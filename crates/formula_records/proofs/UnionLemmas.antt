@@ -1,5 +1,5 @@
 -- Tables of records taken together.
-use Rattle.std.proofs.Common.{◌≡◌, ◌∙◌, ap, refl, sym, ℕ, List, [], ◌∷◌, ◌++◌, append_assoc}
+use Rattle.std.proofs.Common.{◌≡◌, ap, refl, ℕ, List, append_assoc}
 use Rattle.std.proofs.lemmas.List.{append-nil}
 use Rattle.formula_records.specs.declared.tables.RecordTables.{RecordTables}
 use Rattle.formula_records.specs.declared.tables.RecordTables.TheVariants.{Any, These}

@@ -1,6 +1,5 @@
 -- Plans made part by part, and rows one after the other.
-use Rattle.std.proofs.Common.{◌≡◌, ◌∙◌, ap, refl, sym, ℕ, ◌+◌, ◌<◌, Bool, true, false, cond, List, [], ◌∷◌, ◌++◌, length, get_or, drop, Option, Some, None, append_assoc}
-use Rattle.std.specs.Prelude.{filter}
+use Rattle.std.proofs.Common.{◌≡◌, ap, refl, arith, ℕ, zero, suc, ◌+◌, ◌<◌, List, [], ◌∷◌, ◌++◌, length, get_or, drop, Option, Some, None, append_assoc}
 use Rattle.doc_model.specs.declared.view.ViewTable.{ViewTable}
 use Rattle.acl_rules.specs.declared.resource.Resource.{Resource}
 use Rattle.user_attrs.specs.declared.attribute_rule.AttributeRule.{AttributeRule}
@@ -31,3 +30,13 @@ about_last r (Some q) as' bs = append_assoc as' (about_before r (Some q) []) bs
 pub attribute_last : (q : Option AttributeRule) (as' bs : List AttributeTable) → (as' ++ attribute_before q []) ++ bs ≡ as' ++ attribute_before q bs
 attribute_last None as' bs = append_assoc as' [] bs
 attribute_last (Some a) as' bs = append_assoc as' (attribute_before (Some a) []) bs
+
+same_item : (xs : List ℕ) (i d e : ℕ) → i < length xs → get_or xs i d ≡ get_or xs i e
+same_item [] i d e h = absurd (omega arith)
+same_item (x ∷ xs) zero d e h = refl
+same_item (x ∷ xs) (suc i) d e h = same_item xs i d e (omega arith)
+
+-- the same where the row does not matter
+pub rows_step : (w : ViewTable) (rows : List ℕ) (i : ℕ) → i < length rows
+    → (r : ℕ) × (rows_from w i (drop i rows) ≡ row_at w i r ∷ rows_from w (i + 1) (drop (i + 1) rows))
+rows_step w rows i h = (get_or rows i 0, rows_next w rows i (get_or rows i 0) h (same_item rows i 0 (get_or rows i 0) h))

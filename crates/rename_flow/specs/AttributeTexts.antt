@@ -11,10 +11,10 @@ use Rattle.rename_flow.specs.Changes.{kept}
 -- JSON without blanks, its keys sorted, with another column
 unfoldable pub attribute_text : AttributeRule → List ℕ → List ℕ
 attribute_text a column =
-    codes "{\"charId\":\"" ++ (property_text a.property
-    ++ (codes "\",\"lookupColId\":\"" ++ (column
-    ++ (codes "\",\"name\":\"" ++ (a.name
-    ++ (codes "\",\"tableId\":\"" ++ (a.table ++ codes "\"}")))))))
+    codes "{\"charId\":\"" ++ property_text a.property
+    ++ codes "\",\"lookupColId\":\"" ++ column
+    ++ codes "\",\"name\":\"" ++ a.name
+    ++ codes "\",\"tableId\":\"" ++ a.table ++ codes "\"}"
 
 -- the column in which it looks is one that is asked of records of its table
 abbrev pub lookup_use : AttributeRule → Use

@@ -1,6 +1,5 @@
 -- The plan of a rename through formulas and rules, by a view.
 use Rattle.std.specs.Prelude.{ℕ, Bool, ◌||◌, cond, List, [], ◌∷◌, ◌++◌, is_some, bytes_eq}
-use Rattle.doc_model.specs.declared.user_action.UserAction.{UserAction}
 use Rattle.doc_model.specs.declared.user_action.UserAction.TheVariants.{RenameColumn}
 use Rattle.doc_model.specs.declared.view.ViewTable.{ViewTable}
 use Rattle.formula_parse.specs.declared.operator.LookupKind.TheVariants as look

@@ -5,7 +5,6 @@ use Rattle.cell_types.specs.declared.value.CellValue.{CellValue}
 use Rattle.doc_model.specs.declared.view.ViewCol.{ViewCol}
 use Rattle.doc_model.specs.declared.view.ViewTable.{ViewTable}
 use Rattle.doc_model.specs.MetadataIds.{resources_id, rules_id}
-use Rattle.acl_rules.specs.declared.resource.Columns.{Columns}
 use Rattle.acl_rules.specs.declared.resource.Resource.{Resource}
 use Rattle.acl_rules.specs.declared.resource.Resource.TheVariants as resource
 use Rattle.acl_rules.specs.Chain.{names_column}

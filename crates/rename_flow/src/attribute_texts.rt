@@ -1,6 +1,6 @@
 //! The texts of attributes of users.
 
-ghost use Rattle.std.specs.Prelude.{◌≡◌, Some, IfOk};
+ghost use Rattle.std.specs.Prelude.{◌≡◌, ◌++◌, Some, IfOk, OnOk, string_bytes};
 ghost use Rattle.formula_records.specs.RecordTables.{only};
 ghost use Rattle.user_attrs.specs.AttributeText.{property_text};
 ghost use Rattle.rename_flow.specs.AttributeTexts.{attribute_change, attribute_text};
@@ -22,23 +22,23 @@ fn property_text(property: UserProperty) -> &'static str
     }
 }
 
+// Adds a text, and another one.
+fn push_both(out: &mut String, first: &str, second: &str) -> Result<(), AllocError>
+    ensures { OnOk result (string_bytes out.new ≡ string_bytes out.old ++ first.now ++ second.now) }
+{
+    out.push_str(first)?;
+    out.push_str(second)
+}
+
 #[tactic(auto, unfolding(crate::specs::AttributeTexts::attribute_text))]
-fn attribute_text(
-    alloc: Global,
-    rule: &AttributeRule,
-    column: &str,
-) -> Result<CellText, AllocError>
+fn attribute_text(alloc: Global, rule: &AttributeRule, column: &str) -> Result<CellText, AllocError>
     ensures { IfOk result (λ t. t ≡ attribute_text rule.now column.now) }
 {
     let mut text = String::new(alloc);
-    text.push_str("{\"charId\":\"")?;
-    text.push_str(property_text(rule.property))?;
-    text.push_str("\",\"lookupColId\":\"")?;
-    text.push_str(column)?;
-    text.push_str("\",\"name\":\"")?;
-    text.push_str(rule.name.as_str())?;
-    text.push_str("\",\"tableId\":\"")?;
-    text.push_str(rule.table.as_str())?;
+    push_both(&mut text, "{\"charId\":\"", property_text(rule.property))?;
+    push_both(&mut text, "\",\"lookupColId\":\"", column)?;
+    push_both(&mut text, "\",\"name\":\"", rule.name.as_str())?;
+    push_both(&mut text, "\",\"tableId\":\"", rule.table.as_str())?;
     text.push_str("\"}")?;
     CellText::from_string(text)
 }

@@ -1,6 +1,7 @@
 //! What the rename of a column makes of the rules that a view shows.
 
-ghost use Rattle.std.specs.Prelude.{◌≡◌, IfOk, OnOk, option_copied};
+ghost use Rattle.std.specs.Prelude.{◌≡◌, ◌+◌, cond, IfOk, OnOk, option_copied};
+ghost use Rattle.rename_marks.specs.Noted.{capped};
 ghost use Rattle.rename_flow.specs.Parts.{with_part, with_parts};
 ghost use Rattle.rename_flow.specs.Plan.{rule_parts};
 ghost use Rattle.rename_flow.specs.RuleParts.{attribute_changed, attributes_part, claims, formula_changed, formulas_part, no_changes, rows_part, scoped_change, update_of, with_changes};
@@ -11,7 +12,9 @@ use crate::attribute_texts::attribute_change;
 use crate::rename_plan::RenamePlan;
 use crate::row_changes::RowChanges;
 use crate::shown_rows::{cells_at, text_shown};
-use crate::shown_rules::{RuleAbout, about_of, abouts_in, attribute_shown, attributes_in, claims_new, resource_shown};
+use crate::shown_rules::{
+    RuleAbout, about_of, abouts_in, attribute_shown, attributes_in, claims_new, resource_shown,
+};
 use crate::text_change::{TextChange, kept, rule_change};
 use cell_types::{CellText, CellValue};
 use doc_model::{UserAction, UserColumn, UserColumnList, ViewCol, ViewTable};
@@ -51,7 +54,13 @@ fn formula_changed(
         ≡ formula_changed rename.now abouts.now attributes.now columns.now cells.now) }
 {
     let about = about_of(abouts, columns, cells);
-    scoped_change(alloc, rename, attributes, about, text_shown(columns, cells, "aclFormula"))
+    scoped_change(
+        alloc,
+        rename,
+        attributes,
+        about,
+        text_shown(columns, cells, "aclFormula"),
+    )
 }
 
 // The change of the attribute that the rule in a row says.
@@ -113,6 +122,12 @@ fn attribute_changes(
     Ok(changes)
 }
 
+fn counted(count: u32, test: bool) -> u32
+    ensures { result ≡ cond test (capped (count + 1)) count }
+{
+    if test { count.saturating_add(1) } else { count }
+}
+
 fn claims(
     alloc: Global,
     rename: &ColumnRename,
@@ -127,9 +142,7 @@ fn claims(
     let columns = table.columns.as_slice();
     for index in 0..table.rows.len() {
         let resource = resource_shown(alloc, columns, cells_at(table, index))?;
-        if claims_new(rename, &resource) {
-            count = count.saturating_add(1);
-        }
+        count = counted(count, claims_new(rename, &resource));
     }
     Ok(count)
 }
@@ -186,7 +199,13 @@ fn add_formulas(
 {
     let abouts = abouts_in(alloc, resources)?;
     let attributes = attributes_in(alloc, rules)?;
-    let changes = formula_changes(alloc, rename, abouts.as_slice(), attributes.as_slice(), rules)?;
+    let changes = formula_changes(
+        alloc,
+        rename,
+        abouts.as_slice(),
+        attributes.as_slice(),
+        rules,
+    )?;
     add_changes(alloc, plan, "aclFormula", changes)
 }
 

@@ -1,6 +1,7 @@
 //! What a view shows of access rules.
 
-ghost use Rattle.std.specs.Prelude.{◌≡◌, ◌++◌, [], IfOk, OnOk, MatchOption, None, Some, option_copied};
+ghost use Rattle.std.specs.Prelude.{◌≡◌, ◌++◌, [], IfOk, OnOk, MatchOption, None, Some, bytes_eq, option_copied};
+ghost use Rattle.std.specs.List.{list_any};
 ghost use Rattle.cell_types.specs.Reference.{row_number};
 ghost use Rattle.acl_rules.specs.Chain.{names_column};
 ghost use Rattle.acl_rules.specs.Loaded.{resource_from};
@@ -146,12 +147,18 @@ pub(crate) fn about_of<'a>(
     }
 }
 
+fn has_name(names: &[Name], name: &str) -> bool
+    ensures { result ≡ list_any (λ d. bytes_eq d name.now) names.now }
+{
+    names.iter().any(|other| other.as_str() == name)
+}
+
 fn names_column(columns: &Columns, column: &str) -> bool
     ensures { result ≡ names_column columns.now column.now }
 {
     match columns {
         Columns::All => false,
-        Columns::These(names) => names.as_slice().iter().any(|name| name.as_str() == column),
+        Columns::These(names) => has_name(names.as_slice(), column),
     }
 }
 

@@ -1,9 +1,9 @@
 -- Items and keys one after the other.
-use Rattle.std.proofs.Common.{◌≡◌, ◌<◌, ◌≤◌, ◌+◌, ◌-◌, arith, take, ap, refl, sym, ℕ, zero, suc, List, [], ◌∷◌, length, get_or, drop}
+use Rattle.std.proofs.Common.{◌≡◌, ◌<◌, ◌≤◌, ◌+◌, ◌-◌, arith, take, ap, refl, ℕ, zero, suc, List, [], ◌∷◌, length, get_or, drop}
 use Rattle.std.proofs.lemmas.List.{take_all}
 use Rattle.formula_parse.specs.declared.tree.LookupKey.{LookupKey}
 use Rattle.formula_parse.specs.Seen.{keys_of}
-use Rattle.formula_parse.specs.Tree.{Keys, one_key, keys_from}
+use Rattle.formula_parse.specs.Tree.{one_key, keys_from}
 use Rattle.formula_parse.specs.TreeSize.{keys_size, tree_size}
 use Rattle.formula_records.proofs.ItemLemmas.{drop_next}
 

@@ -1,12 +1,12 @@
 -- What a walk notes, part by part.
-use Rattle.std.proofs.Common.{◌≡◌, ◌∙◌, ap, refl, sym, arith, zero-add, ℕ, ◌+◌, ◌≤◌, min, Bool, true, false, cond, ◌&&◌, ◌||◌, not, List, [], ◌∷◌, ◌++◌, append_assoc, map, bytes_eq}
+use Rattle.std.proofs.Common.{◌≡◌, ◌∙◌, ap, refl, sym, arith, zero-add, ℕ, ◌+◌, ◌≤◌, Bool, true, false, cond, ◌&&◌, List, [], ◌∷◌, ◌++◌, append_assoc, bytes_eq}
 use Rattle.std.proofs.lemmas.List.Sums.{sum_by-append}
 use Rattle.formula_records.specs.declared.tables.RecordTables.{RecordTables}
 use Rattle.formula_records.specs.declared.tables.RecordTables.TheVariants.{Any, These}
 use Rattle.rename_marks.specs.declared.column_rename.ColumnRename.{ColumnRename}
 use Rattle.rename_marks.specs.declared.marking.Marking.{Marking}
 use Rattle.rename_marks.specs.Noted.{capped, counted, max_count, noted, stayed, used}
-use Rattle.rename_marks.specs.Uses.{Use, has_table, has_only, is_exactly, is_open, is_replaced, is_unresolved, unresolved_among, use_of}
+use Rattle.rename_marks.specs.Uses.{Use, has_table, is_exactly, is_open, is_replaced, is_unresolved, unresolved_among, use_of}
 
 pub counted_append : (r : ColumnRename) (n : ℕ) (us vs : List Use) → counted r n (us ++ vs) ≡ counted r (counted r n us) vs
 counted_append r n [] vs = refl

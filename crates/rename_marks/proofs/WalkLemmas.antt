@@ -1,10 +1,10 @@
 -- What a walk notes of each form of formula.
-use Rattle.std.proofs.Common.{◌≡◌, ◌∙◌, ap, refl, sym, arith, zero-add, ℕ, ◌+◌, Bool, true, false, List, [], ◌∷◌, ◌++◌, append_assoc, length, map, replicate}
+use Rattle.std.proofs.Common.{◌≡◌, ◌∙◌, ap, refl, sym, arith, zero-add, ℕ, Bool, false, List, [], ◌∷◌, ◌++◌, append_assoc, length, replicate}
 use Rattle.std.proofs.lemmas.List.{append-nil, map-append}
 use Rattle.formula_lex.specs.declared.token.Sign.TheVariants as sign
 use Rattle.formula_parse.specs.declared.lexeme.Keyword.TheVariants as word
 use Rattle.formula_parse.specs.declared.lexeme.Lexeme.{Lexeme}
-use Rattle.formula_parse.specs.declared.lexeme.Lexeme.TheVariants.{Number, Text, Name, Dollar, Keyword as Word, Sign as Mark}
+use Rattle.formula_parse.specs.declared.lexeme.Lexeme.TheVariants.{Name, Keyword as Word, Sign as Mark}
 use Rattle.formula_parse.specs.declared.operator.BinaryOp.{BinaryOp}
 use Rattle.formula_parse.specs.declared.operator.Constant.{Constant}
 use Rattle.formula_parse.specs.declared.operator.LookupKind.{LookupKind}

@@ -1,5 +1,5 @@
 -- Which records the expressions of a formula may hold, by where the formula stands.
-use Rattle.std.specs.Prelude.{ℕ, Bool, List, filter, map, bytes_eq}
+use Rattle.std.specs.Prelude.{ℕ, List, filter, map, bytes_eq}
 use Rattle.formula_parse.specs.Tree.{Tree}
 use Rattle.formula_records.specs.declared.tables.RecordTables.{RecordTables}
 use Rattle.formula_records.specs.declared.tables.RecordTables.TheVariants.{These}

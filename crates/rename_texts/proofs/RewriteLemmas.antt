@@ -1,21 +1,18 @@
 -- The bytes of a rewritten text are those of the characters with the marked words replaced.
-use Rattle.std.proofs.Common.{◌≡◌, ◌∙◌, ap, refl, sym, subst, ℕ, suc, ◌+◌, ◌-◌, ◌<◌, ◌≤◌, arith, Bool, true, false, ◌&&◌, List, [], ◌∷◌, ◌++◌, length, take, drop, get_or, append_assoc, length-append, add-one, drop-cons, Option, Some, None}
-use Rattle.std.specs.Char.{encode_utf8}
+use Rattle.std.proofs.Common.{◌≡◌, ◌∙◌, ap, refl, sym, subst, ℕ, suc, ◌+◌, ◌-◌, ◌<◌, ◌≤◌, arith, Bool, true, false, List, [], ◌∷◌, ◌++◌, length, take, drop, get_or, append_assoc, length-append, add-one, drop-cons, Option, Some, None}
 use Rattle.std.specs.List.{slice_range}
 use Rattle.std.specs.Str.{IsUtf8, chars, encode_utf8_all}
 use Rattle.std.proofs.Math.Seq.{drop-append_seam, take-append_seam}
 use Rattle.std.proofs.Math.Utf8.{scalar, scalars}
 use Rattle.std.proofs.lemmas.Bool.{and_from, and_parts}
-use Rattle.std.proofs.lemmas.Option.{none-some, same_Some}
 use Rattle.std.proofs.lemmas.Str.{chars-encodes, encode_ascii, encodes-append, encodes-chars, scalars-chars}
-use Rattle.formula_lex.specs.declared.fault.LexFault.{LexFault}
 use Rattle.formula_lex.specs.declared.fault.LexFault.TheVariants as fault
 use Rattle.formula_lex.specs.declared.token.Token.{Token}
 use Rattle.formula_lex.specs.declared.token.TokenKind.{TokenKind}
 use Rattle.formula_lex.specs.declared.token.TokenKind.TheVariants as kind
 use Rattle.formula_lex.specs.Machine.{tokens_in}
 use Rattle.formula_lex.specs.Places.{IsInOrder}
-use Rattle.formula_lex.specs.Spelling.{Begins, FitsFault, SpelledFrom, SpellsText, text_len}
+use Rattle.formula_lex.specs.Spelling.{Begins, FitsFault, SpelledFrom, SpellsText}
 use Rattle.formula_lex.proofs.Complete.{spelled_read}
 use Rattle.formula_lex.proofs.Sound.{read_spelled}
 use Rattle.formula_lex.proofs.Turns.{text_len-encodes}

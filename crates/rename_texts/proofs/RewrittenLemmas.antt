@@ -1,19 +1,18 @@
 -- Rewritten texts spell renamed trees.
-use Rattle.std.proofs.Common.{◌≡◌, ◌∙◌, ap, refl, sym, subst, ℕ, ◌≤◌, ◌+◌, Bool, true, false, not, ◌&&◌, nat_le, nat_lt, List, [], ◌∷◌, length, Option, Some, None, arith, inl, inr}
+use Rattle.std.proofs.Common.{◌≡◌, ◌∙◌, ap, refl, sym, subst, ℕ, ◌≤◌, Bool, true, false, not, ◌&&◌, nat_le, nat_lt, List, [], ◌∷◌, length, Some, arith, inl, inr}
 use Rattle.std.specs.List.{list_all}
-use Rattle.std.specs.Str.{IsUtf8, chars}
+use Rattle.std.specs.Str.{chars}
 use Rattle.std.proofs.lemmas.Bool.{and_from, and_parts, lt-ltb}
 use Rattle.std.proofs.lemmas.Str.{encodes-chars}
 use Rattle.unicode_ident.specs.Ident.{is_xid_start, is_xid_continue}
 use Rattle.cell_types.specs.NameRule.{has_name_characters, is_name, is_reserved}
 use Rattle.formula_lex.specs.declared.token.Token.{Token}
-use Rattle.formula_lex.specs.Spelling.{AllContinue, IsWord, SpelledFrom, SpellsText}
-use Rattle.formula_parse.specs.declared.operator.Constant.TheVariants as con
+use Rattle.formula_lex.specs.Spelling.{AllContinue, IsWord, SpellsText}
 use Rattle.formula_parse.specs.declared.operator.Dialect.{Dialect}
 use Rattle.formula_parse.specs.FormulaOf.{formula_of}
 use Rattle.formula_parse.specs.Lexemes.{is_field, is_id, is_short}
 use Rattle.formula_parse.specs.Spelling.{SpellsIn, SpellsTree, max_bytes}
-use Rattle.formula_parse.specs.Tree.{Tree, constant}
+use Rattle.formula_parse.specs.Tree.{Tree}
 use Rattle.formula_parse.proofs.FormulaOfLemmas.{formula_spelled, spelled_formula}
 use Rattle.rename_texts.specs.Marked.{marks}
 use Rattle.rename_texts.specs.Renamed.{Rename, renamed}
@@ -69,13 +68,12 @@ rewritten_spells x d text t g s =
     let e = rewritten_some text x.new s.tokens (marks x t) s.spelled in
     subst (λ (other : List ℕ). SpellsIn d other (Some (renamed x t))) (sym e) (by_tokens x d text t s.tokens g s.spelled s.tree e)
 
-
 pub rewritten_formula : RewrittenFormulaLaw
 rewritten_formula x text t g e =
     elim (spelled_formula text t e) [
       | inl s ↦ formula_spelled (rewritten_text text (marks x t) x.new) (renamed x t) (inl (rewritten_spells x _ text t g s))
       | inr s ↦
-        let empty : SpellsText text [] = subst (λ (ts : List Token). SpellsText text ts) s.1.tree s.1.spelled in
-        let stays : rewritten_text text (marks x t) x.new ≡ text = rewritten_some text x.new [] (marks x t) empty in
-        ap formula_of stays ∙ e ∙ ap Some (s.0 ∙ sym (ap (renamed x) s.0))
+          let empty : SpellsText text [] = subst (λ (ts : List Token). SpellsText text ts) s.1.tree s.1.spelled in
+          let stays : rewritten_text text (marks x t) x.new ≡ text = rewritten_some text x.new [] (marks x t) empty in
+          ap formula_of stays ∙ e ∙ ap Some (s.0 ∙ sym (ap (renamed x) s.0))
     ]

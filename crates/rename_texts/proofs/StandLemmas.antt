@@ -1,21 +1,19 @@
 -- Renamed trees are of the grammar, and their names are allowed.
-use Rattle.std.proofs.Common.{◌≡◌, ◌∙◌, ap, refl, subst, sym, ℕ, ◌≤◌, Bool, true, false, cond, ◌&&◌, ◌||◌, List, [], ◌∷◌, ◌++◌, map, bytes_eq}
+use Rattle.std.proofs.Common.{◌≡◌, ◌∙◌, ap, refl, subst, sym, ℕ, ◌≤◌, Bool, true, false, cond, List, [], ◌∷◌, ◌++◌, map, bytes_eq}
 use Rattle.std.specs.Bool.{⊤}
-use Rattle.std.specs.List.{list_any}
-use Rattle.std.proofs.lemmas.Bool.{and_parts, or_parts}
-use Rattle.std.proofs.lemmas.List.Folds.{list_any-append}
+use Rattle.std.proofs.lemmas.Bool.{or_parts}
 use Rattle.std.proofs.lemmas.Slice.Eq.{bytes_eq-Decides}
 use Rattle.formula_parse.specs.declared.lexeme.Lexeme.{Lexeme}
 use Rattle.formula_parse.specs.declared.lexeme.Lexeme.TheVariants.{Number, Text, Name, Dollar, Keyword as Word, Sign as Mark}
 use Rattle.formula_parse.specs.declared.operator.Dialect.{Dialect}
-use Rattle.formula_parse.specs.Grammar.{lexemes_of, group_of, prefix_level}
+use Rattle.formula_parse.specs.Grammar.{group_of, prefix_level}
 use Rattle.formula_parse.specs.Levels.{group_left, group_right}
 use Rattle.formula_parse.specs.Lexemes.{AllAllowed, IsAllowed, is_field}
 use Rattle.formula_parse.specs.Standing.{AllKeysStand, AllStand, Stands, is_among, level_of}
 use Rattle.formula_parse.specs.Tree.{Tree, number, text, constant, dollar, binary, prefix, conditional, parentheses, list, call, attribute, every, lookup, atom, Trees, no_trees, one_more, Keys, no_keys, one_key}
 use Rattle.rename_texts.specs.Laws.{AllFree, AllowedLaw, IsFree, KeysFree, StandsLaw}
 use Rattle.rename_texts.specs.Marked.{marked, rewritten, with_name}
-use Rattle.rename_texts.specs.Renamed.{Rename, all_renamed, is_hit, keys_renamed, named, renamed}
+use Rattle.rename_texts.specs.Renamed.{Rename, all_renamed, keys_renamed, named, renamed}
 use Rattle.rename_texts.proofs.TreeLemmas.{lexemes_renamed, written_so}
 
 -- ---- names are allowed

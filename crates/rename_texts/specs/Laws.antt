@@ -1,11 +1,11 @@
 -- What the texts of renamed formulas rest on.
-use Rattle.std.specs.Prelude.{ℕ, Bool, true, false, cond, List, [], ◌∷◌, map, ◌≡◌, ⊤}
+use Rattle.std.specs.Prelude.{Bool, true, false, cond, map, ◌≡◌, ⊤}
 use Rattle.formula_parse.specs.declared.lexeme.Lexeme.{Lexeme}
 use Rattle.formula_parse.specs.declared.operator.Dialect.{Dialect}
 use Rattle.formula_parse.specs.Grammar.{lexemes_of}
 use Rattle.formula_parse.specs.Lexemes.{AllAllowed, is_field}
 use Rattle.formula_parse.specs.Standing.{Stands}
-use Rattle.formula_parse.specs.Tree.{Tree, number, text, constant, dollar, binary, prefix, conditional, parentheses, list, call, attribute, every, lookup, atom, Trees, no_trees, one_more, Keys, no_keys, one_key, height_of}
+use Rattle.formula_parse.specs.Tree.{Tree, binary, prefix, conditional, parentheses, list, call, attribute, lookup, Trees, no_trees, one_more, Keys, no_keys, one_key, height_of}
 use Rattle.std.specs.Str.{bytes_eq}
 use Rattle.rename_texts.specs.Renamed.{Rename, renamed}
 use Rattle.rename_texts.specs.Marked.{marked, rewritten}

@@ -5,7 +5,7 @@ use Rattle.std.specs.Str.{encode_utf8_all}
 use Rattle.formula_lex.specs.declared.token.Token.{Token}
 use Rattle.formula_lex.specs.declared.token.TokenKind.{TokenKind}
 use Rattle.formula_lex.specs.declared.token.TokenKind.TheVariants as kind
-use Rattle.formula_lex.specs.Spelling.{Begins, IsWord, SpelledFrom, text_len}
+use Rattle.formula_lex.specs.Spelling.{IsWord, SpelledFrom, text_len}
 
 -- the mark of the first token, and those of the others
 abbrev pub first_mark : List Bool → Bool

@@ -73,7 +73,13 @@ fn push_token(
         (slice_range text.now token.now.from token.now.to))) }
 {
     out.extend_from_slice(&text[at..token.from])?;
-    push_word(out, &token.kind, is_marked, &text[token.from..token.to], new)
+    push_word(
+        out,
+        &token.kind,
+        is_marked,
+        &text[token.from..token.to],
+        new,
+    )
 }
 
 // The bytes of the text with the new name in the places of the marked tokens.
@@ -133,12 +139,7 @@ fn with_words(
 /// Errors: out of memory.
 /// Memory: the tokens, and the text twice. Cost: linear in both texts.
 #[tactic(auto, unfolding(crate::specs::Rewriting::rewritten_text))]
-pub fn rewrite(
-    alloc: Global,
-    text: &str,
-    marks: &[bool],
-    new: &str,
-) -> Result<CellText, AllocError>
+pub fn rewrite(alloc: Global, text: &str, marks: &[bool], new: &str) -> Result<CellText, AllocError>
     ensures { IfOk result (λ t. t ≡ rewritten_text text.now marks.now new.now) }
 {
     match tokens(alloc, text) {

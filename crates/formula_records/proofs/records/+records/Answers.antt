@@ -4,7 +4,7 @@ use Rattle.formula_parse.specs.TreeSize.{tree_size, trees_size}
 use Rattle.formula_records.specs.declared.tables.RecordTables.{RecordTables}
 use Rattle.formula_records.specs.RecordTables.{union}
 use Rattle.formula_records.specs.ShownColumns.{columns_of}
-use Rattle.formula_records.proofs.ItemLemmas.{HandsOne, HandsTwo, if_error_of_others, if_of_others, item_smaller, of_one, of_three, of_two}
+use Rattle.formula_records.proofs.ItemLemmas.{if_error_of_others, if_of_others, item_smaller, of_one, of_three, of_two}
 use Rattle.formula_records.proofs.records.+records.Goals as goal
 
 pub note_items-note_formula-requires : goal.note_items-note_formula-requires

@@ -1,11 +1,10 @@
-use Rattle.std.proofs.Common.{◌≡◌, ◌∙◌, ◌<◌, ◌+◌, arith, ap, sym, subst, List, drop, OnOk}
+use Rattle.std.proofs.Common.{◌≡◌, ◌∙◌, ◌+◌, arith, ap, sym, subst, List, drop, OnOk}
 use Rattle.formula_parse.specs.declared.tree.LookupKey.{LookupKey}
 use Rattle.formula_parse.specs.Seen.{keys_of}
 use Rattle.formula_parse.specs.Tree.{Keys, Tree, Trees, from_list, keys_from, one_key, one_more}
-use Rattle.formula_parse.specs.TreeSize.{keys_size, tree_size, trees_size}
 use Rattle.formula_records.proofs.ItemLemmas.{item_smaller, items_drop}
 use Rattle.rename_marks.specs.declared.marking.Marking.{Marking}
-use Rattle.rename_marks.specs.Noted.{stayed, walked, walked_items, walked_keys, walked_more, walked_more_keys, with_key}
+use Rattle.rename_marks.specs.Noted.{walked, walked_items, walked_keys, walked_more, walked_more_keys, with_key}
 use Rattle.rename_marks.specs.Scope.{scope_at}
 use Rattle.rename_marks.proofs.KeyLemmas.{key_smaller, keys_drop, none_left, others}
 use Rattle.rename_marks.proofs.WalkLemmas.{walked_first, walked_first_key, walked_next, walked_next_key, walked_no_items, walked_no_keys, walked_no_more, walked_no_more_keys}

@@ -1,4 +1,4 @@
-use Rattle.std.proofs.Common.{◌≡◌, ◌∙◌, ap}
+use Rattle.std.proofs.Common.{◌∙◌, ap}
 use Rattle.rename_marks.specs.declared.marking.Marking.{Marking}
 use Rattle.rename_marks.specs.Noted.{walked}
 use Rattle.rename_marks.specs.Scope.{scope_at}

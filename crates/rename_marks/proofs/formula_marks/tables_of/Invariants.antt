@@ -1,4 +1,4 @@
-use Rattle.std.proofs.Common.{◌≡◌, ◌++◌, map, List, ℕ, drop, bytes_eq}
+use Rattle.std.proofs.Common.{◌≡◌, ◌++◌, map, drop, bytes_eq}
 use Rattle.std.specs.Prelude.{filter}
 use Rattle.rename_marks.specs.declared.formula_place.AttributeTable.{AttributeTable}
 use Rattle.rename_marks.proofs.formula_marks.tables_of.Given as goal

@@ -61,6 +61,10 @@ behind s (a ∷ as') bs h =
     let q = behind (apply s a) as' bs p.1 in
     (ap (λ b. b && all_valid (apply s a) as') p.0 ∙ q.0, q.1, q.2)
 
+pub done_behind : (s : Document) (as' bs : List DocAction) → apply_all (apply_all s as') bs ≡ apply_all s (as' ++ bs)
+done_behind s [] bs = refl
+done_behind s (a ∷ as') bs = done_behind (apply s a) as' bs
+
 -- ---- updates
 
 resources_acl : is_acl_id resources_id ≡ true

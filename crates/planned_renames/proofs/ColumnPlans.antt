@@ -10,13 +10,15 @@ use Rattle.doc_model.specs.Changes.{IsView, shown_table_id}
 use Rattle.doc_model.specs.ViewEdits.{shown_id}
 use Rattle.doc_model.proofs.ByIdsLaws.{AreDistinct-IsByIds, each_found}
 use Rattle.doc_model.proofs.Choices.{each_both, each_filter, each_weaker}
+use Rattle.doc_model.proofs.WholeLaws.{each_append}
+use Rattle.formula_eval.proofs.Notes.{all_append}
 use Rattle.formula_records.specs.ShownColumns.{shown_column}
 use Rattle.rename_flow.specs.declared.column_parts.Place.{Place}
 use Rattle.rename_flow.specs.declared.column_parts.Place.TheVariants as place
 use Rattle.rename_flow.specs.ColumnParts.{column_parts, formula_part, is_at, is_renamed, parts_at, parts_each, table_parts, type_part}
 use Rattle.rename_flow.specs.Parts.{Part}
 use Rattle.rename_marks.specs.declared.column_rename.ColumnRename.{ColumnRename}
-use Rattle.planned_renames.proofs.PlanParts.{HasSet, Sets, all_joined, all_parts, set_left, set_right}
+use Rattle.planned_renames.proofs.PlanParts.{HasSet, Sets, set_left, set_right}
 
 -- each column of a view is found by its table and its id
 abbrev pub IsThere : List ViewTable → ViewTable → ViewCol → Type 0
@@ -44,9 +46,9 @@ module _ (v : List ViewTable) (m : ColumnRename) where
     pub parts_have : (ws : List ViewTable) → AllByRecursion (λ (w : ViewTable). AllByRecursion (OfColumn w) w.columns) ws → AllByRecursion P (column_parts v m ws)
     parts_have [] h = tt
     parts_have (w ∷ ws) h =
-        all_joined P (table_parts v m w) (column_parts v m ws)
-        (all_joined P (parts_at v m w place.Before) (parts_at v m w place.Renamed ++ parts_at v m w place.Behind) (at place.Before)
-        (all_joined P (parts_at v m w place.Renamed) (parts_at v m w place.Behind) (at place.Renamed) (at place.Behind)))
+        each_append P (table_parts v m w) (column_parts v m ws)
+        (each_append P (parts_at v m w place.Before) (parts_at v m w place.Renamed ++ parts_at v m w place.Behind) (at place.Before)
+        (each_append P (parts_at v m w place.Renamed) (parts_at v m w place.Behind) (at place.Renamed) (at place.Behind)))
         (parts_have ws h.1)
       where
         at : (p : Place) → AllByRecursion P (parts_at v m w p)
@@ -73,9 +75,9 @@ module _ (v : List ViewTable) (m : ColumnRename) where
     pub have_parts : (ws : List ViewTable) → AllByRecursion P (column_parts v m ws) → AllByRecursion (λ (w : ViewTable). AllByRecursion (OfColumn w) w.columns) ws
     have_parts [] h = tt
     have_parts (w ∷ ws) h =
-        let p = all_parts P (table_parts v m w) (column_parts v m ws) h in
-        let q = all_parts P (parts_at v m w place.Before) (parts_at v m w place.Renamed ++ parts_at v m w place.Behind) p.0 in
-        let r = all_parts P (parts_at v m w place.Renamed) (parts_at v m w place.Behind) q.1 in
+        let p = all_append P (table_parts v m w) (column_parts v m ws) h in
+        let q = all_append P (parts_at v m w place.Before) (parts_at v m w place.Renamed ++ parts_at v m w place.Behind) p.0 in
+        let r = all_append P (parts_at v m w place.Renamed) (parts_at v m w place.Behind) q.1 in
         (all_three w w.columns (at_place w place.Before w.columns q.0) (at_place w place.Renamed w.columns r.0) (at_place w place.Behind w.columns r.1), have_parts ws p.1)
       where
         all_three : (w : ViewTable) (ds : List ViewCol) → AllByRecursion (λ d. is_at m w place.Before d ≡ true → OfColumn w d) ds → AllByRecursion (λ d. is_at m w place.Renamed d ≡ true → OfColumn w d) ds

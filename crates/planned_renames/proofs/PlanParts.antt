@@ -28,14 +28,6 @@ with_parts_none p (q ∷ qs) h =
     let both = sum_none p.unresolved q.unresolved (capped_none (p.unresolved + q.unresolved) later.0) in
     (both.0, (both.1, later.1))
 
-pub all_parts : {X : Type 0} (P : X → Type 0) (xs ys : List X) → AllByRecursion P (xs ++ ys) → AllByRecursion P xs × AllByRecursion P ys
-all_parts P [] ys h = (tt, h)
-all_parts P (x ∷ xs) ys h = let p = all_parts P xs ys h.1 in ((h.0, p.0), p.1)
-
-pub all_joined : {X : Type 0} (P : X → Type 0) (xs ys : List X) → AllByRecursion P xs → AllByRecursion P ys → AllByRecursion P (xs ++ ys)
-all_joined P [] ys h g = g
-all_joined P (x ∷ xs) ys h g = (h.0, all_joined P xs ys h.1 g)
-
 -- ---- the text of a column after actions
 
 module _ (t n : List ℕ) where

@@ -32,7 +32,7 @@ use Rattle.doc_model.specs.ViewEdits.{shown_id}
 use Rattle.doc_model.proofs.ByIdsLaws.{bytes_apart, bytes_itself, each_found, found_all, found_id}
 use Rattle.doc_model.proofs.Choices.{cond_true, each_both, each_true, each_weaker}
 use Rattle.doc_model.proofs.InverseLaws.{IsWhole-apply_all}
-use Rattle.doc_model.proofs.WholeLaws.{good_from}
+use Rattle.doc_model.proofs.WholeLaws.{each_append, good_from}
 use Rattle.formula_lex.specs.Spelling.{AllBlank, SpellsText}
 use Rattle.formula_parse.specs.declared.operator.Constant.TheVariants as con
 use Rattle.formula_parse.specs.FormulaOf.{formula_of}
@@ -40,6 +40,7 @@ use Rattle.formula_parse.specs.Lexemes.{id_word, is_id}
 use Rattle.formula_parse.specs.Spelling.{max_bytes}
 use Rattle.formula_parse.specs.Tree.{Tree, constant}
 use Rattle.formula_parse.proofs.FormulaOfLemmas.{formula_empty}
+use Rattle.formula_eval.proofs.Notes.{all_append}
 use Rattle.formula_records.specs.ShownColumns.{as_column as shown_kind, columns_of, shown_column}
 use Rattle.name_rules.specs.FreeName.{free_name, is_taken, least_free, numbered}
 use Rattle.recalc.specs.Evaluated.{column_in}
@@ -77,7 +78,7 @@ use Rattle.user_actions.specs.Steps.{column_ids, column_renaming}
 use Rattle.planned_renames.specs.PlannedValues.{IsPlanned, PlannedValuesLaw, actions_in, parts_of, renames, rewriting}
 use Rattle.planned_renames.specs.WholeView.{IsShownOf, shown_as}
 use Rattle.planned_renames.proofs.ColumnPlans.{IsThere, OfColumn, all_there, have_parts, parts_have, set_view}
-use Rattle.planned_renames.proofs.PlanParts.{Leaves, Sets, all_joined, all_leave, all_parts, all_set, capped_none, set_left, with_parts_actions, with_parts_none}
+use Rattle.planned_renames.proofs.PlanParts.{Leaves, Sets, all_leave, all_set, capped_none, set_left, with_parts_actions, with_parts_none}
 use Rattle.planned_renames.proofs.UnmarkedTrees.{stays}
 
 -- ---- small facts
@@ -95,11 +96,14 @@ within false n h = absurd (never n (capped_none (n + 1) h))
     never n h = omega arith
 
 empty_is : (text : List ℕ) → is_empty text ≡ true → text ≡ []
-empty_is [] h = refl
-empty_is (c ∷ cs) h = absurd (never (length cs) (leb-true (length (c ∷ cs)) 0 h))
+empty_is text h = none text (leb-true (length text) 0 h)
   where
     never : (n : ℕ) → suc n ≤ 0 → ⊥
     never n h = omega arith
+
+    none : (cs : List ℕ) → length cs ≤ 0 → cs ≡ []
+    none [] h = refl
+    none (c ∷ cs) h = absurd (never (length cs) h)
 
 plain_type : (k : ColType) → leads_to_metadata k ≡ false → IsPlainType k
 plain_type ty.Any h = tt
@@ -151,7 +155,7 @@ updated_asks m s column g = elim g.rows as (λ rows. AllByRecursion (AsksText m 
 -- what all parts ask for is what all their actions ask for
 all_actions : (P : UserAction → Type 0) (qs : List Part) → AllByRecursion (λ (q : Part). AllByRecursion P q.actions) qs → AllByRecursion P (actions_in qs)
 all_actions P [] h = tt
-all_actions P (q ∷ qs) h = all_joined P q.actions (actions_in qs) h.0 (all_actions P qs h.1)
+all_actions P (q ∷ qs) h = each_append P q.actions (actions_in qs) h.0 (all_actions P qs h.1)
 
 -- the table of a view in which a column is found
 found_in : (v : List ViewTable) (t c : List ℕ) (e : ViewCol) → shown_column v t c ≡ Some e → (w : ViewTable) × (find_id shown_table_id t v ≡ Some w) × (find_id shown_id c w.columns ≡ Some e)
@@ -205,10 +209,10 @@ module _ (v : List ViewTable) (m : ColumnRename) (s : Document) (h : IsPlanned v
   zero = (with_parts_none (bare_plan m) (parts_of v m) (sym (ap (λ p. p.unresolved) plan_is) ∙ h.resolved)).1
 
   zero_columns : AllByRecursion (λ (w : ViewTable). AllByRecursion (OfColumn v m (λ (q : Part). q.unresolved ≡ 0) w) w.columns) v
-  zero_columns = have_parts v m (λ (q : Part). q.unresolved ≡ 0) v (all_parts (λ (q : Part). q.unresolved ≡ 0) (column_parts v m v) (rule_parts v m ++ name_parts v m) zero).0
+  zero_columns = have_parts v m (λ (q : Part). q.unresolved ≡ 0) v (all_append (λ (q : Part). q.unresolved ≡ 0) (column_parts v m v) (rule_parts v m ++ name_parts v m) zero).0
 
   new_hidden : is_shown v m.table m.new ≡ false
-  new_hidden = none_where (is_shown v m.table m.new) (all_parts (λ (q : Part). q.unresolved ≡ 0) (rule_parts v m) (name_parts v m) (all_parts (λ (q : Part). q.unresolved ≡ 0) (column_parts v m v) (rule_parts v m ++ name_parts v m) zero).1).1.0
+  new_hidden = none_where (is_shown v m.table m.new) (all_append (λ (q : Part). q.unresolved ≡ 0) (rule_parts v m) (name_parts v m) (all_append (λ (q : Part). q.unresolved ≡ 0) (column_parts v m v) (rule_parts v m ++ name_parts v m) zero).1).1.0
 
   -- no column that is shown has the new name
   kept_of : (t c : List ℕ) (e : ViewCol) → shown_column v t c ≡ Some e → IsKept m t c
@@ -285,7 +289,7 @@ module _ (v : List ViewTable) (m : ColumnRename) (s : Document) (h : IsPlanned v
 
   asks : AllByRecursion (AsksText m s) (actions_in (parts_of v m))
   asks = all_actions (AsksText m s) (parts_of v m)
-      (all_joined P (column_parts v m v) (rule_parts v m ++ name_parts v m)
+      (each_append P (column_parts v m v) (rule_parts v m ++ name_parts v m)
       (parts_have v m P v (each_weaker _ (λ (w : ViewTable). AllByRecursion (OfColumn v m P w) w.columns) table v (each_both _ _ v h.shows.metadata (all_there v h.shows.view))))
       (updated_asks m s (codes "aclFormula") (formula_rows v m), (updated_asks m s (codes "userAttributes") (attribute_rows v m), (tt, (tt, (tt, (tt, tt)))))))
     where
@@ -356,7 +360,7 @@ module _ (v : List ViewTable) (m : ColumnRename) (s : Document) (h : IsPlanned v
     no_change : change ≡ None → texts_asked (actions_in (parts_of v m)) t now d.info.formula ≡ d.info.formula
     no_change none =
         all_leave t now (parts_of v m)
-        (all_joined (Leaves t now) (column_parts v m v) others
+        (each_append (Leaves t now) (column_parts v m v) others
         (parts_have v m (Leaves t now) v (each_weaker _ (λ (w : ViewTable). AllByRecursion (OfColumn v m (Leaves t now) w) w.columns)
         (λ (w : ViewTable) all. each_weaker (IsThere v w) (OfColumn v m (Leaves t now) w) (λ e there. (⊎_elim (λ l. l) (λ o. leaves_own w e none o.0 o.1) (part_kind w e there), (λ f. refl))) w.columns all) v (all_there v h.shows.view)))
         others_leave) d.info.formula
@@ -365,7 +369,7 @@ module _ (v : List ViewTable) (m : ColumnRename) (s : Document) (h : IsPlanned v
     one_change g some =
         let f = found_in v t c (shown_as d) shown in
         all_set t now g (parts_of v m)
-        (all_joined P (column_parts v m v) others
+        (each_append P (column_parts v m v) others
         (parts_have v m P v (each_weaker _ (λ (w : ViewTable). AllByRecursion (OfColumn v m P w) w.columns)
         (λ (w : ViewTable) all. each_weaker (IsThere v w) (OfColumn v m P w) (λ e there. (⊎_elim (λ l. inl l) (λ o. inr (sets_own g w e some o.0 o.1)) (part_kind w e there), inl (λ f. refl))) w.columns all) v (all_there v h.shows.view)))
         (each_weaker (Leaves t now) P (λ q l. inl l) others others_leave))

@@ -95,15 +95,12 @@ within false n h = absurd (never n (capped_none (n + 1) h))
     never : (n : ℕ) → n + 1 ≡ 0 → ⊥
     never n h = omega arith
 
-empty_is : (text : List ℕ) → is_empty text ≡ true → text ≡ []
-empty_is text h = none text (leb-true (length text) 0 h)
-  where
-    never : (n : ℕ) → suc n ≤ 0 → ⊥
-    never n h = omega arith
+never_empty : (n : ℕ) → suc n ≤ 0 → ⊥
+never_empty n h = omega arith
 
-    none : (cs : List ℕ) → length cs ≤ 0 → cs ≡ []
-    none [] h = refl
-    none (c ∷ cs) h = absurd (never (length cs) h)
+none_there : (cs : List ℕ) → length cs ≤ 0 → cs ≡ []
+none_there [] h = refl
+none_there (c ∷ cs) h = absurd (never_empty (length cs) h)
 
 plain_type : (k : ColType) → leads_to_metadata k ≡ false → IsPlainType k
 plain_type ty.Any h = tt
@@ -254,7 +251,7 @@ module _ (v : List ViewTable) (m : ColumnRename) (s : Document) (h : IsPlanned v
       by : (b : Bool) → d.info.is_formula ≡ b → d.info.is_formula ≡ true
       by true j = j
       by false j =
-          let none : d.info.formula ≡ [] = empty_is d.info.formula (ap (λ b. b || is_empty d.info.formula) (sym j) ∙ (and_parts _ (d.info.is_formula || is_empty d.info.formula) sound).1) in
+          let none : d.info.formula ≡ [] = none_there d.info.formula (leb-true (length d.info.formula) 0 (ap (λ b. b || is_empty d.info.formula) (sym j) ∙ (and_parts _ (d.info.is_formula || is_empty d.info.formula) sound).1)) in
           let no : None ≡ Some g = sym (no_text m sc) ∙ ap (λ f. (formula_change m sc (Some f)).text) (sym none) ∙ e in
           absurd (cc)
 

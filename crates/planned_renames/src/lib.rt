@@ -2,8 +2,9 @@
 //!
 //! Stands on `rename_flow` (plans), `renaming_bundles` (what bundles of renames make of documents),
 //! `renamed_documents` and `renamed_values` (values there), `rename_marks`, `rename_texts`,
-//! `formula_records`, `formula_parse`, `formula_lex` and `formula_eval` (formulas and their names), `user_actions`,
-//! `name_rules`, `recalc`, `doc_readers`, `doc_model` and `cell_types`. No program calls it.
+//! `formula_records`, `formula_parse`, `formula_lex` and `formula_eval` (formulas and their names),
+//! `user_actions`, `name_rules`, `recalc`, `doc_readers`, `doc_model` and `cell_types`. Used by
+//! `rename_law`.
 //!
 //! Promises: `planned_values_law`: where a view shows all columns of a whole document with their
 //! formulas, its plan leaves nothing unresolved, and the steps of the plan's bundle are valid, the

@@ -1,18 +1,17 @@
 -- Documents with all values in place, before and after a column has a new name.
-use Rattle.std.proofs.Common.{ℕ, Bool, true, false, cond, List, [], ◌∷◌, map, length, ◌≡◌, refl, subst, sym, ap, ◌∙◌}
+use Rattle.std.proofs.Common.{ℕ, cond, List, map, ◌≡◌, sym, ap, ◌∙◌}
 use Rattle.std.specs.List.{AllByRecursion}
 use Rattle.cell_types.specs.declared.value.CellValue.{CellValue}
 use Rattle.doc_model.specs.declared.column.ColDef.{ColDef}
 use Rattle.doc_model.specs.Column.{column_id}
 use Rattle.doc_model.specs.Document.{Document, Table, on_grid}
 use Rattle.doc_model.specs.Grid.{Grid, cell}
-use Rattle.doc_model.specs.MetadataIds.{is_metadata_id}
 use Rattle.doc_model.specs.Schema.{SchemaAgrees, plain_tables}
 use Rattle.doc_model.proofs.Choices.{each_both, each_weaker, map-map, map_each}
 use Rattle.doc_model.proofs.WholeLaws.{good_from}
 use Rattle.formula_records.specs.Recs.{Columns}
 use Rattle.recalc.specs.Cells.{cell_of}
-use Rattle.recalc.specs.Evaluated.{fill, filled, filled_by, sheet_of, value_of}
+use Rattle.recalc.specs.Evaluated.{fill, filled_by, sheet_of, value_of}
 use Rattle.rename_marks.specs.declared.column_rename.ColumnRename.{ColumnRename}
 use Rattle.rename_texts.specs.Renamed.{Rename}
 use Rattle.renamed_values.specs.HeldRecords.{IsPlain}
@@ -20,7 +19,7 @@ use Rattle.renamed_values.specs.SameEv.{IsKept, moved}
 use Rattle.renamed_values.specs.SameSheet.{SameValueLaw}
 use Rattle.renamed_documents.specs.Laws.{AreRenamed, RenamedFillingLaw, RenamedSheetLaw, RenamedValueLaw}
 use Rattle.renamed_documents.specs.RenamedTables.{ColumnFollows, Rewriting, column_after, grid_after, table_after}
-use Rattle.renamed_documents.proofs.MovedNames.{AllKept, cell_moved}
+use Rattle.renamed_documents.proofs.MovedNames.{cell_moved}
 
 pub renamed_value : SameValueLaw → RenamedSheetLaw → RenamedValueLaw
 unfolding value_of

@@ -1,33 +1,28 @@
 -- What formulas see of a document before and after a column has a new name.
 use Rattle.std.proofs.Common.{ℕ, ◌+◌, Bool, true, false, cond, ◌&&◌, List, [], ◌∷◌, ◌++◌, map, length, ◌≡◌, refl, subst, sym, ap, ◌∙◌, Option, Some, None}
-use Rattle.std.specs.Bool.{⊤}
-use Rattle.std.specs.List.{AllByRecursion}
 use Rattle.std.specs.Option.{option_map}
 use Rattle.std.proofs.lemmas.List.{length-append}
 use Rattle.cell_types.specs.declared.cell.CellId.{CellId}
-use Rattle.cell_types.specs.declared.column_type.ColType.{ColType}
 use Rattle.doc_model.specs.declared.column.ColDef.{ColDef}
 use Rattle.doc_model.specs.ByIds.{find_id}
 use Rattle.doc_model.specs.Column.{column_id}
 use Rattle.doc_model.specs.Document.{Document, Table, table_id}
-use Rattle.doc_model.specs.Grid.{Grid, cell}
+use Rattle.doc_model.specs.Grid.{Grid}
 use Rattle.doc_model.specs.Readers.{rows_at}
 use Rattle.doc_model.specs.Rows.{has}
 use Rattle.doc_model.specs.Schema.{SchemaAgrees, plain_tables, resources, resources_columns, rules, rules_columns, with_schema}
 use Rattle.doc_model.specs.MetadataIds.{resources_id, rules_id}
 use Rattle.doc_model.proofs.ByIdsLaws.{found_all}
 use Rattle.doc_model.proofs.Choices.{each_weaker, length_map}
-use Rattle.formula_eval.specs.Reader.{Told, known, no_column, no_row, no_table}
-use Rattle.formula_parse.specs.FormulaOf.{formula_of}
+use Rattle.formula_eval.specs.Reader.{known, no_row, no_table}
 use Rattle.formula_records.specs.Recs.{Columns}
 use Rattle.recalc.specs.Cells.{cell_of}
-use Rattle.recalc.specs.Evaluated.{base_at, base_in, cells_of_column, cells_of_columns, column_in, formula_at, formula_cells, formula_in, sheet_of}
+use Rattle.recalc.specs.Evaluated.{base_at, base_in, cells_of_column, cells_of_columns, column_in, formula_at, formula_cells, formula_in}
 use Rattle.rename_marks.specs.declared.column_rename.ColumnRename.{ColumnRename}
 use Rattle.rename_texts.specs.Renamed.{Rename}
 use Rattle.renamed_values.specs.HeldRecords.{IsPlain}
 use Rattle.renamed_values.specs.SameEv.{IsKept, moved}
-use Rattle.renamed_values.specs.SameSheet.{Follow, FollowIn, moved_cell}
-use Rattle.renamed_values.specs.TypedSheet.{IsTypedSheet}
+use Rattle.renamed_values.specs.SameSheet.{FollowIn, moved_cell}
 use Rattle.renamed_documents.specs.Laws.{AreRenamed, RenamedSheetLaw}
 use Rattle.renamed_documents.specs.RenamedTables.{ColumnFollows, Rewriting, column_after, grid_after, table_after}
 use Rattle.renamed_documents.proofs.MovedNames.{AllKept, cell_moved, find_moved}

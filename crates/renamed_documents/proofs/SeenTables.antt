@@ -16,7 +16,7 @@ use Rattle.formula_records.specs.Recs.{Columns}
 use Rattle.rename_marks.specs.declared.column_rename.ColumnRename.{ColumnRename}
 use Rattle.rename_texts.specs.Renamed.{Rename}
 use Rattle.renamed_values.specs.HeldRecords.{IsPlain}
-use Rattle.renamed_documents.specs.RenamedTables.{AllFollow, ColumnFollows, IsFollowed, IsRenamed, Rewriting, grid_after, table_after}
+use Rattle.renamed_documents.specs.RenamedTables.{ColumnFollows, IsFollowed, IsRenamed, Rewriting, grid_after, table_after}
 
 -- the columns, rows and cells of a table
 abbrev pub seen_in : List Table → List ℕ → Option (Grid ColDef)

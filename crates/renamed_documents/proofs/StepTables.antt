@@ -1,11 +1,9 @@
 -- The tables outside the metadata after a rename, and after actions that give columns other formulas.
-use Rattle.std.proofs.Common.{ℕ, Bool, true, false, cond, ◌&&◌, ◌||◌, List, [], ◌∷◌, map, ◌≡◌, refl, subst, sym, ap, ◌∙◌, Option, Some, None}
-use Rattle.std.specs.Bool.{⊤}
+use Rattle.std.proofs.Common.{ℕ, Bool, true, false, cond, ◌&&◌, List, [], ◌∷◌, map, ◌≡◌, refl, subst, sym, ap, ◌∙◌, Option, Some, None}
 use Rattle.std.specs.List.{AllByRecursion}
 use Rattle.std.specs.Str.{bytes_eq}
 use Rattle.std.proofs.lemmas.Bool.{and_parts, false≢true, or_right}
 use Rattle.std.proofs.lemmas.Slice.Eq.{bytes_eq-Decides}
-use Rattle.cell_types.specs.declared.column_type.ColType.{ColType}
 use Rattle.doc_model.specs.declared.action.DocAction.{DocAction}
 use Rattle.doc_model.specs.declared.action.DocAction.TheVariants as action
 use Rattle.doc_model.specs.declared.column.ColDef.{ColDef}
@@ -21,14 +19,14 @@ use Rattle.doc_model.specs.Schema.{plain_tables}
 use Rattle.doc_model.specs.Sound.{IsSoundGrid}
 use Rattle.doc_model.specs.Valid.{valid}
 use Rattle.doc_model.proofs.ByIdsLaws.{each_found}
-use Rattle.doc_model.proofs.Choices.{cond_true, each_unmapped, each_weaker, map-map, map_each}
+use Rattle.doc_model.proofs.Choices.{cond_true, each_unmapped, each_weaker, map_each}
 use Rattle.doc_model.proofs.InverseLaws.{IsWhole-apply}
 use Rattle.doc_model.proofs.WholeLaws.{good_from}
 use Rattle.recalc.specs.Evaluated.{column_in}
 use Rattle.rename_marks.specs.declared.column_rename.ColumnRename.{ColumnRename}
 use Rattle.renamed_values.specs.HeldRecords.{IsPlain}
 use Rattle.renamed_values.specs.SameEv.{moved}
-use Rattle.renamed_documents.specs.RenamedTables.{IsRenamed, Rewriting, column_after, grid_after, table_after}
+use Rattle.renamed_documents.specs.RenamedTables.{IsRenamed, Rewriting, column_after, table_after}
 use Rattle.renamed_documents.specs.RenamingSteps.{GiveTexts, GivesText, IsText, RenamingStepsLaw, naming, text_after, text_given}
 use Rattle.renamed_documents.proofs.SeenTables.{plain_found}
 

@@ -1,6 +1,5 @@
 -- What formulas see of a whole document holds no other records than its columns may.
-use Rattle.std.proofs.Common.{ℕ, Bool, true, false, cond, ◌&&◌, List, [], ◌∷◌, ◌≡◌, refl, subst, sym, ap, ◌∙◌, Option, Some, None}
-use Rattle.std.specs.Bool.{⊤}
+use Rattle.std.proofs.Common.{ℕ, Bool, true, false, cond, ◌&&◌, List, [], ◌∷◌, ◌≡◌, refl, subst, ap, ◌∙◌, Option, Some, None}
 use Rattle.std.specs.List.{AllByRecursion, list_all}
 use Rattle.std.specs.Option.{option_map}
 use Rattle.std.proofs.lemmas.Bool.{and_parts, false≢true}
@@ -20,10 +19,10 @@ use Rattle.doc_model.specs.Grid.{Grid, cell}
 use Rattle.doc_model.specs.Rows.{has}
 use Rattle.doc_model.specs.Sound.{IsSoundGrid}
 use Rattle.doc_model.proofs.ByIdsLaws.{found_all, found_id}
-use Rattle.formula_eval.specs.Reader.{Told, known, no_column, no_row, no_table}
+use Rattle.formula_eval.specs.Reader.{known, no_row, no_table}
 use Rattle.formula_records.specs.RecordTables.{none}
 use Rattle.formula_records.specs.Recs.{Column, Columns}
-use Rattle.recalc.specs.Evaluated.{base_at, base_in, column_in, formula_at, formula_in, sheet_of}
+use Rattle.recalc.specs.Evaluated.{base_at, base_in, column_in, formula_at, formula_in}
 use Rattle.renamed_values.specs.HeldRecords.{IsPlain, ItemOf, RecordsOf}
 use Rattle.renamed_values.specs.PlainNames.{IsPlainType}
 use Rattle.renamed_documents.specs.Typed.{AreColumns, TypedDocumentLaw, as_column}

@@ -4,7 +4,7 @@
 //! `acl_formula` (what a rule comes to), `formula_parse`, `formula_records`, `rename_texts` and
 //! `rename_marks` (which names a rename replaces), `renamed_values` and `renamed_documents`
 //! (documents with a column under a new name), `recalc`, `doc_readers`, `doc_model` and
-//! `cell_types`. No program calls it.
+//! `cell_types`. Used by `rename_law`.
 //!
 //! Promises: `renamed_decision_law`: where each use of a name in a rule can be resolved and is
 //! replaced as it has to be, resources and attributes name the column by its new name, and cells

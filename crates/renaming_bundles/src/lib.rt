@@ -3,7 +3,7 @@
 //! Stands on `user_actions` (the steps of user actions), `doc_model` and `doc_readers`
 //! (documents), `name_rules` (free names), `recalc` (columns of a document), `rename_marks`,
 //! `renamed_values`, `renamed_documents` (documents with a column under a new name) and
-//! `cell_types`. No program calls it.
+//! `cell_types`. Used by `planned_renames`.
 //!
 //! Promises: `expanded_texts_law`: a bundle of a rename, and then of updates of access rules and of
 //! changes that give formula columns another formula and nothing else, makes of the tables outside

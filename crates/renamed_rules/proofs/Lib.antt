@@ -4,3 +4,4 @@ pub mod MovedUsers
 pub mod MovedChains
 pub mod SameDecisions
 pub mod MovedFillings
+pub mod RowLemmas

@@ -2,3 +2,4 @@ pub mod RenamedCells
 pub mod RenamedRules
 pub mod RuleValues
 pub mod Decisions
+pub mod FollowingRows

@@ -1,6 +1,7 @@
 //! What rules with a column under a new name rest on.
 
 ghost use Rattle.renamed_rules.specs.Decisions.{RenamedDecisionLaw};
+ghost use Rattle.renamed_rules.specs.FollowingRows.{FollowingRowsLaw};
 ghost use Rattle.renamed_rules.specs.RenamedCells.{MovedFillingLaw};
 ghost use Rattle.renamed_rules.specs.RuleValues.{RuleValueLaw};
 
@@ -17,6 +18,11 @@ pub fn moved_filling_law()
 {
     renamed_filling_law();
 }
+
+/// The rules and attributes of a document follow where each row of its rules does.
+pub fn following_rows_law()
+    ensures { FollowingRowsLaw }
+{}
 
 /// Each decision of rules that follow is the one before, the column taken by its new name.
 pub fn renamed_decision_law()

@@ -12,10 +12,11 @@
 //! by its new name, rows and user as they were. `rule_value_law`: a rule comes to the same where
 //! each part that asks gets the same. `moved_filling_law`: cells stand so in the documents of
 //! `renamed_documents`, with all values in place.
-//! Not promised: that the rules of a document follow; anything of checks that name no table.
+//! `following_rows_law`: the rules of a document follow where each row of its table of rules does.
+//! Not promised: that the rows of a document follow; anything of checks that name no table.
 //! Read first: specs/Decisions.antt, then specs/RenamedRules.antt.
 #![tactic(auto)]
 
 mod laws;
 
-pub use laws::{moved_filling_law, renamed_decision_law, rule_value_law};
+pub use laws::{following_rows_law, moved_filling_law, renamed_decision_law, rule_value_law};

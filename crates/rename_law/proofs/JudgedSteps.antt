@@ -1,15 +1,14 @@
 -- The steps of bundles that are accepted.
-use Rattle.std.proofs.Common.{ℕ, ◌+◌, Bool, true, false, cond, List, [], ◌∷◌, ◌++◌, map, ◌≡◌, refl, subst, sym, ap, ◌∙◌, Option, Some, None}
+use Rattle.std.proofs.Common.{ℕ, ◌+◌, List, [], ◌∷◌, ◌++◌, map, ◌≡◌, refl, subst, sym, ap, ◌∙◌, Option, Some, None}
 use Rattle.std.proofs.lemmas.List.{map-append}
 use Rattle.acl_rules.specs.declared.decision.Ctx.{Ctx}
 use Rattle.action_limits.specs.Tallies.{after}
 use Rattle.bundle_judge.specs.declared.bare_verdict.BareVerdict.{BareVerdict}
 use Rattle.bundle_judge.specs.declared.created.Created.{Created}
 use Rattle.bundle_judge.specs.Judgement.{Judgement, accepted, created_at, judge_from, refusal_at, refused, with_before}
-use Rattle.doc_model.specs.declared.action.DocAction.{DocAction}
 use Rattle.doc_model.specs.declared.action.Step.{Step}
 use Rattle.doc_model.specs.declared.user_action.UserAction.{UserAction}
-use Rattle.doc_model.specs.Apply.{apply, apply_all}
+use Rattle.doc_model.specs.Apply.{apply_all}
 use Rattle.doc_model.specs.Document.{Document}
 use Rattle.renaming_bundles.specs.Expanded.{actions_of, expanded}
 use Rattle.renaming_bundles.proofs.BundleTables.{done_behind}

@@ -1,7 +1,7 @@
 -- Renames keep values and decisions.
-use Rattle.std.proofs.Common.{ℕ, Bool, true, false, cond, List, [], ◌∷◌, map, length, ◌≡◌, refl, subst, sym, ap, ◌∙◌, Option, Some, None}
+use Rattle.std.proofs.Common.{Bool, true, false, cond, List, map, length, ◌≡◌, subst, sym, Some}
 use Rattle.std.specs.Prelude.{nat_lt}
-use Rattle.bundle_judge.specs.Judgement.{Judgement, accepted, judge, judge_from, refused}
+use Rattle.bundle_judge.specs.Judgement.{accepted, judge, judge_from, refused}
 use Rattle.bundle_judge.specs.declared.bare_verdict.BareVerdict.TheVariants.{Limited}
 use Rattle.bundle_judge.specs.declared.created.Created.{Created}
 use Rattle.doc_model.specs.declared.action.DocAction.{DocAction}
@@ -17,7 +17,6 @@ use Rattle.formula_records.specs.ShownColumns.{columns_of}
 use Rattle.planned_renames.specs.PlannedValues.{PlannedValuesLaw, renames, rewriting}
 use Rattle.recalc.specs.Evaluated.{filled}
 use Rattle.rename_flow.specs.Plan.{plan_of}
-use Rattle.rename_marks.specs.declared.column_rename.ColumnRename.{ColumnRename}
 use Rattle.renamed_documents.specs.Laws.{AreRenamed}
 use Rattle.renamed_rules.specs.Decisions.{RenamedDecisionLaw}
 use Rattle.renamed_rules.specs.RenamedCells.{MovedFillingLaw}
@@ -26,8 +25,7 @@ use Rattle.renaming_bundles.specs.Expanded.{expanded}
 use Rattle.rule_contexts.specs.Context.{context, view}
 use Rattle.user_actions.specs.StepLaws.{action_of}
 use Rattle.user_attrs.specs.Attributes.{attributes_of}
-use Rattle.rename_law.specs.Judged.{IsAccepted}
-use Rattle.rename_law.specs.KeepsAll.{IsRename, RenameLaw}
+use Rattle.rename_law.specs.KeepsAll.{RenameLaw}
 use Rattle.rename_law.proofs.JudgedSteps.{judged_steps}
 
 -- the steps of an accepted bundle

@@ -101,8 +101,7 @@ fn note_own_field(
     ensures { OnOk result
         (found.new ≡ union found.old (field (columns_of view.now) (only own.now) name.now)) }
 {
-    let mut tables = RecordTables::none(alloc);
-    tables.add(own)?;
+    let tables = RecordTables::only(alloc, own)?;
     note_field(found, view, &tables, name)
 }
 

@@ -1,6 +1,6 @@
 //! Tables whose records a value may hold.
 
-ghost use Rattle.std.specs.Prelude.{◌≡◌, OnOk};
+ghost use Rattle.std.specs.Prelude.{◌≡◌, IfOk, OnOk};
 ghost use Rattle.formula_records.specs.declared.tables.RecordTables.TheVariants.{Any};
 ghost use Rattle.formula_records.specs.RecordTables.{none, only, union};
 
@@ -22,6 +22,17 @@ impl RecordTables {
         ensures { result ≡ none }
     {
         RecordTables::These(NameList::new(alloc))
+    }
+
+    /// One table.
+    ///
+    /// Errors: out of memory.
+    pub fn only(alloc: Global, table: &Name) -> Result<Self, AllocError>
+        ensures { IfOk result (λ q. q ≡ only table.now) }
+    {
+        let mut tables = RecordTables::none(alloc);
+        tables.add(table)?;
+        Ok(tables)
     }
 
     /// Adds a table.

@@ -23,7 +23,8 @@ is_shown v t c = is_some (shown_column v t c)
 -- the words behind a table's name in a formula
 abbrev pub is_table_word : List ℕ → Bool
 is_table_word n =
-    bytes_eq n all_word || (bytes_eq n (lookup_word look.Records) || bytes_eq n (lookup_word look.One))
+    bytes_eq n all_word
+    || (bytes_eq n (lookup_word look.Records) || bytes_eq n (lookup_word look.One))
 
 -- the new name must be free, and neither name one of those words
 abbrev pub name_parts : List ViewTable → ColumnRename → List Part

@@ -76,7 +76,8 @@ rows_part column g = record { actions = updated column g; unresolved = g.unresol
 
 -- ---- parts
 
-abbrev pub formulas_part : ColumnRename → List RuleAbout → List AttributeTable → List ShownRow → Part
+abbrev pub formulas_part : ColumnRename → List RuleAbout → List AttributeTable → List ShownRow
+    → Part
 formulas_part r bs as' ws =
     rows_part (codes "aclFormula") (with_changes (formula_changed r bs as') no_changes ws)
 

@@ -77,7 +77,6 @@ pub(crate) fn attribute_change(
     let Some(rule) = rule else {
         return Ok(kept(0));
     };
-    let mut tables = RecordTables::none(alloc);
-    tables.add(&rule.table)?;
+    let tables = RecordTables::only(alloc, &rule.table)?;
     rule_change(alloc, rename, rule, &tables)
 }

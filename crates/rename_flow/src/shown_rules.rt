@@ -6,7 +6,6 @@ ghost use Rattle.cell_types.specs.Reference.{row_number};
 ghost use Rattle.acl_rules.specs.Chain.{names_column};
 ghost use Rattle.acl_rules.specs.Loaded.{resource_from};
 ghost use Rattle.user_attrs.specs.AttributeText.{attribute_of};
-ghost use Rattle.formula_records.specs.RecordTables.{only};
 ghost use Rattle.rename_flow.specs.ShownRows.{rows_in};
 ghost use Rattle.rename_flow.specs.ShownRules.{about_at, about_before, about_of, abouts_in, attribute_before, attribute_shown, attributes_in, claims_new, resource_shown, tables_in};
 
@@ -55,20 +54,12 @@ pub(crate) fn resource_shown(
     resource_from(alloc, table, text_shown(columns, cells, "colIds"))
 }
 
-fn only(alloc: Global, table: &Name) -> Result<RecordTables, AllocError>
-    ensures { IfOk result (λ q. q ≡ only table.now) }
-{
-    let mut tables = RecordTables::none(alloc);
-    tables.add(table)?;
-    Ok(tables)
-}
-
 fn tables_in(alloc: Global, resource: &Resource) -> Result<RecordTables, AllocError>
     ensures { IfOk result (λ q. q ≡ tables_in resource.now) }
 {
     match resource {
         Resource::Document => Ok(RecordTables::Any),
-        Resource::Table(table, _) => only(alloc, table),
+        Resource::Table(table, _) => RecordTables::only(alloc, table),
     }
 }
 

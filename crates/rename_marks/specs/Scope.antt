@@ -28,7 +28,8 @@ in_column k own =
 
 -- the tables where attributes of that name find their rows
 abbrev pub tables_of : List AttributeTable → List ℕ → RecordTables
-tables_of as' p = These (map (λ (a : AttributeTable). a.table) (filter (λ a. bytes_eq a.name p) as'))
+tables_of as' p =
+    These (map (λ (a : AttributeTable). a.table) (filter (λ a. bytes_eq a.name p) as'))
 
 -- in a rule about these tables
 abbrev pub in_rule : RecordTables → List AttributeTable → Scope

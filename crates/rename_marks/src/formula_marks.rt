@@ -3,10 +3,9 @@
 ghost use Rattle.std.specs.Prelude.{◌≡◌, IfOk, OnOk, length};
 ghost use Rattle.formula_parse.specs.Grammar.{op_lexemes};
 ghost use Rattle.formula_parse.specs.Seen.{keys_of};
-ghost use Rattle.formula_parse.specs.Tree.{atom, from_list, keys_from};
-ghost use Rattle.formula_records.specs.RecordTables.{only};
+ghost use Rattle.formula_parse.specs.Tree.{atom, conditional, from_list, keys_from};
 ghost use Rattle.rename_texts.specs.Marked.{marks};
-ghost use Rattle.rename_marks.specs.Noted.{capped, used, walked, walked_items, walked_keys, walked_more, walked_more_keys, with_key};
+ghost use Rattle.rename_marks.specs.Noted.{capped, stayed, used, walked, walked_items, walked_keys, walked_more, walked_more_keys, with_key};
 ghost use Rattle.rename_marks.specs.Scope.{rename_in, scope_at, tables_of};
 ghost use Rattle.rename_marks.specs.ScopeUses.{uses};
 ghost use Rattle.rename_marks.specs.Uses.{unresolved_among, use_of};
@@ -27,14 +26,6 @@ fn op_len(op: BinaryOp) -> usize
         BinaryOp::NotIn | BinaryOp::IsNot => 2,
         _ => 1,
     }
-}
-
-fn only(alloc: Global, table: &Name) -> Result<RecordTables, AllocError>
-    ensures { IfOk result (λ q. q ≡ only table.now) }
-{
-    let mut tables = RecordTables::none(alloc);
-    tables.add(table)?;
-    Ok(tables)
 }
 
 // The tables where attributes of that name find their rows.
@@ -66,7 +57,7 @@ fn note_own(
         (found.new ≡ used rename.now found.old (use_of (scope_at place.now).own name.now)) }
 {
     match place {
-        FormulaPlace::Column(_, own) => found.note(rename, &only(alloc, own)?, name),
+        FormulaPlace::Column(_, own) => found.note(rename, &RecordTables::only(alloc, own)?, name),
         FormulaPlace::Rule(_, _) => found.note(rename, &RecordTables::none(alloc), name),
     }
 }
@@ -183,26 +174,16 @@ fn note_formula(
             note_formula(alloc, found, rename, place, inner)
         }
         Node::Conditional(value, condition, other) => {
-            note_formula(alloc, found, rename, place, value)?;
-            found.skip(1)?;
-            note_formula(alloc, found, rename, place, condition)?;
-            found.skip(1)?;
-            note_formula(alloc, found, rename, place, other)
+            note_conditional(alloc, found, rename, place, value, condition, other)
         }
         Node::Parentheses(inner) => {
             found.skip(1)?;
             note_formula(alloc, found, rename, place, inner)?;
             found.skip(1)
         }
-        Node::List(items) => {
-            found.skip(1)?;
-            note_items(alloc, found, rename, place, items.as_slice())?;
-            found.skip(1)
-        }
+        Node::List(items) => note_listed(alloc, found, rename, place, 1, items.as_slice()),
         Node::Call(_, arguments) => {
-            found.skip(2)?;
-            note_items(alloc, found, rename, place, arguments.as_slice())?;
-            found.skip(1)
+            note_listed(alloc, found, rename, place, 2, arguments.as_slice())
         }
         Node::Attribute(inner, name) => {
             note_formula(alloc, found, rename, place, inner)?;
@@ -218,6 +199,46 @@ fn note_formula(
         Node::Rule(asked) => note_atom(alloc, found, rename, place, asked),
         Node::Number(_) | Node::Text(_) | Node::Constant(_) => found.skip(1),
     }
+}
+
+// Notes what is in a conditional formula.
+#[tactic(auto, using(crate::proofs::WalkLemmas::walked_conditional))]
+#[cycle(marks)]
+fn note_conditional(
+    alloc: Global,
+    found: &mut Marking,
+    rename: &ColumnRename,
+    place: &FormulaPlace<'_>,
+    value: &Formula,
+    condition: &Formula,
+    other: &Formula,
+) -> Result<(), AllocError>
+    ensures { OnOk result (found.new ≡ walked rename.now (scope_at place.now) found.old
+        (conditional value.now condition.now other.now)) }
+{
+    note_formula(alloc, found, rename, place, value)?;
+    found.skip(1)?;
+    note_formula(alloc, found, rename, place, condition)?;
+    found.skip(1)?;
+    note_formula(alloc, found, rename, place, other)
+}
+
+// Notes so many lexemes, what is in formulas, and what closes them.
+#[cycle(marks)]
+fn note_listed(
+    alloc: Global,
+    found: &mut Marking,
+    rename: &ColumnRename,
+    place: &FormulaPlace<'_>,
+    before: usize,
+    items: &[Formula],
+) -> Result<(), AllocError>
+    ensures { OnOk result (found.new ≡ stayed (walked_items rename.now (scope_at place.now)
+        (stayed found.old before) (from_list items.now)) 1) }
+{
+    found.skip(before)?;
+    note_items(alloc, found, rename, place, items)?;
+    found.skip(1)
 }
 
 // Notes what is in formulas with commas between them.
@@ -274,7 +295,7 @@ fn note_key(
     ensures { OnOk result (found.new ≡ with_key rename.now (scope_at place.now) table.now found.old
         key.now.name key.now.value) }
 {
-    found.note(rename, &only(alloc, table)?, &key.name)?;
+    found.note(rename, &RecordTables::only(alloc, table)?, &key.name)?;
     found.skip(1)?;
     note_formula(alloc, found, rename, place, &key.value)
 }

@@ -9,6 +9,12 @@ use Rattle.rename_marks.proofs.formula_marks.+marks.Given as goal
 abbrev pub decreases-note_formula : goal.decreases-note_formula
 decreases-note_formula l = 3 * tree_size l.formula.now
 
+abbrev pub decreases-note_conditional : goal.decreases-note_conditional
+decreases-note_conditional l = 3 * (tree_size l.value.now + tree_size l.condition.now + tree_size l.other.now) + 1
+
+abbrev pub decreases-note_listed : goal.decreases-note_listed
+decreases-note_listed l = 3 * trees_size (from_list l.items.now) + 2
+
 abbrev pub decreases-note_items : goal.decreases-note_items
 decreases-note_items l = 3 * trees_size (from_list l.items.now) + 1
 

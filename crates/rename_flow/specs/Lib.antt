@@ -6,3 +6,4 @@ pub mod Parts
 pub mod ColumnParts
 pub mod RuleParts
 pub mod Plan
+pub mod RuleTextLaw

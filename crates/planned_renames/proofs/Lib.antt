@@ -1,0 +1,4 @@
+pub mod PlanParts
+pub mod ColumnPlans
+pub mod UnmarkedTrees
+pub mod PlannedTexts

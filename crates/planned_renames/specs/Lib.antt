@@ -1,0 +1,2 @@
+pub mod WholeView
+pub mod PlannedValues

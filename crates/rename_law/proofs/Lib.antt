@@ -1,0 +1,2 @@
+pub mod JudgedSteps
+pub mod KeptValues

@@ -1,0 +1,4 @@
+pub mod RenamedTables
+pub mod Typed
+pub mod Laws
+pub mod RenamingSteps

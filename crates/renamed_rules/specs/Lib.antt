@@ -1,0 +1,5 @@
+pub mod RenamedCells
+pub mod RenamedRules
+pub mod RuleValues
+pub mod Decisions
+pub mod FollowingRows

@@ -1,0 +1,4 @@
+pub mod Crossed
+pub mod Kept
+pub mod Changes
+pub mod Reshaped

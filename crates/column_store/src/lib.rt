@@ -1,0 +1,20 @@
+//! A document in memory by columns: each table its columns, its rows, and a list of cells for each
+//! column.
+#![tactic(auto)]
+
+mod added;
+mod change;
+mod columns;
+mod given;
+mod in_place;
+mod look;
+mod places;
+mod removed;
+mod reshaped;
+mod rooms;
+mod table;
+mod written;
+
+pub use columns::CellColumns;
+pub use places::Places;
+pub use table::ColumnTable;

@@ -5,3 +5,5 @@ pub mod ColumnLaws
 pub mod NameLaws
 pub mod PlaceLaws
 pub mod NewLaws
+pub mod ReshapeLaws
+pub mod RowLaws

@@ -31,7 +31,7 @@ index_of_id c (d ∷ cs) =
       | false ↦ let later : position_or_len (bytes_eq c) (map column_id cs) ≡ id_index c cs = index_of_id c cs in omega arith
     ]
 
-turned : (a b : List ℕ) → bytes_eq a b ≡ bytes_eq b a
+pub turned : (a b : List ℕ) → bytes_eq a b ≡ bytes_eq b a
 turned a b = elim (bytes_eq a b) as (λ t. bytes_eq a b ≡ t → t ≡ bytes_eq b a) [
   | true ↦ λ e. sym ((bytes_eq-Decides b a).1 (sym ((bytes_eq-Decides a b).0 e)))
   | false ↦ λ e. elim (bytes_eq b a) as (λ u. bytes_eq b a ≡ u → false ≡ u) [

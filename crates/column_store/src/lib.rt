@@ -5,6 +5,7 @@
 mod added;
 mod change;
 mod columns;
+mod copies;
 mod given;
 mod in_place;
 mod look;

@@ -10,6 +10,7 @@ ghost use Rattle.row_tables.specs.Steps.{is_record, table_change};
 ghost use Rattle.column_store.specs.Reshaped.{ReshapeAsks, back_fits, column_out, column_put, table_back};
 
 use crate::added::start_of;
+use crate::copies::{copy_of_column, copy_of_name};
 use crate::in_place::{insert_reserved, move_to, remove_at, swap_at};
 use crate::table::ColumnTable;
 use cell_types::{CellValue, Name};
@@ -56,7 +57,7 @@ fn with_name(column: &ColDef, new: &Name) -> Result<ColDef, AllocError>
     ensures { IfOk result (λ d. d ≡ with_name new.now column.now) }
 {
     let info = column.info.clone()?;
-    let id = new.clone()?;
+    let id = copy_of_name(new)?;
     let row = column.row;
     Ok(ColDef { id, info, row })
 }
@@ -66,7 +67,7 @@ fn with_info(column: &ColDef, info: &ColInfo) -> Result<ColDef, AllocError>
     ensures { IfOk result (λ d. d ≡ with_info info.now column.now) }
 {
     let info = info.clone()?;
-    let id = column.id.clone()?;
+    let id = copy_of_name(&column.id)?;
     let row = column.row;
     Ok(ColDef { id, info, row })
 }
@@ -104,7 +105,7 @@ impl ColumnTable {
         ensures err { OnErr result (self.new ≡ self.old) }
     {
         let index = index_of_column(&self.columns, new.row);
-        let column = new.clone()?;
+        let column = copy_of_column(new)?;
         let cells = starts(self.alloc(), new, &self.rows)?;
         self.columns.reserve(1)?;
         self.cells.insert_column(index, cells)?;
@@ -179,13 +180,13 @@ impl ColumnTable {
         ensures err { OnErr result (self.new ≡ self.old) }
     {
         match action {
-            DocAction::RenameTable { new, .. } => Ok(self.put_id(new.clone()?)),
+            DocAction::RenameTable { new, .. } => Ok(self.put_id(copy_of_name(new)?)),
             DocAction::AddColumn { column, .. } => self.add_column(column),
             DocAction::RemoveColumn { column, .. } => self.drop_column(column),
             DocAction::RenameColumn { column, new, .. } => self.name_column(column, new),
             DocAction::ModifyColumn { column, info, .. } => self.modify_column(column, info),
             DocAction::AddTable { .. } | DocAction::RemoveTable { .. } => {
-                let id = self.id.clone()?;
+                let id = copy_of_name(&self.id)?;
                 Ok(self.put_id(id))
             }
             DocAction::BulkAdd { .. }

@@ -7,3 +7,6 @@ pub mod PlaceLaws
 pub mod NewLaws
 pub mod ReshapeLaws
 pub mod RowLaws
+pub mod DocLaws
+pub mod AboveLaws
+pub mod ComeLaws

@@ -10,12 +10,18 @@ mod given;
 mod in_place;
 mod look;
 mod places;
+mod plain_change;
+mod put;
 mod removed;
 mod reshaped;
 mod rooms;
+mod schema;
+mod steps;
 mod table;
+mod tables;
 mod written;
 
 pub use columns::CellColumns;
 pub use places::Places;
 pub use table::ColumnTable;
+pub use tables::{ColumnBack, ColumnTables};

@@ -10,3 +10,4 @@ pub mod RowLaws
 pub mod DocLaws
 pub mod AboveLaws
 pub mod ComeLaws
+pub mod FreshLaws

@@ -4,3 +4,4 @@ pub mod Changes
 pub mod Reshaped
 pub mod Back
 pub mod Schema
+pub mod New

@@ -8,7 +8,8 @@ ghost use Rattle.column_store.specs.Crossed.{AreRooms, HaveHeight, HaveRoom, all
 
 use crate::in_place::{insert_reserved, move_to, remove_at, swap_at};
 use crate::rooms::rooms_for;
-use cell_types::CellValue;
+use cell_types::{CellValue, copy_of};
+use list_ops::all_copied;
 use std::alloc::{AllocError, Global};
 use std::marker::Model;
 
@@ -131,7 +132,43 @@ fn reserve_each(columns: &mut Vec<Vec<CellValue>>, more: usize) -> Result<(), Al
     Ok(())
 }
 
+// A copy of the cells of a column.
+fn copy_of_cells(alloc: Global, cells: &[CellValue]) -> Result<Vec<CellValue>, AllocError>
+    ensures { IfOk result (λ v. v.items ≡ cells.now) }
+{
+    Ok(all_copied(alloc, cells, |value| copy_of(value))?)
+}
+
+// Copies of columns.
+fn copies_of(
+    alloc: Global,
+    columns: &[Vec<CellValue>],
+) -> Result<Vec<Vec<CellValue>>, AllocError>
+    ensures { IfOk result (λ v. all_items v.items ≡ all_items columns.now) }
+{
+    let mut copies = Vec::with_capacity(alloc, columns.len())?;
+    for column in columns {
+        copies.push(copy_of_cells(alloc, column)?)?;
+    }
+    Ok(copies)
+}
+
 impl CellColumns {
+    /// A copy of the cells.
+    ///
+    /// Errors: out of memory.
+    pub fn copy(&self, alloc: Global) -> Result<CellColumns, AllocError>
+        ensures rows { IfOk result (λ cells. cells.rows ≡ self.now.rows) }
+        ensures width { IfOk result (λ cells. cells.width ≡ self.now.width) }
+    {
+        let columns = copies_of(alloc, &self.columns)?;
+        Ok(CellColumns {
+            height: self.height,
+            room: 0,
+            columns,
+        })
+    }
+
     /// So many columns without rows.
     pub fn empty(alloc: Global, width: usize) -> Result<CellColumns, AllocError>
         ensures { IfOk result (λ cells. cells

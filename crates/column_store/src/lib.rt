@@ -6,6 +6,7 @@ mod added;
 mod change;
 mod columns;
 mod copies;
+mod fresh;
 mod given;
 mod in_place;
 mod look;

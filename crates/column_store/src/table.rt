@@ -10,6 +10,7 @@ ghost use Rattle.row_tables.specs.Kept.{kept};
 ghost use Rattle.column_store.specs.Kept.{kept_at};
 
 use crate::columns::CellColumns;
+use crate::copies::copy_of_name;
 use crate::look::{index_of_id, row_place};
 use crate::places::{Places, column_places};
 use cell_types::{CellValue, Name};
@@ -119,6 +120,29 @@ impl ColumnTable {
         if self.places.is_none() {
             self.places = column_places(self.alloc(), &self.columns);
         }
+    }
+
+    /// A copy of the table.
+    ///
+    /// Errors: out of memory. Cost: linear in the cells.
+    pub fn copy(&self) -> Result<ColumnTable, AllocError>
+        ensures { IfOk result (λ t. t ≡ self.now) }
+    {
+        let alloc = self.alloc();
+        let columns = Vec::from_clones(alloc, &self.columns)?;
+        let places = column_places(alloc, &columns);
+        let rows = Vec::from_slice(alloc, &self.rows)?;
+        let cells = self.cells.copy(alloc)?;
+        let id = copy_of_name(&self.id)?;
+        let row = self.row;
+        Ok(ColumnTable {
+            id,
+            row,
+            columns,
+            places,
+            rows,
+            cells,
+        })
     }
 
     pub(crate) fn alloc(&self) -> Global {

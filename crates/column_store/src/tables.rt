@@ -4,12 +4,15 @@ ghost use Rattle.std.specs.Prelude.{◌≡◌, IfOk, None, map};
 ghost use Rattle.std.specs.Option.{option_copied};
 ghost use Rattle.doc_model.specs.ByIds.{find_id};
 ghost use Rattle.doc_model.specs.Document.{table_id};
+ghost use Rattle.doc_model.specs.NewDocument.{new_document};
 
 use crate::table::ColumnTable;
+use crate::fresh::new_tables;
 use crate::look::is_same_id;
 use crate::put::{Replaced, action_put, put_back};
 use cell_types::{CellValue, Name};
 use doc_model::{ColDef, DocAction, DocReader, DocTables};
+use list_ops::all_copied;
 use std::alloc::{AllocError, Global};
 use std::marker::Model;
 
@@ -49,6 +52,27 @@ fn no_cells<'a>(alloc: Global, rows: &[u32]) -> Result<Vec<Option<&'a CellValue>
         cells.push(None)?;
     }
     Ok(cells)
+}
+
+impl ColumnTables {
+    /// The new document: `Table1` with columns `A`, `B` and `C`, and no rows but those that
+    /// describe it.
+    pub fn new_document(alloc: Global) -> Result<ColumnTables, AllocError>
+        ensures { IfOk result (λ s. s ≡ new_document) }
+    {
+        let tables = new_tables(alloc)?;
+        Ok(ColumnTables { tables })
+    }
+
+    /// A copy of the document.
+    ///
+    /// Cost: linear in the cells.
+    pub fn copy(&self, alloc: Global) -> Result<ColumnTables, AllocError>
+        ensures { IfOk result (λ s. s ≡ self.now) }
+    {
+        let tables = all_copied(alloc, &self.tables, |table| table.copy())?;
+        Ok(ColumnTables { tables })
+    }
 }
 
 /// What takes an action back: what it replaced.

@@ -80,7 +80,7 @@ module _ (s : Document) (a : DocAction) (whole : IsWhole s) (e : is_record a ≡
   pub schema_after : apply s a ≡ with_schema (resources s) (rules s) (plain_after a (plain_tables s))
   schema_after = applied s a v ∙ schema_effect s a e
 
-  after_whole : IsWhole (with_schema (resources s) (rules s) (plain_after a (plain_tables s)))
+  pub after_whole : IsWhole (with_schema (resources s) (rules s) (plain_after a (plain_tables s)))
   after_whole = subst IsWhole schema_after (IsWhole-apply s a whole v)
 
   pub describable : IsDescribable (plain_after a s)

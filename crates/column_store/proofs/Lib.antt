@@ -11,3 +11,4 @@ pub mod DocLaws
 pub mod AboveLaws
 pub mod ComeLaws
 pub mod FreshLaws
+pub mod ToldLaws

@@ -5,6 +5,7 @@ use Rattle.doc_model.specs.Document.{Table, Document}
 use Rattle.doc_model.specs.DocumentLaws.{IsWhole}
 use Rattle.column_store.specs.Changes.{change_back, change_fits}
 use Rattle.column_store.specs.Reshaped.{back_fits, table_back}
+use Rattle.column_store.specs.Schema.{schema_back, schema_back_fits}
 use Rattle.column_store.specs.declared.plain_change.PlainChange.{PlainChange}
 use Rattle.column_store.specs.declared.plain_change.PlainChange.TheVariants as plain
 use Rattle.column_store.specs.declared.put.Replaced.{Replaced}
@@ -35,14 +36,17 @@ plain_fits (plain.Changed index back) s = IfThere (back_fits back) (slice_get s 
 plain_fits (plain.Came index) s = ⊤
 plain_fits (plain.Went index old room) s = length s + 1 ≤ vec_capacity room
 
--- the changed table at its place as it was, or the schema tables and the plain ones
+-- the changed table at its place as it was, or the schema tables, whole or told, and the plain ones
 abbrev pub put_back : Replaced → Document → Document
 put_back (replaced.Changed index c) s = there (change_back c) index (slice_get s index) s
 put_back (replaced.Schema schema c) s = plain_back c (with_tables schema s)
+put_back (replaced.Told schema c) s = plain_back c (schema_back schema s)
 
 abbrev pub has_index : Replaced → Document → Type 0
 has_index (replaced.Changed index c) s = IfThere (change_fits c) (slice_get s index)
 has_index (replaced.Schema schema c) s = plain_fits c (with_tables schema s)
+has_index (replaced.Told schema c) s =
+    schema_back_fits schema s × plain_fits c (schema_back schema s)
 
 -- what is put back makes a whole document, and takes no memory
 abbrev pub fits_back : Replaced → Document → Type 0

@@ -6,11 +6,14 @@ ghost use Rattle.doc_model.specs.DocumentLaws.{IsWhole};
 ghost use Rattle.doc_model.specs.Valid.{valid};
 ghost use Rattle.column_store.specs.Back.{has_index, put_back};
 ghost use Rattle.row_tables.specs.Steps.{is_record};
+ghost use Rattle.column_store.specs.Schema.{adds_table};
 
 use crate::table::ColumnTable;
 use crate::change::Change;
 use crate::plain_change::{PlainChange, change_plain, take_plain_back};
-use crate::schema::{SchemaTables, schema_tables, swap_schema};
+use crate::schema::{
+    SchemaChange, SchemaTables, schema_tables, swap_schema, tell_schema, told_of, untell_schema,
+};
 use crate::steps::{index_of_table, is_record, table_named};
 use doc_model::DocAction;
 use std::alloc::AllocError;
@@ -27,6 +30,10 @@ pub(crate) enum Replaced {
         schema: SchemaTables,
         change: PlainChange,
     },
+    Told {
+        schema: SchemaChange,
+        change: PlainChange,
+    },
 }
 
 /// Takes an action back.
@@ -39,6 +46,10 @@ pub(crate) fn put_back(tables: &mut Vec<ColumnTable>, replaced: Replaced)
     match replaced {
         Replaced::Schema { schema, change } => {
             let _after = swap_schema(tables, schema);
+            take_plain_back(tables, change);
+        }
+        Replaced::Told { schema, change } => {
+            untell_schema(tables, schema);
             take_plain_back(tables, change);
         }
         Replaced::Changed { index, change } => {
@@ -71,6 +82,35 @@ fn schema_put(tables: &mut Vec<ColumnTable>, action: &DocAction) -> Result<Repla
             Err(error)
         }
     }
+}
+
+// Adds a table, and tells the schema tables of it in their places; where memory is wanting, the
+// table goes again.
+fn table_put(tables: &mut Vec<ColumnTable>, action: &DocAction) -> Result<Replaced, AllocError>
+    requires whole { IsWhole tables.old.items }
+    requires valid { valid tables.old.items action.now ≡ true }
+    requires adds { adds_table action.now ≡ true }
+    ensures done { OnOk result (tables.new.items ≡ apply tables.old.items action.now) }
+    ensures back { IfOk result (λ replaced. put_back replaced tables.new.items ≡ tables.old.items) }
+    ensures fit { IfOk result (λ replaced. has_index replaced tables.new.items) }
+    ensures err { OnErr result (tables.new.items ≡ tables.old.items) }
+{
+    let told = told_of(*tables.allocator(), action)?;
+    let change = change_plain(tables, action)?;
+    match tell_schema(tables, told) {
+        Ok(schema) => Ok(Replaced::Told { schema, change }),
+        Err(error) => {
+            take_plain_back(tables, change);
+            Err(error)
+        }
+    }
+}
+
+// Whether the action adds a table.
+fn adds_table(action: &DocAction) -> bool
+    ensures { result ≡ adds_table action.now }
+{
+    matches!(action, DocAction::AddTable { .. })
 }
 
 // Applies a record action, in place of the table that it names.
@@ -106,6 +146,8 @@ pub(crate) fn action_put(
 {
     if is_record(action) {
         record_put(tables, action)
+    } else if adds_table(action) {
+        table_put(tables, action)
     } else {
         schema_put(tables, action)
     }

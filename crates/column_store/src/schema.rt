@@ -1,6 +1,6 @@
 //! The schema tables, made of the tables that they describe.
 
-ghost use Rattle.std.specs.Prelude.{◌≡◌, ◌∷◌, ◌++◌, [], true, IfOk, OnOk, map};
+ghost use Rattle.std.specs.Prelude.{◌≡◌, ◌∷◌, ◌++◌, [], true, IfOk, OnErr, OnOk, map};
 ghost use Rattle.cell_types.specs.declared.value.CellValue.TheVariants.{Bool, Text};
 ghost use Rattle.doc_model.specs.Document.{table_row};
 ghost use Rattle.doc_model.specs.NewDocument.{no_rows};
@@ -9,16 +9,16 @@ ghost use Rattle.doc_model.specs.Schema.{all_columns, columns_columns, columns_g
 ghost use Rattle.row_tables.specs.Spots.{columns_of};
 ghost use Rattle.column_store.specs.Back.{with_tables};
 ghost use Rattle.column_store.specs.Changes.{told_fits, told_grid};
-ghost use Rattle.column_store.specs.Schema.{IsCome, IsDescribable, described_columns, described_tables};
+ghost use Rattle.column_store.specs.Schema.{IsCome, IsDescribable, TellsOf, adds_table, described_columns, described_tables, schema_back, schema_back_fits, schema_fits, schema_told};
 
-use crate::change::Told;
+use crate::change::{Change, Told};
 use crate::columns::CellColumns;
 use crate::copies::copy_of_name;
 use crate::in_place::swap_at;
 use crate::places::column_places;
 use crate::table::ColumnTable;
 use cell_types::{CellText, CellValue, Name, ValueList};
-use doc_model::{ColDef, ColInfo, type_text};
+use doc_model::{ColDef, ColInfo, DocAction, type_text};
 use list_ops::all_made;
 use std::alloc::{AllocError, Global};
 
@@ -78,21 +78,20 @@ fn tables_told(alloc: Global, plain: &[ColumnTable]) -> Result<Told, AllocError>
 // Notes the rows and cells that describe the columns of a table.
 fn note_columns(
     alloc: Global,
-    table: &ColumnTable,
+    parent: u32,
+    columns: &[ColDef],
     rows: &mut Vec<u32>,
     lists: &mut Vec<ValueList>,
 ) -> Result<(), AllocError>
     ensures rows { OnOk result
         (rows.new.items
-        ≡ rows.old.items
-        ++ map described_row (columns_of table.now.row table.now.grid.columns)) }
+        ≡ rows.old.items ++ map described_row (columns_of parent columns.now)) }
     ensures lists { OnOk result
-        (lists.new.items ≡ lists.old.items
-        ++ map describe (columns_of table.now.row table.now.grid.columns)) }
+        (lists.new.items ≡ lists.old.items ++ map describe (columns_of parent columns.now)) }
 {
-    for column in table.columns() {
+    for column in columns {
         rows.push(column.row)?;
-        lists.push(described_cells(alloc, table.row(), column)?)?;
+        lists.push(described_cells(alloc, parent, column)?)?;
     }
     Ok(())
 }
@@ -105,7 +104,13 @@ fn columns_told(alloc: Global, plain: &[ColumnTable]) -> Result<Told, AllocError
     let mut rows = Vec::new(alloc);
     let mut lists = Vec::new(alloc);
     for table in plain {
-        note_columns(alloc, table, &mut rows, &mut lists)?;
+        note_columns(
+            alloc,
+            table.row(),
+            table.columns(),
+            &mut rows,
+            &mut lists,
+        )?;
     }
     Ok(Told::Come { rows, lists })
 }
@@ -209,4 +214,98 @@ pub(crate) fn swap_schema(tables: &mut Vec<ColumnTable>, schema: SchemaTables) -
     swap_at(tables, 0, &mut swapped.tables);
     swap_at(tables, 1, &mut swapped.columns);
     swapped
+}
+
+/// What the two schema tables are told.
+#[derive(Drop)]
+pub(crate) struct SchemaTold {
+    pub(crate) tables: Told,
+    pub(crate) columns: Told,
+}
+
+/// What takes that back.
+#[derive(Drop)]
+pub(crate) struct SchemaChange {
+    pub(crate) tables: Change,
+    pub(crate) columns: Change,
+}
+
+// What the table of tables is told of a table that comes.
+fn table_told(alloc: Global, id: &Name, row: u32) -> Result<Told, AllocError>
+    ensures { IfOk result (IsCome (row ∷ []) ((Text id.now ∷ []) ∷ [])) }
+{
+    let mut rows = Vec::with_capacity(alloc, 1)?;
+    rows.push(row)?;
+    let mut lists = Vec::with_capacity(alloc, 1)?;
+    lists.push(name_cells(alloc, id)?)?;
+    Ok(Told::Come { rows, lists })
+}
+
+// What the table of columns is told of its columns.
+fn new_columns_told(alloc: Global, parent: u32, columns: &[ColDef]) -> Result<Told, AllocError>
+    ensures { IfOk result
+        (IsCome (map described_row (columns_of parent columns.now))
+        (map describe (columns_of parent columns.now))) }
+{
+    let mut rows = Vec::new(alloc);
+    let mut lists = Vec::new(alloc);
+    note_columns(alloc, parent, columns, &mut rows, &mut lists)?;
+    Ok(Told::Come { rows, lists })
+}
+
+/// What the schema tables are told of a table that comes.
+pub(crate) fn told_of(alloc: Global, action: &DocAction) -> Result<SchemaTold, AllocError>
+    requires { adds_table action.now ≡ true }
+    ensures { IfOk result (λ told. TellsOf told action.now) }
+{
+    let DocAction::AddTable {
+        table,
+        row,
+        columns,
+    } = action
+    else {
+        unreachable!()
+    };
+    Ok(SchemaTold {
+        tables: table_told(alloc, table, *row)?,
+        columns: new_columns_told(alloc, *row, columns.as_slice())?,
+    })
+}
+
+/// Tells the schema tables, which are the first two.
+///
+/// Errors: out of memory; all tables are then as they were. Cost: that of what is told, and of
+/// moving what stands behind it.
+pub(crate) fn tell_schema(
+    tables: &mut Vec<ColumnTable>,
+    told: SchemaTold,
+) -> Result<SchemaChange, AllocError>
+    requires { schema_fits told tables.old.items }
+    ensures done { OnOk result (tables.new.items ≡ schema_told told tables.old.items) }
+    ensures back { IfOk result (λ change. schema_back change tables.new.items ≡ tables.old.items) }
+    ensures fit { IfOk result (λ change. schema_back_fits change tables.new.items) }
+    ensures err { OnErr result (tables.new.items ≡ tables.old.items) }
+{
+    let first = tables[0].put_told(told.tables)?;
+    match tables[1].put_told(told.columns) {
+        Ok(second) => Ok(SchemaChange {
+            tables: first,
+            columns: second,
+        }),
+        Err(error) => {
+            tables[0].take_back(first);
+            Err(error)
+        }
+    }
+}
+
+/// Takes back what the schema tables were told.
+///
+/// Memory: none.
+pub(crate) fn untell_schema(tables: &mut Vec<ColumnTable>, change: SchemaChange)
+    requires { schema_back_fits change tables.old.items }
+    ensures { tables.new.items ≡ schema_back change tables.old.items }
+{
+    tables[0].take_back(change.tables);
+    tables[1].take_back(change.columns);
 }

@@ -173,9 +173,11 @@ module _ (s : Document) (id : List ℕ) (row : ℕ) (columns : List ColDef) (who
   columns_new : AreNew (map described_row (columns_of row columns)) (map described_row (in_order (all_columns (plain_tables s))))
   columns_new =
       let three = parts_3 (from_one (map column_row columns)) (has_no_duplicates (map column_row columns)) (none_in (map column_row columns) (rows_of s columns_id)) free.1 in
-      subst (λ rs. AreNew rs (map described_row (in_order (all_columns (plain_tables s))))) (sym (rows_told row columns))
-      (IsAscending-in_order (all_columns (plain_tables s)), three.1,
-      subst (λ rs. none_in (map column_row columns) rs ≡ true) (ap (λ d. rows_of d columns_id) schema_is ∙ rows_of-columns (resources s) (rules s) (plain_tables s)) three.2)
+      subst (λ rs. AreNew rs (map described_row (in_order (all_columns (plain_tables s))))) (sym (rows_told row columns)) (
+        IsAscending-in_order (all_columns (plain_tables s)),
+        three.1,
+        subst (λ rs. none_in (map column_row columns) rs ≡ true) (ap (λ d. rows_of d columns_id) schema_is ∙ rows_of-columns (resources s) (rules s) (plain_tables s)) three.2,
+      )
 
   grids : IsGrid column_id (tables_grid (plain_tables s)) × IsGrid column_id (columns_grid (plain_tables s))
   grids =

@@ -102,7 +102,12 @@ fn take_each(columns: &mut Vec<Vec<CellValue>>, index: usize, taken: &mut Vec<Ce
 }
 
 // Moves each column to where there is room for so many cells.
-fn move_each(columns: &mut Vec<Vec<CellValue>>, rooms: Vec<Vec<CellValue>>, height: usize, more: usize)
+fn move_each(
+    columns: &mut Vec<Vec<CellValue>>,
+    rooms: Vec<Vec<CellValue>>,
+    height: usize,
+    more: usize,
+)
     requires each { length rooms.items ≡ length columns.old.items }
     requires rooms { AreRooms (height + more) rooms.items }
     requires height { HaveHeight height (all_items columns.old.items) }
@@ -140,10 +145,7 @@ fn copy_of_cells(alloc: Global, cells: &[CellValue]) -> Result<Vec<CellValue>, A
 }
 
 // Copies of columns.
-fn copies_of(
-    alloc: Global,
-    columns: &[Vec<CellValue>],
-) -> Result<Vec<Vec<CellValue>>, AllocError>
+fn copies_of(alloc: Global, columns: &[Vec<CellValue>]) -> Result<Vec<Vec<CellValue>>, AllocError>
     ensures { IfOk result (λ v. all_items v.items ≡ all_items columns.now) }
 {
     let mut copies = Vec::with_capacity(alloc, columns.len())?;

@@ -24,12 +24,7 @@ fn columns_of(alloc: Global, like: &RowTables, table: &Name) -> Result<Vec<ColDe
 }
 
 // The table at an index of the new document, without rows.
-fn bare(
-    alloc: Global,
-    like: &RowTables,
-    index: usize,
-    row: u32,
-) -> Result<ColumnTable, AllocError>
+fn bare(alloc: Global, like: &RowTables, index: usize, row: u32) -> Result<ColumnTable, AllocError>
     requires new { like.now ≡ new_document }
     requires few { index < 5 }
     ensures { IfOk result (λ t. t ≡ bare index row) }

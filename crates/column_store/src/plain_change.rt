@@ -11,12 +11,12 @@ ghost use Rattle.doc_model.specs.Valid.{valid};
 ghost use Rattle.column_store.specs.Back.{plain_back, plain_fits};
 ghost use Rattle.row_tables.specs.Steps.{is_record, plain_after, table_change, table_named};
 
-use crate::table::ColumnTable;
 use crate::copies::{copy_of_column, copy_of_name};
 use crate::in_place::{insert_reserved, move_to, remove_at};
 use crate::reshaped::TableBack;
 use crate::schema::without_rows;
 use crate::steps::{index_by_row, index_of_table, table_named};
+use crate::table::ColumnTable;
 use cell_types::Name;
 use doc_model::{ColDef, DocAction, index_of_column};
 use std::alloc::{AllocError, Global};
@@ -149,7 +149,10 @@ fn remove_table(tables: &mut Vec<ColumnTable>, id: &Name) -> Result<PlainChange,
 }
 
 // Changes the table that the action names, in place.
-fn change_table(tables: &mut Vec<ColumnTable>, action: &DocAction) -> Result<PlainChange, AllocError>
+fn change_table(
+    tables: &mut Vec<ColumnTable>,
+    action: &DocAction,
+) -> Result<PlainChange, AllocError>
     requires whole { IsWhole tables.old.items }
     requires valid { valid tables.old.items action.now ≡ true }
     requires there { has_id table_id tables.old.items (table_named action.now) ≡ true }

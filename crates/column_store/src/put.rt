@@ -8,13 +8,13 @@ ghost use Rattle.column_store.specs.Back.{has_index, put_back};
 ghost use Rattle.row_tables.specs.Steps.{is_record};
 ghost use Rattle.column_store.specs.Schema.{adds_table};
 
-use crate::table::ColumnTable;
 use crate::change::Change;
 use crate::plain_change::{PlainChange, change_plain, take_plain_back};
 use crate::schema::{
     SchemaChange, SchemaTables, schema_tables, swap_schema, tell_schema, told_of, untell_schema,
 };
 use crate::steps::{index_of_table, is_record, table_named};
+use crate::table::ColumnTable;
 use doc_model::DocAction;
 use std::alloc::AllocError;
 

@@ -90,7 +90,7 @@ impl ColumnTable {
         ensures fit { back_fits result self.new }
     {
         let mut old = new;
-        self.places = None;
+        let _forgotten = self.places.take();
         swap_at(&mut self.columns, index, &mut old);
         TableBack::ColumnChanged { index, old }
     }

@@ -99,18 +99,13 @@ fn note_columns(
 // What the table of columns is told of the columns of these tables.
 fn columns_told(alloc: Global, plain: &[ColumnTable]) -> Result<Told, AllocError>
     ensures { IfOk result
-        (IsCome (map described_row (all_columns plain.now)) (map describe (all_columns plain.now))) }
+        (IsCome (map described_row (all_columns plain.now))
+        (map describe (all_columns plain.now))) }
 {
     let mut rows = Vec::new(alloc);
     let mut lists = Vec::new(alloc);
     for table in plain {
-        note_columns(
-            alloc,
-            table.row(),
-            table.columns(),
-            &mut rows,
-            &mut lists,
-        )?;
+        note_columns(alloc, table.row(), table.columns(), &mut rows, &mut lists)?;
     }
     Ok(Told::Come { rows, lists })
 }
@@ -141,10 +136,10 @@ pub(crate) fn without_rows(
 fn filled(table: &ColumnTable, told: Told) -> Result<ColumnTable, AllocError>
     requires { told_fits told (no_rows table.now.grid.columns) }
     ensures { IfOk result (λ t. t ≡ record {
-        id = table.now.id;
-        row = table.now.row;
-        grid = told_grid told (no_rows table.now.grid.columns);
-      }) }
+      id = table.now.id;
+      row = table.now.row;
+      grid = told_grid told (no_rows table.now.grid.columns);
+    }) }
 {
     let alloc = table.alloc();
     let id = copy_of_name(table.id())?;
@@ -162,10 +157,7 @@ pub(crate) struct SchemaTables {
 }
 
 // The table of tables that describes these tables.
-fn table_of_tables(
-    table: &ColumnTable,
-    plain: &[ColumnTable],
-) -> Result<ColumnTable, AllocError>
+fn table_of_tables(table: &ColumnTable, plain: &[ColumnTable]) -> Result<ColumnTable, AllocError>
     requires columns { table.now.grid.columns ≡ tables_columns }
     requires ascending { IsAscending (map table_row plain.now) }
     ensures { IfOk result (λ t. t
@@ -176,10 +168,7 @@ fn table_of_tables(
 }
 
 // The table of columns that describes the columns of these tables.
-fn table_of_columns(
-    table: &ColumnTable,
-    plain: &[ColumnTable],
-) -> Result<ColumnTable, AllocError>
+fn table_of_columns(table: &ColumnTable, plain: &[ColumnTable]) -> Result<ColumnTable, AllocError>
     requires columns { table.now.grid.columns ≡ columns_columns }
     requires once { has_no_duplicates (map described_row (all_columns plain.now)) ≡ true }
     ensures { IfOk result (λ t. t

@@ -6,10 +6,10 @@ ghost use Rattle.doc_model.specs.ByIds.{find_id};
 ghost use Rattle.doc_model.specs.Document.{table_id};
 ghost use Rattle.doc_model.specs.NewDocument.{new_document};
 
-use crate::table::ColumnTable;
 use crate::fresh::new_tables;
 use crate::look::is_same_id;
 use crate::put::{Replaced, action_put, put_back};
+use crate::table::ColumnTable;
 use cell_types::{CellValue, Name};
 use doc_model::{ColDef, DocAction, DocReader, DocTables};
 use list_ops::all_copied;

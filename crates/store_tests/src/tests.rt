@@ -78,9 +78,7 @@ fn is_table_same<L: DocReader, R: DocReader>(left: &L, right: &R, table: &Name) 
 // Whether both tell the same of each cell.
 fn are_same<L: DocReader, R: DocReader>(left: &L, right: &R) -> bool {
     (0..MOST_TABLES).all(|index| match (left.table(index), right.table(index)) {
-        (Some(table), Some(other)) => {
-            table.same_as(other) && is_table_same(left, right, table)
-        }
+        (Some(table), Some(other)) => { table.same_as(other) && is_table_same(left, right, table) }
         (None, None) => true,
         _ => false,
     })

@@ -1,0 +1,14 @@
+pub mod CrossedLaws
+pub mod FrontLaws
+pub mod MoveLaws
+pub mod ColumnLaws
+pub mod NameLaws
+pub mod PlaceLaws
+pub mod NewLaws
+pub mod ReshapeLaws
+pub mod RowLaws
+pub mod DocLaws
+pub mod AboveLaws
+pub mod ComeLaws
+pub mod FreshLaws
+pub mod ToldLaws

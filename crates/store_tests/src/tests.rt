@@ -1,4 +1,4 @@
-//! Plan: three hundred random actions, each put into both stores, taken back and put again; after
+//! Plan: a hundred random actions, each put into both stores, taken back and put again; after
 //! each of these both tell the same tables, columns, rows and cells
 //! (`stores_tell_the_same_after_each_action`). Out of memory counts as false.
 
@@ -14,7 +14,7 @@ use doc_model::{ColDef, DocAction, DocReader, DocTables};
 use row_tables::RowTables;
 use std::alloc::Global;
 
-const ACTIONS: u32 = 300;
+const ACTIONS: u32 = 100;
 
 // More than the documents ever have.
 const MOST_TABLES: usize = 8;

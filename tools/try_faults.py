@@ -19,8 +19,9 @@ import socket
 import subprocess
 import sys
 import tempfile
+import time
 
-from loopback import free_ports, joined
+from loopback import HOST, free_ports
 from scripts import USER, ask, bundle, closing, formula, opening, update, user
 from try_lanes import alone
 
@@ -152,7 +153,7 @@ def files(outside):
     kept = Kept(outside)
     for number in range(kept.count("disk")):
         status, lines, told = kept.run(f"disk {number}")
-        answers = [json.loads(line)["line"] for line in lines[1:]]
+        answers = [said for said in (json.loads(line)["line"] for line in lines[1:]) if "seq" not in said]
         places = tuple(place for place, answer in enumerate(answers) if "ok" in answer)
         codes = [answer["error"]["code"] for answer in answers if "error" in answer]
         if status == 6 and not lines:
@@ -188,11 +189,12 @@ class TwoLanes:
 
     def joined(self, lane):
         """A connection to that lane; nothing where the server has ended."""
-        while self.server.poll() is None:
+        until = time.monotonic() + PATIENCE
+        while self.server.poll() is None and time.monotonic() < until:
             try:
-                return socket.create_connection(("127.0.0.1", self.port + lane), timeout=PATIENCE)
+                return socket.create_connection((HOST, self.port + lane), timeout=PATIENCE)
             except ConnectionRefusedError:
-                pass
+                time.sleep(0.01)
         return None
 
     def written(self, lane):

@@ -15,6 +15,7 @@ With EVERY only each so many-th request for memory is refused. Its status is 1 w
 import functools
 import json
 import os
+import shutil
 import socket
 import subprocess
 import sys
@@ -250,6 +251,9 @@ def is_front(written, want):
 
 
 def main(program, every=1):
+    if not shutil.which("cc"):
+        print("faults: there is no C compiler here, so nothing was tried")
+        return 0
     with tempfile.TemporaryDirectory() as folder:
         outside = Outside(os.path.abspath(program), folder)
         tries = [reads(outside), writes(outside), memory(outside, every), files(outside), kept_memory(outside, every),

@@ -8,6 +8,7 @@
      disk NUMBER        reads, writes, syncs and cuts of files, by their place in them
      comes NUMBER       reads of connections that came to the port OUTSIDE_PORT of this machine
      goes NUMBER        writes to them
+     accepts NUMBER     acceptings at that port, for good
    OUTSIDE_COUNT, where it is set, names a file to which the number of counted calls is written at the end. */
 #define _GNU_SOURCE
 #include <errno.h>
@@ -141,6 +142,15 @@ ssize_t send(int file, const void *from, size_t size, int flags)
         return is_refused(EPIPE);
     return syscall(SYS_sendto, file, from, size, flags, NULL, 0);
 }
+
+int accept4(int file, struct sockaddr *from, socklen_t *length, int flags)
+{
+    if (!strcmp(word, "accepts") && came_to_port(file) && fails("accepts", NULL))
+        return is_refused(EINVAL);
+    return syscall(SYS_accept4, file, from, length, flags);
+}
+
+int accept(int file, struct sockaddr *from, socklen_t *length) { return accept4(file, from, length, 0); }
 
 ssize_t pread64(int file, void *to, size_t size, off64_t place)
 {

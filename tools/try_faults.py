@@ -9,7 +9,8 @@ for); each write of an output that is not gathered whole (status 5, and a front 
 or it and all behind it (status 7 and a front of the answer, or the whole answer). Over a file it is each request for
 memory and each call of the disk: the next run then opens the document of the bundles that were accepted, and where the
 disk failed a bundle is refused with 19 and the next one is kept. Of a server of two lanes it is each of the first reads
-and writes of one connection, while the other is written byte for byte what it is written alone; and requests for memory.
+and writes of one connection, while the other is written byte for byte what it is written alone; accepting at one port
+(status 10, and all else is served); and requests for memory.
 With EVERY only each so many-th request for memory is refused. Its status is 1 where anything differs.
 """
 import functools
@@ -179,12 +180,13 @@ def kept_memory(outside, every):
 class TwoLanes:
     """A server of two lanes, whose first one's connection meets a fault."""
 
-    def __init__(self, outside, fault):
+    def __init__(self, outside, fault, connections=1):
         self.port = free_ports(2)
         with tempfile.TemporaryFile() as users:
             users.write(USER.encode())
             users.seek(0)
-            words = [outside.program, "serve", "--lanes", "2", "--port", str(self.port), "--conns", "1"]
+            words = [outside.program, "serve", "--lanes", "2", "--port", str(self.port),
+                     "--conns", str(connections)]
             self.server = subprocess.Popen(words, stdin=users, stdout=subprocess.PIPE,
                                            env=outside.surroundings(fault, self.port))
 
@@ -231,6 +233,18 @@ def lanes(outside):
                 yield f"{word} {number}: status {status}, {first}, {second}, {told}"
 
 
+def ports(outside):
+    """Accepting fails for good, at once and behind a connection: the other lane is served, and all of it is told."""
+    want = alone(outside.program, *LINES)
+    for number in range(2):
+        server = TwoLanes(outside, f"accepts {number}", 2)
+        first = [server.written(0) for _ in range(number)]
+        second = [server.written(1) for _ in range(2)]
+        status, told = server.end()
+        if first + second != [want] * (number + 2) or status != 10 or json.loads(told)["connections"] != number + 2:
+            yield f"accepting {number}: status {status}, {first}, {second}, {told}"
+
+
 def lanes_memory(outside, every):
     """Each request for memory of a server is refused in turn: a connection ends, or 7, and what is written is a front."""
     want = alone(outside.program, *LINES)
@@ -257,7 +271,7 @@ def main(program, every=1):
     with tempfile.TemporaryDirectory() as folder:
         outside = Outside(os.path.abspath(program), folder)
         tries = [reads(outside), writes(outside), memory(outside, every), files(outside), kept_memory(outside, every),
-                 lanes(outside), lanes_memory(outside, every)]
+                 lanes(outside), ports(outside), lanes_memory(outside, every)]
         faults = [fault for tried in tries for fault in tried]
     for fault in faults:
         print(fault)

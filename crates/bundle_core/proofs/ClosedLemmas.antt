@@ -32,6 +32,7 @@ code_closed users st request.TooLong stays other = refl
 code_closed users st (request.Apply actions) stays other = refl
 code_closed users st (request.Undo bundle) stays other = refl
 code_closed users st request.Sync stays other = refl
+code_closed users st (request.Rename table column new) stays other = refl
 code_closed users st (request.Fetch table) stays other = refl
 code_closed users st request.Close stays other = refl
 

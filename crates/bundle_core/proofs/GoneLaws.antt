@@ -24,6 +24,7 @@ gone_only (request.Apply actions) is = absurd (cc)
 gone_only (request.Undo bundle) is = absurd (cc)
 gone_only request.Sync is = absurd (cc)
 gone_only (request.Fetch table) is = absurd (cc)
+gone_only (request.Rename table column new) is = absurd (cc)
 gone_only request.Close is = absurd (cc)
 
 -- it gives no line

@@ -84,6 +84,7 @@ open_few n st h kept (request.Open token) le = omega (arith, le)
 open_few n st h kept (request.Apply actions) le = bundle_few n h None st.document kept (judge h.user st.document actions) le
 open_few n st h kept (request.Undo number) le = bundle_few n h (Some number) st.document kept (judge_own_undo h.user (undo_of h.log number) st.document) le
 open_few n st h kept request.Sync le = omega (arith, le)
+open_few n st h kept (request.Rename table column new) le = bundle_few n h None st.document kept (judge_renaming h.user st.document table column new) le
 open_few n st h kept (request.Fetch table) le = omega (arith, le)
 open_few n st h kept request.Close le = tt
 open_few n st h kept request.Gone le = tt
@@ -96,6 +97,7 @@ lagging_few n st (request.Open token) = tt
 lagging_few n st (request.Apply actions) = tt
 lagging_few n st (request.Undo bundle) = tt
 lagging_few n st request.Sync = tt
+lagging_few n st (request.Rename table column new) = tt
 lagging_few n st (request.Fetch table) = tt
 lagging_few n st request.Close = tt
 
@@ -121,6 +123,7 @@ closed_few n users st request.Gone = tt
 closed_few n users st (request.Apply actions) = tt
 closed_few n users st (request.Undo bundle) = tt
 closed_few n users st request.Sync = tt
+closed_few n users st (request.Rename table column new) = tt
 closed_few n users st (request.Fetch table) = tt
 closed_few n users st request.Close = tt
 

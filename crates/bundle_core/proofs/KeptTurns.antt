@@ -111,6 +111,7 @@ closed_none users st (request.Open token) = by_token users st token
 closed_none users st (request.Apply actions) = refl
 closed_none users st (request.Undo number) = refl
 closed_none users st request.Sync = refl
+closed_none users st (request.Rename table column new) = refl
 closed_none users st (request.Fetch table) = refl
 closed_none users st request.Close = refl
 closed_none users st request.Gone = refl

@@ -151,6 +151,7 @@ speaks_open st h kept request.Bad = speaks st.document (Some h) (refusal BadLine
 speaks_open st h kept request.TooLong = speaks st.document (Some h) (refusal LineTooLong)
 speaks_open st h kept (request.Open token) = speaks st.document (Some h) (refusal AlreadyOpen)
 speaks_open st h kept request.Sync = speaks st.document (Some h) verdict.Done
+speaks_open st h kept (request.Rename table column new) = speaks_bundle h None st.document kept (judge_renaming h.user st.document table column new)
 speaks_open st h kept (request.Fetch table) = speaks_shown st.document h (asked_table table (view h.user st.document))
 speaks_open st h kept request.Close = speaks st.document None verdict.Done
 speaks_open st h kept request.Gone = λ _. refl
@@ -163,6 +164,7 @@ speaks_lagging st (request.Open token) = speaks st.document None (refusal Lagged
 speaks_lagging st (request.Apply actions) = speaks st.document None (refusal Lagged)
 speaks_lagging st (request.Undo n) = speaks st.document None (refusal Lagged)
 speaks_lagging st request.Sync = speaks st.document None (refusal Lagged)
+speaks_lagging st (request.Rename table column new) = speaks st.document None (refusal Lagged)
 speaks_lagging st (request.Fetch table) = speaks st.document None (refusal Lagged)
 speaks_lagging st request.Close = speaks st.document None (refusal Lagged)
 

@@ -51,6 +51,7 @@ code_open st h kept (request.Open token) n e = same_refusal AlreadyOpen n st h e
 code_open st h kept (request.Apply actions) n e = absurd (cc)
 code_open st h kept (request.Undo bundle) n e = absurd (cc)
 code_open st h kept request.Sync n e = absurd (cc)
+code_open st h kept (request.Rename table column new) n e = absurd (cc)
 code_open st h kept (request.Fetch table) n e = absurd (cc)
 code_open st h kept request.Close n e = absurd (cc)
 code_open st h kept request.Gone n e = absurd (cc)
@@ -63,20 +64,22 @@ code_lagging st (request.Open token) other = refl
 code_lagging st (request.Apply actions) other = refl
 code_lagging st (request.Undo bundle) other = refl
 code_lagging st request.Sync other = refl
+code_lagging st (request.Rename table column new) other = refl
 code_lagging st (request.Fetch table) other = refl
 code_lagging st request.Close other = refl
 
-pub code_sync : (st : State) (h : Holder) (kept : Bool) (r : Request) → refusal_open r ≡ None → is_gone r ≡ false → ((actions : List UserAction) → r ≡ request.Apply actions → ⊥) → ((number : ℕ) → r ≡ request.Undo number → ⊥) → ((table : List ℕ) → r ≡ request.Fetch table → ⊥) → (r ≡ request.Close → ⊥)
+pub code_sync : (st : State) (h : Holder) (kept : Bool) (r : Request) → refusal_open r ≡ None → is_gone r ≡ false → ((actions : List UserAction) → r ≡ request.Apply actions → ⊥) → ((number : ℕ) → r ≡ request.Undo number → ⊥) → ((table : List ℕ) → r ≡ request.Fetch table → ⊥) → ((table column new : List ℕ) → r ≡ request.Rename table column new → ⊥) → (r ≡ request.Close → ⊥)
     → from_open st h kept r ≡ answered st.document (Some h) verdict.Done
-code_sync st h kept request.Sync e g a u t k = refl
-code_sync st h kept request.Bad e g a u t k = absurd (cc)
-code_sync st h kept request.TooLong e g a u t k = absurd (cc)
-code_sync st h kept (request.Open token) e g a u t k = absurd (cc)
-code_sync st h kept (request.Apply actions) e g a u t k = absurd (a actions refl)
-code_sync st h kept (request.Undo number) e g a u t k = absurd (u number refl)
-code_sync st h kept (request.Fetch table) e g a u t k = absurd (t table refl)
-code_sync st h kept request.Close e g a u t k = absurd (k refl)
-code_sync st h kept request.Gone e g a u t k = absurd (cc)
+code_sync st h kept request.Sync e g a u t m k = refl
+code_sync st h kept request.Bad e g a u t m k = absurd (cc)
+code_sync st h kept request.TooLong e g a u t m k = absurd (cc)
+code_sync st h kept (request.Open token) e g a u t m k = absurd (cc)
+code_sync st h kept (request.Apply actions) e g a u t m k = absurd (a actions refl)
+code_sync st h kept (request.Undo number) e g a u t m k = absurd (u number refl)
+code_sync st h kept (request.Fetch table) e g a u t m k = absurd (t table refl)
+code_sync st h kept (request.Rename table column new) e g a u t m k = absurd (m table column new refl)
+code_sync st h kept request.Close e g a u t m k = absurd (k refl)
+code_sync st h kept request.Gone e g a u t m k = absurd (cc)
 
 abbrev pub parted : Document → Verdicts
 parted s = record { outcome = quiet; document = s; is_bundle = false; holder = None }

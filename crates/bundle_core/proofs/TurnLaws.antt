@@ -81,6 +81,8 @@ open_turn done st h kept request.Bad = stays st.document h.log _ _ (Some h) (inl
 open_turn done st h kept request.TooLong = stays st.document h.log _ _ (Some h) (inl refl)
 open_turn done st h kept (request.Open token) = stays st.document h.log _ _ (Some h) (inl refl)
 open_turn done st h kept request.Sync = stays st.document h.log _ _ (Some h) (inl refl)
+open_turn done st h kept (request.Rename table column new) =
+    bundle_turn h None st.document (request.Rename table column new) kept (judge_renaming h.user st.document table column new) (λ fine _. renaming_done done h.user st.document (planned h.user st.document table column new) fine (planned_formed h.user st.document table column new))
 open_turn done st h kept (request.Fetch table) = stays st.document h.log _ _ (Some h) (inl refl)
 open_turn done st h kept request.Close = stays st.document h.log _ _ None (inr refl)
 open_turn done st h kept request.Gone = stays st.document h.log _ _ None (inr refl)
@@ -93,6 +95,7 @@ lagging_turn st log (request.Open token) = stays st.document log _ _ None (inr r
 lagging_turn st log (request.Apply actions) = stays st.document log _ _ None (inr refl)
 lagging_turn st log (request.Undo n) = stays st.document log _ _ None (inr refl)
 lagging_turn st log request.Sync = stays st.document log _ _ None (inr refl)
+lagging_turn st log (request.Rename table column new) = stays st.document log _ _ None (inr refl)
 lagging_turn st log (request.Fetch table) = stays st.document log _ _ None (inr refl)
 lagging_turn st log request.Close = stays st.document log _ _ None (inr refl)
 
@@ -121,6 +124,7 @@ closed_turn users st request.Gone = stays st.document empty_log _ _ None (inr re
 closed_turn users st (request.Apply actions) = stays st.document empty_log _ _ None (inr refl)
 closed_turn users st (request.Undo n) = stays st.document empty_log _ _ None (inr refl)
 closed_turn users st request.Sync = stays st.document empty_log _ _ None (inr refl)
+closed_turn users st (request.Rename table column new) = stays st.document empty_log _ _ None (inr refl)
 closed_turn users st (request.Fetch table) = stays st.document empty_log _ _ None (inr refl)
 closed_turn users st request.Close = stays st.document empty_log _ _ None (inr refl)
 

@@ -20,6 +20,12 @@ AsksFor h s r undone judgement =
     (os : List Open) (kept : Bool)
     → from_open (state_with s os) h kept r ≡ bundle_of h undone s kept judgement
 
+-- so it does, and its actions are those of the judgement
+pub record Asks (h : Holder) (s : Document) (r : Request) (undone : Option ℕ) (j : Judgement)
+    : Type 0 where
+  pub comes : AsksFor h s r undone j
+  pub actions : actions_asked h s r ≡ actions_of j
+
 -- where an undo was accepted, its bundle is one that the holder may undo
 abbrev pub IsOwn : JudgedBundle → Holder → Type 0
 IsOwn (judged.Accepted plan) h = MayBeUndone plan.undone h.log

@@ -3,7 +3,7 @@ use Rattle.std.specs.Prelude.{ℕ, ◌+◌, List, [], ◌∷◌, ◌++◌, map, 
 use Rattle.doc_model.specs.declared.action.DocAction.{DocAction}
 use Rattle.doc_model.specs.declared.entry.Entry.{Entry}
 use Rattle.doc_model.specs.declared.request.Request.{Request}
-use Rattle.doc_model.specs.declared.request.Request.TheVariants.{Apply, Undo}
+use Rattle.doc_model.specs.declared.request.Request.TheVariants.{Apply, Rename, Undo}
 use Rattle.doc_model.specs.declared.user.User.{User}
 use Rattle.doc_model.specs.Document.{Document}
 use Rattle.record_lines.specs.Printed.{record_text}
@@ -12,16 +12,19 @@ use Rattle.user_actions.specs.StepLaws.{action_of}
 use Rattle.bundle_judge.specs.Judgement.{Judgement, accepted, refused, judge}
 use Rattle.bundle_core.specs.State.{Holder, State, session_of, step, verdicts}
 use Rattle.bundle_judge.specs.Undo.{judge_own_undo}
+use Rattle.bundle_core.specs.Renaming.{judge_renaming}
 
 -- the actions that a judgement accepts
 abbrev pub actions_of : Judgement → List DocAction
 actions_of (accepted s steps ms) = map action_of steps
 actions_of (refused v) = []
 
--- those that are accepted of what an open session asks for: a bundle or an undo
+-- those that are accepted of what an open session asks for: a bundle, an undo or a renaming
 abbrev pub actions_asked : Holder → Document → Request → List DocAction
 actions_asked h s (Apply actions) = actions_of (judge h.user s actions)
 actions_asked h s (Undo number) = actions_of (judge_own_undo h.user (undo_of h.log number) s)
+actions_asked h s (Rename table column new) =
+    actions_of (judge_renaming h.user s table column new)
 actions_asked h s _ = []
 
 -- those of an entry

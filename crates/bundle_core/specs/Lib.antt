@@ -6,6 +6,7 @@ pub mod MadeLines
 pub mod Mailbox
 pub mod Noting
 pub mod Judged
+pub mod Renaming
 pub mod Requests
 pub mod SessionState
 pub mod State

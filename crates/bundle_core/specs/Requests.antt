@@ -12,6 +12,7 @@ refusal_closed (request.Apply actions) = NotOpen
 refusal_closed (request.Undo bundle) = NotOpen
 refusal_closed request.Sync = NotOpen
 refusal_closed (request.Fetch table) = NotOpen
+refusal_closed (request.Rename table column new) = NotOpen
 refusal_closed request.Close = NotOpen
 refusal_closed _ = BadLine
 

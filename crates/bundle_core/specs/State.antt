@@ -19,6 +19,7 @@ use Rattle.bundle_judge.specs.declared.bare_verdict.BareVerdict.TheVariants as v
 use Rattle.bundle_judge.specs.declared.bare_verdict.BareVerdict.{BareVerdict}
 use Rattle.bundle_judge.specs.Judgement.{Judgement, accepted, refused, judge}
 use Rattle.bundle_judge.specs.Undo.{judge_own_undo}
+use Rattle.bundle_core.specs.Renaming.{judge_renaming}
 use Rattle.bundle_judge.specs.Created.{told_of}
 use Rattle.doc_model.specs.declared.view.ViewTable.{ViewTable}
 use Rattle.bundle_core.specs.Mailbox.{Mailbox, Outcome, quiet, shows_view, says, Turn, asked_table, due, own}
@@ -96,6 +97,8 @@ from_closed users st request.Gone =
 from_closed users st (request.Apply actions) = answered st.document None (refusal NotOpen)
 from_closed users st request.Sync = answered st.document None (refusal NotOpen)
 from_closed users st (request.Undo bundle) = answered st.document None (refusal NotOpen)
+from_closed users st (request.Rename table column new) =
+    answered st.document None (refusal NotOpen)
 from_closed users st (request.Fetch table) = answered st.document None (refusal NotOpen)
 from_closed users st request.Close = answered st.document None (refusal NotOpen)
 
@@ -148,6 +151,8 @@ from_open st h kept (request.Apply actions) =
 from_open st h kept (request.Undo number) =
     bundle_of h (Some number) st.document kept
     (judge_own_undo h.user (undo_of h.log number) st.document)
+from_open st h kept (request.Rename table column new) =
+    bundle_of h None st.document kept (judge_renaming h.user st.document table column new)
 from_open st h kept request.Sync = answered st.document (Some h) verdict.Done
 from_open st h kept (request.Fetch table) = fetched st.document h table
 from_open st h kept request.Close = answered st.document None verdict.Done

@@ -9,17 +9,19 @@ ghost use Rattle.doc_model.specs.ByIds.{IsByIds};
 ghost use Rattle.doc_model.specs.Changes.{IsView, changes};
 ghost use Rattle.doc_model.specs.DocumentLaws.{IsWhole};
 ghost use Rattle.doc_model.specs.WellFormed.{asks_well_formed, is_well_formed};
-ghost use Rattle.doc_model.specs.declared.request.Request.TheVariants.{Open, Apply, Fetch, Undo};
+ghost use Rattle.doc_model.specs.declared.request.Request.TheVariants.{Open, Fetch, Undo};
 ghost use Rattle.grist_json.specs.Lines.{reply_text};
 ghost use Rattle.action_limits.specs.Tallies.{IsTally};
 ghost use Rattle.undo_bundles.specs.BundleLog.{count};
+ghost use Rattle.bundle_judge.specs.Judgement.{judge};
 ghost use Rattle.bundle_judge.specs.JudgedBundles.{IsDoneBundle};
 ghost use Rattle.bundle_judge.specs.Rollback.{AllLeadBack, gone_back};
 ghost use Rattle.context_changes.specs.Known.{AreKnown};
 ghost use Rattle.bundle_core.specs.Followed.{AreAllKnown};
 ghost use Rattle.bundle_core.specs.Core.{is_gone, marked};
 ghost use Rattle.bundle_core.specs.Dispatch.{AreSame, Answers, Misses, Finds, kept_name};
-ghost use Rattle.bundle_core.specs.Judged.{IsJudgedFor};
+ghost use Rattle.bundle_core.specs.Judged.{Asks, IsJudgedFor};
+ghost use Rattle.bundle_core.specs.Renaming.{judge_plan, planned};
 ghost use Rattle.bundle_core.specs.Requests.{refusal_closed, refusal_open};
 ghost use Rattle.bundle_core.specs.SessionState.{SessionState};
 ghost use Rattle.bundle_core.specs.Mailbox.{asked_table, replies};
@@ -35,6 +37,7 @@ use crate::turns::{give, leave, line_alone, reply_alone, reply_with, stay};
 use action_limits::Tally;
 use bundle_judge::{BareVerdict, JudgedBundle, Trail};
 use bundle_records::RecordLedger;
+use cell_types::CellText;
 use context_changes::KnownContexts;
 use doc_keeper::Keeper;
 use doc_model::{
@@ -44,6 +47,7 @@ use doc_model::{
 use evaluated_doc::Doc;
 use grist_json::{Line, write_reply};
 use plain_view::changes;
+use rename_flow::{RenamePlan, plan_rename};
 use std::alloc::{AllocError, Global};
 
 /// The lines that are given at an entry, and whether the entry is kept.
@@ -63,6 +67,7 @@ fn refusal_closed(request: &Request) -> Refusal
         | Request::Undo { .. }
         | Request::Sync
         | Request::Fetch { .. }
+        | Request::Rename { .. }
         | Request::Close => { Refusal::NotOpen }
         _ => Refusal::BadLine,
     }
@@ -80,6 +85,7 @@ fn refusal_open(request: &Request) -> Option<Refusal>
         | Request::Undo { .. }
         | Request::Sync
         | Request::Fetch { .. }
+        | Request::Rename { .. }
         | Request::Close
         | Request::Gone => None,
     }
@@ -310,6 +316,13 @@ fn answer_open<D: DocTables, K: Keeper>(
                 alloc, users, doc, tally, sessions, records, index, entry, *bundle,
             )
         }
+        Request::Rename { table, column, new } => {
+            let user = sessions[index].user();
+            let plan = plan_for(alloc, doc, user, table, column, new)?;
+            answer_renaming(
+                alloc, users, doc, tally, sessions, records, index, entry, &plan,
+            )
+        }
         Request::Fetch { table } => {
             quiet(answer_fetch(alloc, users, doc, sessions, index, entry, table.as_str()))
         }
@@ -375,7 +388,9 @@ fn answer_bundle<D: DocTables, K: Keeper>(
 ) -> Result<Turn, AllocError>
     requires finds { Finds entry.now.session sessions.old.items index }
     requires quick { (d : SessionState) → (get_or sessions.old.items index d).lagging ≡ false }
-    requires asks { entry.now.request ≡ Apply actions.now }
+    requires asks { (d : SessionState) → Asks (get_or sessions.old.items index d).holder
+        (D.document doc.old) entry.now.request None
+        (judge (get_or sessions.old.items index d).holder.user (D.document doc.old) actions.now) }
     requires whole { IsWhole (D.document doc.old) }
     requires tally { IsTally (D.document doc.old) tally.old }
     requires few { AllByRecursion (λ x. x.made < 2 ^ 62) sessions.old.items }
@@ -410,6 +425,72 @@ fn answer_bundle<D: DocTables, K: Keeper>(
         entry,
         judged,
         trail,
+    )
+}
+
+// What a user asks for by the rename of a column through formulas and rules.
+fn plan_for<D: DocTables>(
+    alloc: Global,
+    doc: &RuledDocument<D>,
+    user: &User,
+    table: &CellText,
+    column: &CellText,
+    new: &CellText,
+) -> Result<RenamePlan, AllocError>
+    requires { IsWhole (D.document doc.now) }
+    ensures plan { IfOk result
+        (λ p. p ≡ planned user.now (D.document doc.now) table.now column.now new.now) }
+    ensures well_formed { IfOk result (λ p. list_all is_well_formed p.actions ≡ true) }
+{
+    let seen = doc.view_seen(alloc, user)?;
+    plan_rename(alloc, &seen, table, column, new)
+}
+
+// Judges a renaming of the open session of that index, which does not lag, by its plan, and does it
+// where it is accepted.
+fn answer_renaming<D: DocTables, K: Keeper>(
+    alloc: Global,
+    users: &[User],
+    doc: &mut RuledDocument<D>,
+    tally: &mut Tally,
+    sessions: &mut Vec<OpenSession>,
+    records: &mut RecordLedger<K>,
+    index: usize,
+    entry: &Entry,
+    plan: &RenamePlan,
+) -> Result<Turn, AllocError>
+    requires finds { Finds entry.now.session sessions.old.items index }
+    requires quick { (d : SessionState) → (get_or sessions.old.items index d).lagging ≡ false }
+    requires asks { (d : SessionState) → Asks (get_or sessions.old.items index d).holder
+        (D.document doc.old) entry.now.request None
+        (judge_plan (get_or sessions.old.items index d).holder.user (D.document doc.old)
+        plan.now) }
+    requires whole { IsWhole (D.document doc.old) }
+    requires tally { IsTally (D.document doc.old) tally.old }
+    requires few { AllByRecursion (λ x. x.made < 2 ^ 62) sessions.old.items }
+    requires few_bundles { AllByRecursion (λ x. count x.holder.log < 2 ^ 62) sessions.old.items }
+    requires kept { entry.now.kept ≡ true }
+    requires well_formed { list_all is_well_formed plan.now.actions ≡ true }
+    ensures ok { IfOk result (λ t. IsTurn users.now (D.document doc.old) (D.document doc.new)
+        sessions.old.items sessions.new.items records.old records.new (marked entry.now t.kept)
+        t.lines.items) }
+    ensures whole { IsWhole (D.document doc.new) }
+    ensures tally { IsTally (D.document doc.new) tally.new }
+    ensures err_document { OnErr result (D.document doc.new ≡ D.document doc.old) }
+    ensures err { OnErr result (AreSame sessions.old.items sessions.new.items) }
+    ensures err_told { OnErr result (records.new.told ≡ records.old.told) }
+    ensures err_count { OnErr result (records.new.count ≡ records.old.count) }
+    ensures err_faults { OnErr result (records.new.faults ≡ records.old.faults) }
+    ensures later { records.old.faults ≤ records.new.faults }
+{
+    if plan.unresolved > 0 {
+        let verdict = BareVerdict::Unresolved {
+            count: plan.unresolved,
+        };
+        return quiet(stay(alloc, sessions, index, verdict));
+    }
+    answer_bundle(
+        alloc, users, doc, tally, sessions, records, index, entry, &plan.actions,
     )
 }
 

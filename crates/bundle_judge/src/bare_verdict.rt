@@ -25,6 +25,9 @@ pub enum BareVerdict {
         bound: u64,
         action: Option<u32>,
     },
+    Unresolved {
+        count: u32,
+    },
     Denied {
         action: u32,
         rule: RuleRef,
@@ -50,6 +53,7 @@ impl BareVerdict {
                 bound,
                 action,
             },
+            BareVerdict::Unresolved { count } => Verdict::Unresolved { count },
             BareVerdict::Denied { action, rule } => Verdict::Denied { action, rule },
         }
     }

@@ -16,6 +16,12 @@ pub enum Request {
     Undo { bundle: u64 },
     Sync,
     Fetch { table: CellText },
+    /// A column is to have another id, and all formulas and rules that name it are to follow.
+    Rename {
+        table: CellText,
+        column: CellText,
+        new: CellText,
+    },
     Close,
     Gone,
 }

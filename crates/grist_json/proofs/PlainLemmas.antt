@@ -13,7 +13,7 @@ use Rattle.doc_model.specs.declared.column.CellColumn.{CellColumn}
 use Rattle.doc_model.specs.declared.verdict.RetValue.{RetValue}
 use Rattle.doc_model.specs.declared.verdict.RetValue.TheVariants as ret
 use Rattle.doc_model.specs.declared.verdict.Verdict.{Verdict}
-use Rattle.doc_model.specs.declared.verdict.Verdict.TheVariants.{Done, Changes, Bundle, Undone, Refused, Limited, Denied}
+use Rattle.doc_model.specs.declared.verdict.Verdict.TheVariants.{Done, Changes, Bundle, Undone, Refused, Limited, Unresolved, Denied}
 use Rattle.doc_model.specs.declared.view.ViewCol.{ViewCol}
 use Rattle.doc_model.specs.declared.view.ViewAction.{ViewAction}
 use Rattle.doc_model.specs.declared.view.ViewAction.TheVariants as action
@@ -179,6 +179,7 @@ verdict_flat (Refused code None) = record { whole = refl; low = omega arith }
 verdict_flat (Refused code (Some at)) = record { whole = refl; low = omega arith }
 verdict_flat (Limited what bound None) = record { whole = refl; low = omega arith }
 verdict_flat (Limited what bound (Some at)) = record { whole = refl; low = omega arith }
+verdict_flat (Unresolved count) = record { whole = refl; low = omega arith }
 verdict_flat (Denied at rule) = record { whole = refl; low = omega arith }
 
 pub actions_flat : (actions : List ViewAction) → IsFlat 6 (actions_data actions)

@@ -4,7 +4,7 @@ use Rattle.std.specs.Str.{bytes_eq}
 use Rattle.serde_json.specs.Data.{Num, unsigned, negative, float, Data, null, boolean, number, string, array, object, member}
 use Rattle.serde_json.specs.Find.{as_object}
 use Rattle.doc_model.specs.declared.request.Request.{Request}
-use Rattle.doc_model.specs.declared.request.Request.TheVariants.{Bad, TooLong, Open, Apply, Undo, Sync, Fetch, Close, Gone}
+use Rattle.doc_model.specs.declared.request.Request.TheVariants.{Bad, TooLong, Open, Apply, Undo, Sync, Fetch, Rename, Close, Gone}
 use Rattle.doc_model.specs.WellFormed.{asks_well_formed}
 use Rattle.action_lines.specs.Fields.{field, field_text, is_done}
 use Rattle.action_lines.specs.Actions.{actions_from}
@@ -12,13 +12,13 @@ use Rattle.action_lines.proofs.StepLemmas.{bind_some, guard_some, guard_then, or
 use Rattle.action_lines.proofs.FieldLemmas.{object_takes, same_text, field_takes, field_text_takes, done_takes}
 use Rattle.action_lines.proofs.ActionLemmas.{actions_take, actions_again}
 use Rattle.action_lines.proofs.WellFormedLemmas.{actions_formed}
-use Rattle.grist_json.specs.Reading.{open_from, word_from, bare_from, apply_from, is_whole, whole_of_num, whole_from, undo_from, fetch_from, request_from}
-use Rattle.grist_json.specs.Requests.{open_data, bare_data, apply_data, undo_data, fetch_data, IsRequest, Spells, request_at}
+use Rattle.grist_json.specs.Reading.{open_from, word_from, bare_from, apply_from, is_whole, whole_of_num, whole_from, undo_from, fetch_from, rename_from, request_from}
+use Rattle.grist_json.specs.Requests.{open_data, bare_data, apply_data, undo_data, fetch_data, rename_data, IsRequest, Spells, request_at}
 use Rattle.grist_json.proofs.Exactly.{found_by, none_by, once_by}
 
 -- what spells a request is read as it
 pub request_again : (r : Request) (d : Data) → IsRequest r d → request_from d ≡ Some r
-unfolding request_from open_from bare_from apply_from undo_from fetch_from
+unfolding request_from open_from bare_from apply_from undo_from fetch_from rename_from
 request_again (Open token) d e = ap request_from e
 request_again (Apply actions) d s = ap request_from s.2 ∙ rw (actions_again actions s.0 s.1) refl
 request_again Sync d e = ap request_from e
@@ -27,6 +27,7 @@ request_again Bad d e = absurd e
 request_again TooLong d e = absurd e
 request_again (Undo bundle) d s = ap request_from s.1 ∙ rw s.0 refl
 request_again (Fetch table) d e = ap request_from e
+request_again (Rename table column new) d e = ap request_from e
 request_again Gone d e = absurd e
 
 open_takes : (d : Data) (r : Request) → open_from d ≡ Some r → IsRequest r d
@@ -124,16 +125,36 @@ fetch_takes d r e =
     ∙ ap (λ ms. member (codes "method") (string (codes "fetchTable")) (member (codes "table") (string c.0.0) ms)) (done_takes c.0.1 done.0)) in
     subst (λ x. IsRequest x d) named.1 whole
 
-one_of : (d : Data) (r : Request) → (open_from d ≡ Some r) ⊎ ((bare_from d ≡ Some r) ⊎ ((apply_from d ≡ Some r) ⊎ ((undo_from d ≡ Some r) ⊎ (fetch_from d ≡ Some r)))) → IsRequest r d
+rename_takes : (d : Data) (r : Request) → rename_from d ≡ Some r → IsRequest r d
+unfolding rename_from
+rename_takes d r e =
+    let a = bind_some (as_object d) _ r e in
+    let b = bind_some (field_text (codes "column") a.0) _ r a.2 in
+    let c = bind_some (field_text (codes "method") b.0.1) _ r b.2 in
+    let n = bind_some (field_text (codes "new") c.0.1) _ r c.2 in
+    let t = bind_some (field_text (codes "table") n.0.1) _ r n.2 in
+    let done = guard_then (is_done t.0.1) _ r t.2 in
+    let named = guard_some (bytes_eq c.0.0 (codes "renameColumn")) (Rename t.0.0 b.0.0 n.0.0) r done.1 in
+    let whole : d ≡ rename_data t.0.0 b.0.0 n.0.0 =
+    object_takes d a.0 a.1
+    ∙ ap object (field_text_takes (codes "column") a.0 b.0.0 b.0.1 b.1
+    ∙ ap (member (codes "column") (string b.0.0)) (field_text_takes (codes "method") b.0.1 c.0.0 c.0.1 c.1
+    ∙ (λ i. member (codes "method") (string (same_text c.0.0 (codes "renameColumn") named.0 i)) (field_text_takes (codes "new") c.0.1 n.0.0 n.0.1 n.1 i))
+    ∙ ap (λ ms. member (codes "method") (string (codes "renameColumn")) (member (codes "new") (string n.0.0) ms)) (field_text_takes (codes "table") n.0.1 t.0.0 t.0.1 t.1
+    ∙ ap (member (codes "table") (string t.0.0)) (done_takes t.0.1 done.0)))) in
+    subst (λ x. IsRequest x d) named.1 whole
+
+one_of : (d : Data) (r : Request) → (open_from d ≡ Some r) ⊎ ((bare_from d ≡ Some r) ⊎ ((apply_from d ≡ Some r) ⊎ ((undo_from d ≡ Some r) ⊎ ((fetch_from d ≡ Some r) ⊎ (rename_from d ≡ Some r))))) → IsRequest r d
 one_of d r (inl e) = open_takes d r e
 one_of d r (inr (inl e)) = bare_takes d r e
 one_of d r (inr (inr (inl e))) = apply_takes d r e
 one_of d r (inr (inr (inr (inl e)))) = undo_takes d r e
-one_of d r (inr (inr (inr (inr e)))) = fetch_takes d r e
+one_of d r (inr (inr (inr (inr (inl e))))) = fetch_takes d r e
+one_of d r (inr (inr (inr (inr (inr e))))) = rename_takes d r e
 
-split : (d : Data) (r : Request) → request_from d ≡ Some r → (open_from d ≡ Some r) ⊎ ((bare_from d ≡ Some r) ⊎ ((apply_from d ≡ Some r) ⊎ ((undo_from d ≡ Some r) ⊎ (fetch_from d ≡ Some r))))
+split : (d : Data) (r : Request) → request_from d ≡ Some r → (open_from d ≡ Some r) ⊎ ((bare_from d ≡ Some r) ⊎ ((apply_from d ≡ Some r) ⊎ ((undo_from d ≡ Some r) ⊎ ((fetch_from d ≡ Some r) ⊎ (rename_from d ≡ Some r)))))
 unfolding request_from
-split d r e = elim (or_some (open_from d) _ r e) [ inl o ↦ inl o | inr o ↦ inr (elim (or_some (bare_from d) _ r o) [ inl p ↦ inl p | inr p ↦ inr (elim (or_some (apply_from d) _ r p) [ inl q ↦ inl q | inr q ↦ inr (or_some (undo_from d) (fetch_from d) r q) ]) ]) ]
+split d r e = elim (or_some (open_from d) _ r e) [ inl o ↦ inl o | inr o ↦ inr (elim (or_some (bare_from d) _ r o) [ inl p ↦ inl p | inr p ↦ inr (elim (or_some (apply_from d) _ r p) [ inl q ↦ inl q | inr q ↦ inr (elim (or_some (undo_from d) _ r q) [ inl u ↦ inl u | inr u ↦ inr (or_some (fetch_from d) (rename_from d) r u) ]) ]) ]) ]
 
 -- what is read as a request spells it
 pub request_takes : (d : Data) (r : Request) → request_from d ≡ Some r → IsRequest r d
@@ -161,4 +182,5 @@ request_formed Bad d s = refl
 request_formed TooLong d s = refl
 request_formed (Undo bundle) d s = refl
 request_formed (Fetch table) d s = refl
+request_formed (Rename table column new) d s = refl
 request_formed Gone d s = refl

@@ -4,7 +4,7 @@ use Rattle.std.specs.Str.{bytes_eq}
 use Rattle.serde_json.specs.Data.{Num, unsigned, negative, float, Data, null, boolean, number, string, array, object}
 use Rattle.serde_json.specs.Find.{as_object}
 use Rattle.doc_model.specs.declared.request.Request.{Request}
-use Rattle.doc_model.specs.declared.request.Request.TheVariants.{Open, Apply, Undo, Sync, Fetch, Close}
+use Rattle.doc_model.specs.declared.request.Request.TheVariants.{Open, Apply, Undo, Sync, Fetch, Rename, Close}
 use Rattle.action_lines.specs.Steps.{◌>>=◌, or_else}
 use Rattle.action_lines.specs.Fields.{field, field_text, is_done}
 use Rattle.action_lines.specs.Actions.{actions_from}
@@ -75,8 +75,20 @@ fetch_from d = do
   if is_done table.1
       then (if bytes_eq method.0 (codes "fetchTable") then Some (Fetch table.0) else None) else None
 
+unfoldable pub rename_from : Data → Option Request
+rename_from d = do
+  fields ← as_object d
+  column ← field_text (codes "column") fields
+  method ← field_text (codes "method") column.1
+  new ← field_text (codes "new") method.1
+  table ← field_text (codes "table") new.1
+  if is_done table.1
+      then (if bytes_eq method.0 (codes "renameColumn")
+      then Some (Rename table.0 column.0 new.0) else None)
+      else None
+
 -- at most one of the forms fits
 unfoldable pub request_from : Data → Option Request
 request_from d =
     or_else (open_from d) (or_else (bare_from d) (or_else (apply_from d)
-    (or_else (undo_from d) (fetch_from d))))
+    (or_else (undo_from d) (or_else (fetch_from d) (rename_from d)))))

@@ -9,7 +9,7 @@ use Rattle.doc_model.specs.declared.refusal.Refusal.TheVariants as refusal
 use Rattle.doc_model.specs.declared.verdict.RetValue.{RetValue}
 use Rattle.doc_model.specs.declared.verdict.RetValue.TheVariants as ret
 use Rattle.doc_model.specs.declared.verdict.Verdict.{Verdict}
-use Rattle.doc_model.specs.declared.verdict.Verdict.TheVariants.{Done, Changes, Bundle, Undone, Refused, Limited, Denied}
+use Rattle.doc_model.specs.declared.verdict.Verdict.TheVariants.{Done, Changes, Bundle, Undone, Refused, Limited, Unresolved, Denied}
 use Rattle.doc_model.specs.Refusals.{refusal_name, refusal_number}
 use Rattle.grist_json.specs.Values.{array_of}
 use Rattle.grist_json.specs.Actions.{actions_data}
@@ -71,6 +71,11 @@ limited_fields what bound =
     member (codes "bound") (number_data bound)
     (put (codes "what") (string (limit_name what)) (refusal_fields refusal.Limit))
 
+-- the fields of a refusal of a renaming
+abbrev pub unresolved_fields : ℕ → Members
+unresolved_fields count =
+    put (codes "count") (number_data count) (refusal_fields refusal.Unresolved)
+
 -- the fields of a refusal by a rule
 abbrev pub denied_fields : RuleRef → Members
 denied_fields rule =
@@ -88,4 +93,5 @@ verdict_data (Bundle n values) =
 verdict_data (Undone n) = ok_data (object (member (codes "bundle") (number_data n) no_members))
 verdict_data (Refused r action) = error_data action (refusal_fields r)
 verdict_data (Limited what bound action) = error_data action (limited_fields what bound)
+verdict_data (Unresolved count) = error_data None (unresolved_fields count)
 verdict_data (Denied action rule) = error_data (Some action) (denied_fields rule)

@@ -2,7 +2,7 @@
 use Rattle.std.specs.Prelude.{◌≡◌, ℕ, true, List, codes, Option, Some, None, Result, Ok, Err, option_and_then}
 use Rattle.serde_json.specs.Data.{Data, number, unsigned, object, string, no_members, member}
 use Rattle.doc_model.specs.declared.request.Request.{Request}
-use Rattle.doc_model.specs.declared.request.Request.TheVariants.{Bad, TooLong, Open, Apply, Undo, Sync, Fetch, Close, Gone}
+use Rattle.doc_model.specs.declared.request.Request.TheVariants.{Bad, TooLong, Open, Apply, Undo, Sync, Fetch, Rename, Close, Gone}
 use Rattle.grist_json.specs.declared.requests.ReadFault.{ReadFault}
 use Rattle.grist_json.specs.declared.requests.ReadFault.TheVariants.{BadLine, NoMemory}
 use Rattle.grist_json.specs.Json.{json_at, SpellsBy}
@@ -37,6 +37,14 @@ fetch_data table =
     object (member (codes "method") (string (codes "fetchTable"))
     (member (codes "table") (string table) no_members))
 
+-- {"column":text,"method":"renameColumn","new":text,"table":text}
+abbrev pub rename_data : (table column new : List ℕ) → Data
+rename_data table column new =
+    object (member (codes "column") (string column)
+    (member (codes "method") (string (codes "renameColumn"))
+    (member (codes "new") (string new)
+    (member (codes "table") (string table) no_members))))
+
 -- the JSON that spells a request
 abbrev pub IsRequest : Request → Data → Type 0
 IsRequest (Open token) d = d ≡ open_data token
@@ -47,6 +55,7 @@ IsRequest Bad d = ⊥
 IsRequest TooLong d = ⊥
 IsRequest (Undo bundle) d = (is_whole bundle ≡ true) × (d ≡ undo_data bundle)
 IsRequest (Fetch table) d = d ≡ fetch_data table
+IsRequest (Rename table column new) d = d ≡ rename_data table column new
 IsRequest Gone d = ⊥
 
 -- the bytes spell the request

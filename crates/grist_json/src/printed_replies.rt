@@ -3,7 +3,7 @@ ghost use Rattle.std.specs.Prelude.{◌≡◌, IfOk, codes};
 ghost use Rattle.serde_json.specs.Data.{object, no_members, member};
 ghost use Rattle.serde_json.specs.View.{view, members_view};
 ghost use Rattle.grist_json.specs.Actions.{actions_data};
-ghost use Rattle.grist_json.specs.Replies.{limit_name, number_data, id_data, ids_data, ret_data, rets_data, refusal_fields, put_action, error_data, limited_fields, denied_fields, verdict_data};
+ghost use Rattle.grist_json.specs.Replies.{limit_name, number_data, id_data, ids_data, ret_data, rets_data, refusal_fields, put_action, error_data, limited_fields, unresolved_fields, denied_fields, verdict_data};
 
 use crate::json_parts::{object_of_one, with_member};
 use crate::printed_actions::actions_value;
@@ -116,6 +116,14 @@ fn limited_fields(
     with_member(alloc, fields, "bound", Value::from(bound))
 }
 
+// The fields of a refusal of a renaming.
+fn unresolved_fields(alloc: Global, count: u32) -> Result<Map<String, Value>, AllocError>
+    ensures { IfOk result (λ m. members_view m.entries ≡ unresolved_fields count) }
+{
+    let fields = refusal_fields(alloc, Refusal::Unresolved)?;
+    with_member(alloc, fields, "count", Value::from(count))
+}
+
 // The fields of a refusal by a rule, without the action.
 fn denied_fields(alloc: Global, rule: &RuleRef) -> Result<Map<String, Value>, AllocError>
     ensures { IfOk result (λ m. members_view m.entries ≡ denied_fields rule.now) }
@@ -175,6 +183,9 @@ pub(crate) fn verdict_value(alloc: Global, verdict: &Verdict) -> Result<Value, A
             bound,
             action,
         } => error_value(alloc, limited_fields(alloc, *what, *bound)?, *action),
+        Verdict::Unresolved { count } => {
+            error_value(alloc, unresolved_fields(alloc, *count)?, None)
+        }
         Verdict::Denied { action, rule } => {
             error_value(alloc, denied_fields(alloc, rule)?, Some(*action))
         }

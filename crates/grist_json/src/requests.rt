@@ -2,7 +2,7 @@
 ghost use Rattle.std.specs.Prelude.{◌≡◌, true, IfOk, Err};
 ghost use Rattle.serde_json.specs.View.{view};
 ghost use Rattle.grist_json.specs.Requests.{Spells, IsRead, request_at};
-ghost use Rattle.grist_json.specs.Reading.{open_from, word_from, bare_from, apply_from, undo_from, fetch_from, request_from};
+ghost use Rattle.grist_json.specs.Reading.{open_from, word_from, bare_from, apply_from, undo_from, fetch_from, rename_from, request_from};
 ghost use Rattle.doc_model.specs.declared.request.Request.{Request};
 ghost use Rattle.doc_model.specs.WellFormed.{asks_well_formed};
 
@@ -139,6 +139,38 @@ fn fetch_of(alloc: Global, value: &Value) -> Result<Option<Request>, AllocError>
     }))
 }
 
+#[tactic(auto, unfolding(crate::specs::Reading::rename_from))]
+fn rename_of(alloc: Global, value: &Value) -> Result<Option<Request>, AllocError>
+    ensures { IfOk result (λ o. o ≡ rename_from (view value.now)) }
+{
+    let Some(mut fields) = Fields::of(value) else {
+        return Ok(None);
+    };
+    let Some(column) = fields.take_text("column") else {
+        return Ok(None);
+    };
+    let Some(method) = fields.take_text("method") else {
+        return Ok(None);
+    };
+    let Some(new) = fields.take_text("new") else {
+        return Ok(None);
+    };
+    let Some(table) = fields.take_text("table") else {
+        return Ok(None);
+    };
+    if !fields.is_done() {
+        return Ok(None);
+    }
+    if method != "renameColumn" {
+        return Ok(None);
+    }
+    Ok(Some(Request::Rename {
+        table: CellText::copy_of(alloc, table)?,
+        column: CellText::copy_of(alloc, column)?,
+        new: CellText::copy_of(alloc, new)?,
+    }))
+}
+
 // The request that the JSON spells. At most one of the forms fits.
 #[tactic(auto, unfolding(crate::specs::Reading::request_from))]
 pub(crate) fn request_of(alloc: Global, value: &Value) -> Result<Option<Request>, AllocError>
@@ -156,7 +188,10 @@ pub(crate) fn request_of(alloc: Global, value: &Value) -> Result<Option<Request>
     if let Some(request) = undo_of(value) {
         return Ok(Some(request));
     }
-    fetch_of(alloc, value)
+    if let Some(request) = fetch_of(alloc, value)? {
+        return Ok(Some(request));
+    }
+    rename_of(alloc, value)
 }
 
 #[tactic(auto, unfolding(crate::specs::Requests::request_at))]

@@ -33,6 +33,7 @@ not_gone request.Gone stays = absurd (stays refl)
 not_gone (request.Apply actions) stays = refl
 not_gone request.Sync stays = refl
 not_gone (request.Undo bundle) stays = refl
+not_gone (request.Rename table column new) stays = refl
 not_gone (request.Fetch table) stays = refl
 not_gone request.Close stays = refl
 

@@ -48,6 +48,7 @@ said verdict.Done = denial_told (verdict_of verdict.Done)
 said (verdict.Bundle number values) = denial_told (verdict_of (verdict.Bundle number values))
 said (verdict.Undone number) = denial_told (verdict_of (verdict.Undone number))
 said (verdict.Refused why action) = denial_told (verdict_of (verdict.Refused why action))
+said (verdict.Unresolved count) = denial_told (verdict_of (verdict.Unresolved count))
 said (verdict.Limited what bound action) = denial_told (verdict_of (verdict.Limited what bound action))
 said (verdict.Denied action rule) = denial_told (verdict_of (verdict.Denied action rule))
 
@@ -95,6 +96,7 @@ closed_loud us st request.Gone stays = absurd (false≢true (sym stays))
 closed_loud us st (request.Apply actions) stays = refl
 closed_loud us st request.Sync stays = refl
 closed_loud us st (request.Undo bundle) stays = refl
+closed_loud us st (request.Rename table column new) stays = refl
 closed_loud us st (request.Fetch table) stays = refl
 closed_loud us st request.Close stays = refl
 
@@ -106,6 +108,7 @@ lagging_loud st request.Gone stays = absurd (false≢true (sym stays))
 lagging_loud st (request.Apply actions) stays = refl
 lagging_loud st request.Sync stays = refl
 lagging_loud st (request.Undo bundle) stays = refl
+lagging_loud st (request.Rename table column new) stays = refl
 lagging_loud st (request.Fetch table) stays = refl
 lagging_loud st request.Close stays = refl
 
@@ -117,6 +120,7 @@ open_loud st h kept request.Gone stays = absurd (false≢true (sym stays))
 open_loud st h kept (request.Apply actions) stays = refused_loud h None st.document kept _
 open_loud st h kept request.Sync stays = refl
 open_loud st h kept (request.Undo bundle) stays = refused_loud h (Some bundle) st.document kept _
+open_loud st h kept (request.Rename table column new) stays = refused_loud h None st.document kept _
 open_loud st h kept (request.Fetch table) stays = shown_loud _
 open_loud st h kept request.Close stays = refl
 

@@ -490,7 +490,15 @@ fn answer_renaming<D: DocTables, K: Keeper>(
         return quiet(stay(alloc, sessions, index, verdict));
     }
     answer_bundle(
-        alloc, users, doc, tally, sessions, records, index, entry, &plan.actions,
+        alloc,
+        users,
+        doc,
+        tally,
+        sessions,
+        records,
+        index,
+        entry,
+        &plan.actions,
     )
 }
 

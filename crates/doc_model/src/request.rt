@@ -11,11 +11,19 @@ use cell_types::CellText;
 pub enum Request {
     Bad,
     TooLong,
-    Open { token: CellText },
-    Apply { actions: UserActionList },
-    Undo { bundle: u64 },
+    Open {
+        token: CellText,
+    },
+    Apply {
+        actions: UserActionList,
+    },
+    Undo {
+        bundle: u64,
+    },
     Sync,
-    Fetch { table: CellText },
+    Fetch {
+        table: CellText,
+    },
     /// A column is to have another id, and all formulas and rules that name it are to follow.
     Rename {
         table: CellText,

@@ -131,4 +131,5 @@ denial_told (Refused r None) = refused_whole r
 denial_told (Refused r (Some action)) = refused_told r action
 denial_told (Limited what bound None) = limited_whole what bound
 denial_told (Limited what bound (Some action)) = limited_told what bound action
+denial_told (Unresolved count) = refl
 denial_told (Denied action rule) = denied_told action rule

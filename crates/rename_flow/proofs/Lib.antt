@@ -1,3 +1,4 @@
 pub mod PartLemmas
 pub mod RuleTreeLemmas
+pub mod PlanReads
 pub mod WellFormedLemmas

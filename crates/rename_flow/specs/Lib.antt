@@ -7,3 +7,4 @@ pub mod ColumnParts
 pub mod RuleParts
 pub mod Plan
 pub mod RuleTextLaw
+pub mod PlanLaw

@@ -7,6 +7,7 @@
 //!
 //! Promises: `plan_rename` gives the plan that specs/Plan.antt says for each view and each three
 //! texts: user actions that are well formed, and a count of what cannot be resolved.
+//! `plan_reads_law`: a plan is told from the columns of a view, and from the rows of rules.
 //! `rewritten_rule_law`: the new text of a rule is the renamed formula.
 //! Not promised: that the actions are accepted, or that a rename with nothing unresolved keeps what
 //! formulas come to; the definitions are made for that.
@@ -25,7 +26,7 @@ mod shown_rules;
 mod text_change;
 
 pub use column_parts::Place;
-pub use laws::rewritten_rule_law;
+pub use laws::{plan_reads_law, rewritten_rule_law};
 pub use planning::plan_rename;
 pub use rename_plan::RenamePlan;
 pub use row_changes::RowChanges;

@@ -6,7 +6,9 @@ use Rattle.bundle_core.specs.Core.{marked}
 use Rattle.bundle_judge.specs.JudgedBundles.{IsJudgedBundle}
 use Rattle.bundle_judge.specs.Judgement.{judge}
 use Rattle.bundle_judge.specs.Rollback.{gone_back}
+use Rattle.bundle_core.specs.Judged.{Asks}
 use Rattle.bundle_core.specs.SessionState.{SessionState}
+use Rattle.bundle_core.specs.State.{Holder}
 use Rattle.bundle_core.specs.Turns.{IsTurn}
 use Rattle.bundle_core.proofs.JudgedLemmas.{judged_bundle}
 use Rattle.bundle_core.proofs.Prepared.{at_any}
@@ -22,7 +24,10 @@ answer_judged-requires-clause-judged g c =
     let X : SessionState → Type 0 = λ x. IsJudgedBundle (judge x.holder.user s c.args.actions.now) None s b in
     let T : Document → Type 0 = λ u. IsJudgedBundle (judge (get_or c.args.sessions.now.items c.args.index d).holder.user u c.args.actions.now) None u b in
     let at = at_any c.args.sessions.now.items c.args.index c.index.result.now d c.requires.finds.within c.index.ensures in
-    judged_bundle _ t c.args.entry.now.request c.args.actions.now b c.requires.asks
+    let h : Holder = (get_or c.args.sessions.now.items c.args.index d).holder in
+    let A : Document → Type 0 = λ u. Asks h u c.args.entry.now.request None (judge h.user u c.args.actions.now) in
+    let asks = subst (λ k. A (g.D.DocReader.document k)) (sym c.doc.view_is) (c.requires.asks d) in
+    judged_bundle h t c.args.entry.now.request c.args.actions.now b (subst A (sym c.in_ok-judged.ensures.back) asks)
     (subst T (sym c.in_ok-judged.ensures.back) (subst X (sym at) (subst Q c.user-user.ensures (subst P c.as_slice.ensures c.in_ok-judged.ensures.judged))))
 
 pub returns-clause-ok : goal.returns-clause-ok

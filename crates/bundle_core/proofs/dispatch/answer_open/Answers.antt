@@ -79,7 +79,7 @@ returns-in_default-request g c =
     let h = (get_or xs c.args.index d).holder in
     let quick : (get_or xs c.args.index d).lagging ≡ false = ap (λ (z : SessionState). z.lagging) (sym c.index.ensures) ∙ sym c.is_lagging.ensures ∙ c.if-is_lagging.false in
     let comes = comes_open users s xs c.args.index e c.requires.finds d _ quick
-    (λ z. code_sync (state_of s z) h true e.request (sym c.refusal_open.ensures ∙ c.in_default.is) c.requires.stays (λ actions is. c.in_default-request.not-Apply actions is) (λ number is. c.in_default-request.not-Undo number is) (λ table is. c.in_default-request.not-Fetch table is) c.in_default-request.not-Close) in
+    (λ z. code_sync (state_of s z) h true e.request (sym c.refusal_open.ensures ∙ c.in_default.is) c.requires.stays (λ actions is. c.in_default-request.not-Apply actions is) (λ number is. c.in_default-request.not-Undo number is) (λ table is. c.in_default-request.not-Fetch table is) (λ table column new is. c.in_default-request.not-Rename table column new is) c.in_default-request.not-Close) in
     let P : Turn → Type 0 = λ t. IsTurn users s s xs ys l l (marked c.args.entry.now t.kept) t.lines.items in
     record {
       ok = quiet_ok (λ v. let t : Turn = record { lines = v; kept = true } in t) P c.stay-in_default-request.result c.quiet-in_default-request.result c.quiet-in_default-request.ensures (IfOk-weaker c.stay-in_default-request.result _ _

@@ -3,13 +3,15 @@ use Rattle.std.proofs.Common.{◌≡◌, ◌∙◌, ap, refl, sym, ℕ, Bool, tr
 use Rattle.std.specs.Prelude.{bytes_eq, filter, is_some}
 use Rattle.std.specs.List.{AllByRecursion}
 use Rattle.std.proofs.lemmas.Bool.{or_left, or_right}
+use Rattle.std.proofs.lemmas.Slice.Eq.{bytes_eq-Decides}
 use Rattle.cell_types.specs.declared.value.CellValue.{CellValue}
 use Rattle.doc_model.specs.declared.view.ViewCol.{ViewCol}
 use Rattle.doc_model.specs.declared.view.ViewTable.{ViewTable}
 use Rattle.doc_model.specs.ByIds.{find_id}
 use Rattle.doc_model.specs.Changes.{shown_table_id}
-use Rattle.doc_model.specs.MetadataIds.{resources_id, rules_id}
+use Rattle.doc_model.specs.MetadataIds.{is_acl_id, resources_id, rules_id}
 use Rattle.doc_model.specs.ViewEdits.{shown_id}
+use Rattle.doc_model.proofs.ByIdsLaws.{bytes_itself}
 use Rattle.formula_records.specs.Recs.{Columns}
 use Rattle.formula_records.specs.ShownColumns.{as_column, columns_of, shown_column}
 use Rattle.rename_marks.specs.declared.column_rename.ColumnRename.{ColumnRename}
@@ -19,7 +21,7 @@ use Rattle.rename_flow.specs.ColumnParts.{column_parts, is_at, modified, parts_a
 use Rattle.rename_flow.specs.Changes.{formula_change}
 use Rattle.rename_flow.specs.Parts.{Part, count_where, with_parts}
 use Rattle.rename_flow.specs.Plan.{bare_plan, is_shown, is_table_word, name_parts, plan_of, rule_parts, whole_plan}
-use Rattle.rename_flow.specs.PlanLaw.{is_of_rules, with_rows}
+use Rattle.rename_flow.specs.PlanLaw.{with_rows}
 use Rattle.rename_flow.specs.RuleParts.{attributes_part, formulas_part, resources_part}
 use Rattle.rename_flow.specs.ShownRows.{ShownRow, rows_in}
 use Rattle.rename_flow.specs.ShownRules.{abouts_in, attributes_in, resource_rows, rule_rows}
@@ -73,25 +75,24 @@ module _ (rows : ViewTable → List ℕ) (cells : ViewTable → List (List CellV
   -- ---- rules
 
   Stays : ViewTable → Type 0
-  Stays w = is_of_rules w.id ≡ true → other w ≡ w
+  Stays w = is_acl_id w.id ≡ true → other w ≡ w
 
-  rows_same : (v : List ViewTable) (t : List ℕ) → ((w : ViewTable) → bytes_eq w.id t ≡ true → is_of_rules w.id ≡ true) → AllByRecursion Stays v
-      → rows_in (find_id shown_table_id t (map other v)) ≡ rows_in (find_id shown_table_id t v)
-  rows_same [] t own stays = refl
-  rows_same (w ∷ ws) t own stays = by (bytes_eq w.id t) refl
+  rows_same : (v : List ViewTable) (t : List ℕ) → is_acl_id t ≡ true → AllByRecursion Stays v → rows_in (find_id shown_table_id t (map other v)) ≡ rows_in (find_id shown_table_id t v)
+  rows_same [] t acl stays = refl
+  rows_same (w ∷ ws) t acl stays = by (bytes_eq w.id t) refl
     where
       by : (b : Bool) → bytes_eq w.id t ≡ b → rows_in (cond b (Some (other w)) (find_id shown_table_id t (map other ws))) ≡ rows_in (cond b (Some w) (find_id shown_table_id t ws))
-      by true is = ap (λ u. rows_in (Some u)) (stays.0 (own w is))
-      by false isnt = rows_same ws t own stays.1
+      by true is = ap (λ u. rows_in (Some u)) (stays.0 (ap is_acl_id ((bytes_eq-Decides w.id t).0 is) ∙ acl))
+      by false isnt = rows_same ws t acl stays.1
 
   -- ---- the whole
 
   module _ (v : List ViewTable) (r : ColumnRename) (stays : AllByRecursion Stays v) where
     resources_same : resource_rows (map other v) ≡ resource_rows v
-    resources_same = rows_same v resources_id (λ w is. or_left (bytes_eq w.id resources_id) (bytes_eq w.id rules_id) is) stays
+    resources_same = rows_same v resources_id (or_left (bytes_eq resources_id resources_id) (bytes_eq rules_id resources_id) (bytes_itself resources_id)) stays
 
     rules_same : rule_rows (map other v) ≡ rule_rows v
-    rules_same = rows_same v rules_id (λ w is. or_right (bytes_eq w.id resources_id) (bytes_eq w.id rules_id) is) stays
+    rules_same = rows_same v rules_id (or_right (bytes_eq resources_id rules_id) (bytes_eq rules_id rules_id) (bytes_itself rules_id)) stays
 
     rule_parts_same : rule_parts (map other v) r ≡ rule_parts v r
     rule_parts_same =

@@ -1,15 +1,11 @@
 -- What of a view the plan of a rename is told from.
-use Rattle.std.specs.Prelude.{ℕ, Bool, true, ◌||◌, List, map, bytes_eq, ◌≡◌}
+use Rattle.std.specs.Prelude.{ℕ, true, List, map, ◌≡◌}
 use Rattle.std.specs.List.{AllByRecursion}
 use Rattle.cell_types.specs.declared.value.CellValue.{CellValue}
 use Rattle.doc_model.specs.declared.view.ViewTable.{ViewTable}
-use Rattle.doc_model.specs.MetadataIds.{resources_id, rules_id}
+use Rattle.doc_model.specs.MetadataIds.{is_acl_id}
 use Rattle.rename_marks.specs.declared.column_rename.ColumnRename.{ColumnRename}
 use Rattle.rename_flow.specs.Plan.{plan_of}
-
--- whether it is a table of rules or of what they are about
-abbrev pub is_of_rules : List ℕ → Bool
-is_of_rules t = bytes_eq t resources_id || bytes_eq t rules_id
 
 -- a table with other rows under its columns
 abbrev pub with_rows : (ViewTable → List ℕ) → (ViewTable → List (List CellValue)) → ViewTable
@@ -22,5 +18,5 @@ abbrev pub PlanReadsLaw : Type 0
 PlanReadsLaw =
     (rows : ViewTable → List ℕ) (cells : ViewTable → List (List CellValue)) (v : List ViewTable)
     (r : ColumnRename)
-    → AllByRecursion (λ w. is_of_rules w.id ≡ true → with_rows rows cells w ≡ w) v
+    → AllByRecursion (λ w. is_acl_id w.id ≡ true → with_rows rows cells w ≡ w) v
     → plan_of (map (with_rows rows cells) v) r ≡ plan_of v r

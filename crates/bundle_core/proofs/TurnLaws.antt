@@ -1,7 +1,6 @@
 -- What an entry makes of the document and of logs.
-use Rattle.std.proofs.Common.{ℕ, zero, suc, ◌+◌, ◌≡◌, Bool, true, false, cond, List, length, nat_le, Option, Some, None, inl, inr, refl, sym, ap, subst, ◌∙◌, option_map, if◌then◌else◌}
-use Rattle.std.proofs.lemmas.Bool.{and_from, false≢true, true≢false}
-use Rattle.std.specs.List.{list_all}
+use Rattle.std.proofs.Common.{ℕ, ◌+◌, ◌≡◌, Bool, true, false, cond, List, length, nat_le, Option, Some, None, inl, inr, refl, sym, ap, subst, ◌∙◌, option_map, if◌then◌else◌}
+use Rattle.std.proofs.lemmas.Bool.{false≢true, true≢false}
 use Rattle.std.proofs.lemmas.Slice.Eq.{bytes_eq-Decides}
 use Rattle.std.specs.Str.{bytes_eq}
 use Rattle.doc_model.specs.declared.action.Step.{Step}
@@ -14,7 +13,6 @@ use Rattle.doc_model.specs.declared.user.User.{User}
 use Rattle.doc_model.specs.declared.view.ViewTable.{ViewTable}
 use Rattle.doc_model.specs.ByIds.{find_id}
 use Rattle.doc_model.specs.Document.{Document}
-use Rattle.doc_model.specs.WellFormed.{is_well_formed}
 use Rattle.doc_model.proofs.ByIdsLaws.{bytes_itself, find-put_by_id, find-without_id}
 use Rattle.undo_bundles.specs.BundleLog.{Log, count, empty_log, marked, noted, undo_of}
 use Rattle.undo_bundles.specs.InverseSteps.{inverse_steps}
@@ -24,12 +22,9 @@ use Rattle.bundle_judge.specs.Judgement.{Judgement, accepted, refused, judge}
 use Rattle.bundle_core.specs.Mailbox.{Mailbox, Outcome, shows_view, says, own}
 use Rattle.bundle_core.specs.State.{Holder, Open, State, Verdicts, answered, bundle_of, from_closed, from_lagging, from_open, mailbox_of, opened, posted_all, posted_to, refusal, session_bound, session_name, session_of, step, turn_of, user_of, verdicts, with_session}
 use Rattle.bundle_judge.specs.Undo.{judge_own_undo}
-use Rattle.bundle_core.specs.Renaming.{judge_plan, judge_renaming, planned}
-use Rattle.bundle_core.specs.UndoLaw.{asks_so, may_be_asked, number_told}
-use Rattle.rename_flow.specs.declared.rename_plan.RenamePlan.{RenamePlan}
-use Rattle.rename_flow.specs.declared.row_changes.RowChanges.{RowChanges}
-use Rattle.rename_flow.specs.RuleParts.{update_of}
-use Rattle.rename_flow.proofs.WellFormedLemmas.{AreEven, plan_all, update_well_formed}
+use Rattle.bundle_core.specs.Renaming.{judge_renaming, planned}
+use Rattle.bundle_core.specs.UndoLaw.{asks_so, number_told}
+use Rattle.bundle_core.proofs.RenamingLemmas.{planned_formed, renaming_done}
 use Rattle.rule_contexts.specs.Context.{view}
 use Rattle.bundle_core.proofs.SessionLaws.{find-posted_all, find-with_session, posted_in}
 use Rattle.bundle_core.proofs.DoneBundles.{AreDone, BundlesAreDone, IsDone, IsFine, IsKept, done_own}
@@ -78,26 +73,6 @@ bundle_turn h (Some n) s r true (accepted t steps ms) d = record {
     noted_then = refl;
   };
 }
-
--- ---- renamings
-
-may_update : (column : List ℕ) (g : RowChanges) → AreEven g → may_be_asked (update_of column g) ≡ true
-may_update column g h = and_from (is_well_formed (update_of column g)) true (update_well_formed column g h) refl
-
--- what is planned may be asked for
-planned_formed : (user : User) (s : Document) (table column new : List ℕ) → list_all may_be_asked (planned user s table column new).actions ≡ true
-planned_formed user s table column new =
-    plan_all may_be_asked (λ t old n. refl) (λ t c. refl) may_update (view user s) (record { table = table; old = column; new = new })
-
-renaming_done : BundlesAreDone → (user : User) (s : Document) (p : RenamePlan) → IsFine s → list_all may_be_asked p.actions ≡ true → IsDone s (judge_plan user s p)
-renaming_done done user s p fine may =
-    elim p.unresolved as (λ n. IsDone s (elim n as (λ _. Judgement) [
-      | zero ↦ judge user s p.actions
-      | suc m ↦ refused (verdict.Unresolved (suc m))
-    ])) [
-      | zero ↦ done user s p.actions fine may
-      | suc m ↦ tt
-    ]
 
 open_turn : BundlesAreDone → (st : State) (h : Holder) (kept : Bool) (r : Request) → IsTurn st.document h.log r (from_open st h kept r)
 open_turn done st h kept (request.Apply actions) =

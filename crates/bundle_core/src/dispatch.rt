@@ -442,7 +442,7 @@ fn plan_for<D: DocTables>(
         (λ p. p ≡ planned user.now (D.document doc.now) table.now column.now new.now) }
     ensures well_formed { IfOk result (λ p. list_all is_well_formed p.actions ≡ true) }
 {
-    let seen = doc.view_seen(alloc, user)?;
+    let seen = doc.columns_seen(alloc, user)?;
     plan_rename(alloc, &seen, table, column, new)
 }
 

@@ -14,6 +14,7 @@ ghost use Rattle.bundle_judge.specs.Undo.{judge_own_undo};
 ghost use Rattle.context_changes.specs.Known.{AreKnown};
 ghost use Rattle.rule_contexts.specs.Context.{view, view_in};
 ghost use Rattle.bundle_core.specs.Mailbox.{asked_table};
+ghost use Rattle.bundle_core.specs.Renaming.{rules_alone};
 
 use acl_reading::RuleReading;
 use acl_rules::Ctx;
@@ -23,6 +24,7 @@ use cell_types::Name;
 use censored_view::{Selection, part, whole_view};
 use context_changes::KnownContexts;
 use doc_model::{DocTables, User, UserAction, View};
+use doc_readers::is_acl_id;
 use evaluated_doc::Doc;
 use std::alloc::{AllocError, Global};
 use std::marker::Model;
@@ -75,6 +77,34 @@ impl Selection for Asked<'_> {
     }
 }
 
+// All tables, with the rows of the two tables of rules alone.
+#[derive(Drop)]
+struct RuleRows;
+
+impl Selection for RuleRows {
+    ghost use Rattle.std.specs.Prelude.{true};
+    ghost use Rattle.doc_model.specs.MetadataIds.{is_acl_id};
+
+    ghost takes = { λ _ table. true };
+
+    ghost takes_row = { λ _ table row. is_acl_id table };
+
+    fn takes_table(&self, _table: &Name) -> bool {
+        true
+    }
+
+    fn rows_taken(
+        &self,
+        alloc: Global,
+        table: &Name,
+        rows: &[u32],
+    ) -> Result<Vec<u32>, AllocError> {
+        let taken = if is_acl_id(table.as_str()) { rows } else { &[] };
+        let taken = Vec::from_slice(alloc, taken)?;
+        Ok(taken)
+    }
+}
+
 // What a context shows of the document.
 #[tactic(auto, using(recalc::proofs::FilledLaws::laid_out_law))]
 fn view_in<D: DocTables>(alloc: Global, doc: &Doc<D>, ctx: &Ctx) -> Result<View, AllocError>
@@ -99,6 +129,16 @@ fn table_in<D: DocTables>(
     ensures is_view { IfOk result (λ v. IsView v.tables) }
 {
     part(alloc, &RuleReading { ctx }, doc, &Asked { table })
+}
+
+// What a context shows of the document, of which no rows are made but those of rules.
+#[tactic(auto, using(recalc::proofs::FilledLaws::laid_out_law))]
+fn columns_in<D: DocTables>(alloc: Global, doc: &Doc<D>, ctx: &Ctx) -> Result<View, AllocError>
+    requires { IsWhole (D.document doc.now) }
+    ensures { IfOk result (λ v. v.tables
+        ≡ rules_alone (view_in ctx.now (D.document doc.now))) }
+{
+    part(alloc, &RuleReading { ctx }, doc, &RuleRows)
 }
 
 impl<D: DocTables> RuledDocument<D> {
@@ -127,6 +167,16 @@ impl<D: DocTables> RuledDocument<D> {
     {
         let found = self.known.found(alloc, &self.doc, user)?;
         view_in(alloc, &self.doc, found.context())
+    }
+
+    /// The tables and columns that the user sees now, with no rows but those of rules.
+    pub fn columns_seen(&self, alloc: Global, user: &User) -> Result<View, AllocError>
+        requires { IsWhole (D.document self.now) }
+        ensures { IfOk result (λ v. v.tables
+            ≡ rules_alone (view user.now (D.document self.now))) }
+    {
+        let found = self.known.found(alloc, &self.doc, user)?;
+        columns_in(alloc, &self.doc, found.context())
     }
 
     /// The table of that id as the user sees it now, alone; nothing where the user does not see it.

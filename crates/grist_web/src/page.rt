@@ -370,6 +370,7 @@ function words(e) {
   const rule = e.rule ? " (rule " + e.rule + ")" : "";
   if (e.code === 20) return (e.memo ? "Not allowed: " + e.memo : "You may not do this.") + rule;
   if (e.code === 15) return "Too many: at most " + e.bound.toLocaleString() + " " + e.what + ".";
+  if (e.code === 22) return "Not renamed: of " + e.count + " places it cannot be told whether they mean it.";
   return texts[e.code] || "Refused: " + e.name + ".";
 }
 let silence = 0;
@@ -672,15 +673,15 @@ sheet.addEventListener("keydown", e => {
 });
 
 // ---- Changes. What is undone is a bundle too, so it is taken back in the same way.
-function apply(actions, then, cells) {
+function commit(request, then, cells) {
   if (!open) return tell("There is no connection just now.", true);
-  ask({ actions, method: "applyUserActions" }, ok => {
-    done.push(ok.bundle);
-    if (done.length > 100) done.shift();
+  ask(request, ok => {
+    if (done.push(ok.bundle) > 100) done.shift();
     undone = []; then?.(ok.retValues);
   }, cells);
   paint();
 }
+function apply(actions, then, cells) { commit({ actions, method: "applyUserActions" }, then, cells); }
 function back(from, onto, text) {
   const bundle = open ? from.pop() : undefined;
   if (bundle === undefined) return tell("There is nothing to " + text + ".");
@@ -827,15 +828,14 @@ function columnPanel(id) {
   const ids = columns.map(it => it.id), order = ids => { kept.set("order/" + shown, ids); shapes.clear(); paint(); };
   const move = by => { ids.splice(Math.max(0, where + by), 0, ...ids.splice(where, 1)); order(ids); };
   function save() {
-    const info = { type: type.value }, actions = [];
+    const info = { type: type.value };
     if (formula.value !== (c?.formula ?? "") && !formula.disabled)
       Object.assign(info, { formula: formula.value, isFormula: formula.value !== "" });
     if (!c) return apply([["AddColumn", shown, name.value, info]], ([made]) => order([...ids, made]));
     if (info.type === c.type) delete info.type;
-    if (Object.keys(info).length) actions.push(["ModifyColumn", shown, id, info]);
-    if (name.value !== id) actions.push(["RenameColumn", shown, id, name.value]);
-    if (actions.length) apply(actions, made => name.value !== id
-      && order(ids.map(it => (it === id && typeof made.at(-1) === "string" ? made.at(-1) : it))));
+    const rename = name.value === id ? null : () => commit({ column: id, method: "renameColumn",
+      new: name.value, table: shown }, ([made]) => order(ids.map(it => (it === id ? made ?? it : it))));
+    Object.keys(info).length ? apply([["ModifyColumn", shown, id, info]], rename) : rename?.();
   }
   panel(c ? "Column " + id : "A new column of " + shown, [field("Name", name),
     field("Type", type), field("Formula", formula, formula.disabled ? "It is hidden from you."

@@ -47,7 +47,8 @@ class Maker:
         pick = self.random.choice
         own = [{"id": "K", "type": pick(["Int", "Text"])}, {"id": "N", "type": "Int"}, {"id": "R", "type": "Ref:T"}]
         more = self.random.sample(FORMULAS, self.random.randrange(2, 6))
-        own += [{"formula": self.named(text), "id": f"F{at}", "type": pick(["Any", "Int"])} for at, text in enumerate(more)]
+        own += [{"formula": self.named(text), "id": f"F{at}", "type": pick(["Any", "Int"])}
+                for at, text in enumerate(more)]
         if self.random.random() < 0.3:
             text = self.named(pick(FORMULAS_OF_ANY))
             own += [{"formula": text, "id": "X", "type": pick(["Any", "Ref:T"])},
@@ -75,7 +76,8 @@ class Maker:
             actions.append(["AddRecord", "_grist_ACLRules", None, {"userAttributes": json.dumps(attribute)}])
         for _ in range(self.random.randrange(0, 4)):
             actions.append(["AddRecord", "_grist_ACLRules", None, {
-                "aclFormula": self.named(self.random.choice(RULES)),
+                # The owner sees everything, and so can rename whatever others do not see.
+                "aclFormula": f"user.Access != OWNER and ({self.named(self.random.choice(RULES))})",
                 "permissionsText": self.random.choice(["-R", "-U", "+R-U", "-UD", "all", "-CRUD"]),
                 "resource": self.random.choice([1, 1, 2, 3, 4])}])
         yield bundle(*actions)
@@ -126,9 +128,10 @@ def view(reply):
 
 def renamed(tables, table, old, new):
     """The view under the new name."""
-    if old in tables.get(table, {}):
-        tables = dict(tables, **{table: {new if column == old else column: told for column, told in tables[table].items()}})
-    return tables
+    if old not in tables.get(table, {}):
+        return tables
+    columns = {new if column == old else column: told for column, told in tables[table].items()}
+    return dict(tables, **{table: columns})
 
 
 def looks(number):

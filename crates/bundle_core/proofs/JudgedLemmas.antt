@@ -50,7 +50,7 @@ asks_renaming h s r table column new p is plan = record {
   actions = ap (actions_asked h s) is ∙ ap (λ q. actions_of (judge_plan h.user s q)) (sym plan);
 }
 
-plan_judged : (user : User) (s : Document) (actions : List UserAction) (count : ℕ) → count ≡ 0 → judge_plan user s (record { actions = actions; unresolved = count }) ≡ judge user s actions
+pub plan_judged : (user : User) (s : Document) (actions : List UserAction) (count : ℕ) → count ≡ 0 → judge_plan user s (record { actions = actions; unresolved = count }) ≡ judge user s actions
 plan_judged user s actions zero none = refl
 plan_judged user s actions (suc n) none = let never : ⊥ = cc none in absurd never
 

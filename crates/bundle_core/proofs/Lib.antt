@@ -8,6 +8,7 @@ pub mod Indexes
 pub mod Prepared
 pub mod Readied
 pub mod JudgedLemmas
+pub mod RenamingLaws
 pub mod RenamingLemmas
 pub mod SessionLaws
 pub mod Spots

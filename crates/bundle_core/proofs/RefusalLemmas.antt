@@ -52,15 +52,15 @@ refused_for x s i a w at h = objected i (objection_to (view_in x s) a) (over (af
 
 -- ---- the actions behind it
 
-same_refusal : (v w : BareVerdict) → refused v ≡ refused w → v ≡ w
+pub same_refusal : (v w : BareVerdict) → refused v ≡ refused w → v ≡ w
 same_refusal v w h = cc
 
-before_refused : (xs : List Step) (ms : List Created) (j : Judgement) (v : BareVerdict) → with_before xs ms j ≡ refused v → j ≡ refused v
+pub before_refused : (xs : List Step) (ms : List Created) (j : Judgement) (v : BareVerdict) → with_before xs ms j ≡ refused v → j ≡ refused v
 before_refused xs ms (accepted s steps later) v h = cc
 before_refused xs ms (refused w) v h = h
 
 -- the judgement of actions, by what refuses the first
-abbrev judged : Ctx → Document → ℕ → UserAction → List UserAction → Option BareVerdict → Judgement
+abbrev pub judged : Ctx → Document → ℕ → UserAction → List UserAction → Option BareVerdict → Judgement
 judged x s i a as' o =
     elim o [
       | Some v ↦ refused v
@@ -102,10 +102,10 @@ first_objected x s a as' w is = ap (λ o. judged x s 0 a as' (or_else (opposed 0
 
 -- ---- a bundle
 
-abbrev too_many : Judgement
+abbrev pub too_many : Judgement
 too_many = refused (Limited Actions (bound_of Actions) (Some (bound_of Actions)))
 
-abbrev has_many : List UserAction → Bool
+abbrev pub has_many : List UserAction → Bool
 has_many as' = nat_lt (bound_of Actions) (length as')
 
 judge_refused : (user : User) (s : Document) (as' : List UserAction) (w : Refusal) → judge user s as' ≡ refused (Refused w (Some 0)) → first_objection (view user s) as' ≡ Some w

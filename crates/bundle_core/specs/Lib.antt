@@ -21,3 +21,4 @@ pub mod KeptCore
 pub mod Turns
 pub mod Loading
 pub mod Replies
+pub mod RenamingLaw

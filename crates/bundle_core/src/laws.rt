@@ -2,6 +2,7 @@
 
 ghost use Rattle.bundle_core.specs.MadeLines.{MadeLineLaw};
 ghost use Rattle.bundle_core.specs.RefusalLaw.{ObjectionLaw, RefusalLaw};
+ghost use Rattle.bundle_core.specs.RenamingLaw.{ResolvedLaw, UnresolvedLaw};
 ghost use Rattle.bundle_core.specs.Told.{EqualBytesLaw, IsolationLaw};
 ghost use Rattle.bundle_core.specs.UndoLaw.{LimitsLeaveFewIds, NewDocumentHasFewIds, UndoLaw};
 
@@ -37,6 +38,14 @@ pub fn undo_law()
 pub fn refusal_law()
     ensures objection { ObjectionLaw }
     ensures same { RefusalLaw }
+{}
+
+/// A renaming is refused for what is unresolved in its plan exactly where the plan, by what its
+/// session's user sees, counts something; else it comes to what the bundle of the planned actions
+/// comes to, in every state.
+pub fn renaming_law()
+    ensures unresolved { UnresolvedLaw }
+    ensures resolved { ResolvedLaw }
 {}
 
 /// How many lines were made for a session is counted as they are made, in every state.

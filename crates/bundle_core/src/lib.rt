@@ -20,6 +20,8 @@
 //! `undo_law`: where no other bundle was accepted since, an undo of a session's bundle is never
 //! stale, and where it is accepted the document is that before the bundle. `refusal_law`: a bundle
 //! is refused for its first action by what its session's user sees, and by nothing else.
+//! `renaming_law`: a renaming is refused for what its plan, made of what its session's user sees,
+//! leaves unresolved, and else answered as the bundle of its planned actions.
 //! `made_line_law`: how many lines were made for a session is counted as they are made
 //! (specs/MadeLines.antt); `Core::line_made` hands out the one that the last entry made. What a
 //! core is asked and answers as a machine that threads step in turn is said by histories alone
@@ -54,6 +56,8 @@ mod turns;
 pub use history_core::{
     Answer, Core, Finished, LineList, MAX_ENTRIES, MAX_HISTORY_BYTES, StartFault, is_gone,
 };
-pub use laws::{equal_bytes_law, isolation_law, made_line_law, refusal_law, undo_law};
+pub use laws::{
+    equal_bytes_law, isolation_law, made_line_law, refusal_law, renaming_law, undo_law,
+};
 pub use machine::{CoreOpening, Event, Given};
 pub use session::{MAX_WAITING_BYTES, MAX_WAITING_LINES};

@@ -132,6 +132,11 @@ static ANSWERED: [&str; 4] = [
 > {"line":{"actions":[["AddColumn","V","L",{"formula":"$L"}]],"method":"applyUserActions"},"session":"s1"}
 < {"line":{"actions":[["AddColumn","V","L",{"formula":"$L","isFormula":true,"type":"Any"}],["BulkUpdateRecord","V",[1,2],{"L":[["E","CircularRefError"],["E","CircularRefError"]]}]],"seq":12},"session":"s1"}
 < {"line":{"ok":{"bundle":14,"retValues":["L"]}},"session":"s1"}
+> {"line":{"column":"N","method":"renameColumn","new":"all","table":"P"},"session":"s1"}
+< {"line":{"error":{"code":22,"count":1,"name":"Unresolved"}},"session":"s1"}
+> {"line":{"column":"N","method":"renameColumn","new":"M","table":"P"},"session":"s1"}
+< {"line":{"actions":[["RemoveColumn","P","N"],["AddColumn","P","M",{"formula":"","isFormula":false,"type":"Int"}],["BulkUpdateRecord","P",[1,2],{"M":[8,3]}],["ModifyColumn","V","D",{"formula":"$R.M * 2","isFormula":true,"type":"Int"}]],"seq":13},"session":"s1"}
+< {"line":{"ok":{"bundle":15,"retValues":["M",null]}},"session":"s1"}
 > {"line":{"method":"closeDoc"},"session":"s1"}
 < {"line":{"ok":null},"session":"s1"}
 > {"line":{"method":"closeDoc"},"session":"s1"}

@@ -17,6 +17,8 @@ const REQUESTS: &str = concat!(
 {"method":"fetchTable","table":"Table1"} => Fetch { table: CellText { shared: Some("Table1") } }
 {"table":"no name", "method":"fetchTable"} => Fetch { table: CellText { shared: Some("no name") "#,
     r#"} }
+{"column":"K","method":"renameColumn","new":"1x","table":""} => Rename { table: CellText { "#,
+    r#"shared: None }, column: CellText { shared: Some("K") }, new: CellText { shared: Some("1x") } }
 {"bundle":0,"method":"undo"} => Undo { bundle: 0 }
 {"method":"undo","bundle":9223372036854775807} => Undo { bundle: 9223372036854775807 }
 {"actions":[],"method":"applyUserActions"} => Apply { actions: Sequence { items: [] } }
@@ -41,6 +43,9 @@ const NO_REQUESTS: &str = r#"
 {"method":"fetchTable","table":null}
 {"method":"fetchTable","table":"Table1","x":1}
 {"method":"fetchTable","token":"ta"}
+{"column":"K","method":"renameColumn","new":5,"table":"T"}
+{"column":"K","method":"renameColumn","new":"L"}
+{"column":"K","method":"renameColumn","new":"L","table":"T","x":1}
 {"method":"openDoc","table":"Table1"}
 {"method":"sync"} x
 {"method":"openDoc","token":"t","x":1e999}
@@ -391,6 +396,7 @@ enum Reply {
     NoChanges,
     Bundle,
     Undone,
+    Unresolved,
     Refused(Refusal, Option<u32>),
     Limited,
     Denied,
@@ -432,6 +438,7 @@ fn verdict_of(alloc: Global, reply: Reply) -> Result<Verdict, AllocError> {
             values: bundle_values(alloc)?,
         }),
         Reply::Undone => Ok(Verdict::Undone { number: 4 }),
+        Reply::Unresolved => Ok(Verdict::Unresolved { count: 7 }),
         Reply::Refused(refusal, action) => Ok(Verdict::Refused { refusal, action }),
         Reply::Limited => Ok(Verdict::Limited {
             what: LimitKind::RowId,
@@ -473,7 +480,7 @@ fn printed_replies(rt: HostRuntime) {
     }
 }
 
-static REFUSALS: [(Reply, &str); 6] = [
+static REFUSALS: [(Reply, &str); 7] = [
     (
         Reply::Refused(Refusal::BadLine, None),
         r#"{"error":{"code":1,"name":"BadLine"}}"#,
@@ -493,6 +500,10 @@ static REFUSALS: [(Reply, &str); 6] = [
     (
         Reply::Limited,
         r#"{"error":{"action":2,"bound":4294967295,"code":15,"name":"Limit","what":"rowId"}}"#,
+    ),
+    (
+        Reply::Unresolved,
+        r#"{"error":{"code":22,"count":7,"name":"Unresolved"}}"#,
     ),
     (
         Reply::Denied,

@@ -1,5 +1,5 @@
 -- The plan of a rename does not see rows of other tables than those of rules.
-use Rattle.std.proofs.Common.{◌≡◌, ◌∙◌, ap, refl, sym, ℕ, Bool, true, false, ◌||◌, cond, List, [], ◌∷◌, ◌++◌, map, Option, Some, None, option_map}
+use Rattle.std.proofs.Common.{◌≡◌, ◌∙◌, ap, refl, ℕ, Bool, true, false, cond, List, [], ◌∷◌, ◌++◌, map, Option, Some, None, option_map}
 use Rattle.std.specs.Prelude.{bytes_eq, filter, is_some}
 use Rattle.std.specs.List.{AllByRecursion}
 use Rattle.std.proofs.lemmas.Bool.{or_left, or_right}
@@ -16,11 +16,10 @@ use Rattle.formula_records.specs.Recs.{Columns}
 use Rattle.formula_records.specs.ShownColumns.{as_column, columns_of, shown_column}
 use Rattle.rename_marks.specs.declared.column_rename.ColumnRename.{ColumnRename}
 use Rattle.rename_flow.specs.declared.column_parts.Place.TheVariants as place
-use Rattle.rename_flow.specs.declared.rename_plan.RenamePlan.{RenamePlan}
-use Rattle.rename_flow.specs.ColumnParts.{column_parts, is_at, modified, parts_at, parts_each, table_parts, type_part}
+use Rattle.rename_flow.specs.ColumnParts.{column_parts, is_at, modified, parts_each, table_parts, type_part}
 use Rattle.rename_flow.specs.Changes.{formula_change}
 use Rattle.rename_flow.specs.Parts.{Part, count_where, with_parts}
-use Rattle.rename_flow.specs.Plan.{bare_plan, is_shown, is_table_word, name_parts, plan_of, rule_parts, whole_plan}
+use Rattle.rename_flow.specs.Plan.{bare_plan, is_shown, is_table_word, plan_of, rule_parts, whole_plan}
 use Rattle.rename_flow.specs.PlanLaw.{with_rows}
 use Rattle.rename_flow.specs.RuleParts.{attributes_part, formulas_part, resources_part}
 use Rattle.rename_flow.specs.ShownRows.{ShownRow, rows_in}
@@ -35,12 +34,17 @@ module _ (rows : ViewTable → List ℕ) (cells : ViewTable → List (List CellV
 
   found_same : (v : List ViewTable) (t n : List ℕ) → shown_column (map other v) t n ≡ shown_column v t n
   found_same [] t n = refl
-  found_same (w ∷ ws) t n = by (bytes_eq w.id t)
-    where
-      by : (b : Bool) → (elim (cond b (Some (other w)) (find_id shown_table_id t (map other ws))) as (λ _. Option ViewCol) [ None ↦ None | Some u ↦ find_id shown_id n u.columns ])
-          ≡ (elim (cond b (Some w) (find_id shown_table_id t ws)) as (λ _. Option ViewCol) [ None ↦ None | Some u ↦ find_id shown_id n u.columns ])
-      by true = refl
-      by false = found_same ws t n
+  found_same (w ∷ ws) t n =
+      elim (bytes_eq w.id t) as (λ b. (elim (cond b (Some (other w)) (find_id shown_table_id t (map other ws))) as (λ _. Option ViewCol) [
+        | None ↦ None
+        | Some u ↦ find_id shown_id n u.columns
+      ]) ≡ (elim (cond b (Some w) (find_id shown_table_id t ws)) as (λ _. Option ViewCol) [
+        | None ↦ None
+        | Some u ↦ find_id shown_id n u.columns
+      ])) [
+        | true ↦ refl
+        | false ↦ found_same ws t n
+      ]
 
   columns_same : (v : List ViewTable) → ◌≡◌ {A = Columns} (columns_of (map other v)) (columns_of v)
   columns_same v = λ j t n. option_map as_column (found_same v t n j)
@@ -74,16 +78,16 @@ module _ (rows : ViewTable → List ℕ) (cells : ViewTable → List (List CellV
 
   -- ---- rules
 
-  Stays : ViewTable → Type 0
+  abbrev Stays : ViewTable → Type 0
   Stays w = is_acl_id w.id ≡ true → other w ≡ w
 
   rows_same : (v : List ViewTable) (t : List ℕ) → is_acl_id t ≡ true → AllByRecursion Stays v → rows_in (find_id shown_table_id t (map other v)) ≡ rows_in (find_id shown_table_id t v)
   rows_same [] t acl stays = refl
-  rows_same (w ∷ ws) t acl stays = by (bytes_eq w.id t) refl
-    where
-      by : (b : Bool) → bytes_eq w.id t ≡ b → rows_in (cond b (Some (other w)) (find_id shown_table_id t (map other ws))) ≡ rows_in (cond b (Some w) (find_id shown_table_id t ws))
-      by true is = ap (λ u. rows_in (Some u)) (stays.0 (ap is_acl_id ((bytes_eq-Decides w.id t).0 is) ∙ acl))
-      by false isnt = rows_same ws t acl stays.1
+  rows_same (w ∷ ws) t acl stays =
+      elim (bytes_eq w.id t) as (λ b. bytes_eq w.id t ≡ b → rows_in (cond b (Some (other w)) (find_id shown_table_id t (map other ws))) ≡ rows_in (cond b (Some w) (find_id shown_table_id t ws))) [
+        | true ↦ λ is. ap (λ u. rows_in (Some u)) (stays.0 (ap is_acl_id ((bytes_eq-Decides w.id t).0 is) ∙ acl))
+        | false ↦ λ isnt. rows_same ws t acl stays.1
+      ] refl
 
   -- ---- the whole
 

@@ -3,7 +3,7 @@ use Rattle.std.proofs.Common.{◌≡◌, ℕ, ◌<◌, ◌≤◌, List, length, 
 use Rattle.io_edges.specs.Lines.{kept_of}
 use Rattle.io_edges.proofs.LineLemmas.{kept_of-whole, length-kept_of}
 use Rattle.doc_model.specs.declared.request.Request.{Request}
-use Rattle.doc_model.specs.declared.request.Request.TheVariants.{Bad, TooLong, Open, Apply, Undo, Sync, Fetch, Close, Gone}
+use Rattle.doc_model.specs.declared.request.Request.TheVariants.{Bad, TooLong, Open, Apply, Undo, Sync, Fetch, Rename, Close, Gone}
 use Rattle.grist_json.specs.Requests.{Spells}
 use Rattle.bundle_core.specs.Core.{is_gone}
 use Rattle.grist_serve.specs.Requests.{is_long, line_entries}
@@ -40,5 +40,6 @@ stays_open (Apply actions) text s = refl
 stays_open (Undo bundle) text s = refl
 stays_open Sync text s = refl
 stays_open (Fetch table) text s = refl
+stays_open (Rename table column new) text s = refl
 stays_open Close text s = refl
 stays_open Gone text s = absurd s.2

@@ -99,9 +99,11 @@ impl Selection for RuleRows {
         table: &Name,
         rows: &[u32],
     ) -> Result<Vec<u32>, AllocError> {
-        let taken = if is_acl_id(table.as_str()) { rows } else { &[] };
-        let taken = Vec::from_slice(alloc, taken)?;
-        Ok(taken)
+        if !is_acl_id(table.as_str()) {
+            return Ok(Vec::new(alloc));
+        }
+        let all = Vec::from_slice(alloc, rows)?;
+        Ok(all)
     }
 }
 

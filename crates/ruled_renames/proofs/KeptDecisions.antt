@@ -1,0 +1,24 @@
+-- Plans keep what rules decide.
+use Rattle.acl_rules.specs.Loaded.{book_of}
+use Rattle.doc_model.specs.declared.view.ViewTable.{ViewTable}
+use Rattle.doc_model.specs.Document.{Document}
+use Rattle.formula_records.specs.ShownColumns.{columns_of}
+use Rattle.planned_renames.specs.PlannedValues.{PlannedValuesLaw, renames, rewriting}
+use Rattle.recalc.specs.Evaluated.{filled}
+use Rattle.rename_flow.specs.ShownRules.{attributes_in, rule_rows}
+use Rattle.rename_marks.specs.declared.column_rename.ColumnRename.{ColumnRename}
+use Rattle.renamed_rules.specs.Decisions.{RenamedDecisionLaw}
+use Rattle.renamed_rules.specs.FollowingRows.{FollowingRowsLaw}
+use Rattle.renamed_rules.specs.RenamedCells.{MovedFillingLaw}
+use Rattle.user_attrs.specs.Attributes.{attributes_of}
+use Rattle.ruled_renames.specs.PlannedRules.{PlannedRowsLaw, PlannedRulesLaw, after_plan}
+
+pub keeps_rules : PlannedRowsLaw → FollowingRowsLaw → PlannedValuesLaw → MovedFillingLaw → RenamedDecisionLaw → PlannedRulesLaw
+keeps_rules rows following values moves decides v m s h g =
+    let s' : Document = after_plan v m s in
+    let follow = following m (attributes_in (rule_rows v)) s s' (rows v m s h g) in
+    let moved' = moves m (renames v m) (rewriting v m) (columns_of v) s s' (values v m s h) in
+    record {
+      decisions = λ user p t c r q plain kept. decides m (rewriting v m) (filled s) (filled s') (attributes_of s) (attributes_of s') (book_of s) (book_of s') moved' follow user p t c r q plain kept;
+      attributes = follow.attributes;
+    }

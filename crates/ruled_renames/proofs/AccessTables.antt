@@ -49,7 +49,7 @@ use Rattle.user_actions.specs.Modified.{emptied, filled, modified_to, same_info}
 use Rattle.user_actions.specs.StepLaws.{action_of}
 use Rattle.user_actions.specs.Steps.{fitted, row_ids, steps_of, type_in}
 use Rattle.user_actions.proofs.ResourceLemmas.{find_resources, grid_resources}
-use Rattle.ruled_renames.proofs.ShownRowLemmas.{all_rows, all_texts, rows_asked, text_for, texts_asked, values_put}
+use Rattle.ruled_renames.proofs.ShownRowLemmas.{all_rows, all_texts, rows_asked, text_for, texts_asked, texts_before, values_put}
 use Rattle.ruled_renames.proofs.UpdatedCells.{Puts, cell_in, puts_none, puts_same, updated_cells}
 
 -- ---- the tables in a whole document
@@ -239,16 +239,16 @@ resources_put d whole (q ∷ rows) k b v = record {
 pub record PutsRules (k : CellColumn) (rows : List ℕ) (d d' : Document) : Type 0 where
   pub puts : Puts k.id (value_for rows k.values) (rules d) (rules d')
   pub resources_same : resources d' ≡ resources d
-  pub from_one : from_one rows ≡ true
+  pub positive : from_one rows ≡ true
 
 pub rules_put : (d : Document) → IsWhole d → (rows : List ℕ) (k : CellColumn) (b : Bool) → all_valid d (map action_of (if_any rows (update_step rules_id rows k b))) ≡ true
     → PutsRules k rows d (apply_all d (map action_of (if_any rows (update_step rules_id rows k b))))
-rules_put d whole [] k b v = record { puts = puts_none k.id (value_for [] k.values) (rules d) (rules d) (λ r. refl) refl; resources_same = refl; from_one = refl }
+rules_put d whole [] k b v = record { puts = puts_none k.id (value_for [] k.values) (rules d) (rules d) (λ r. refl) refl; resources_same = refl; positive = refl }
 rules_put d whole (q ∷ rows) k b v = record {
   puts = subst (Puts k.id (value_for (q ∷ rows) k.values) (rules d)) (sym becomes) (updated_cells (q ∷ rows) k (rules d));
   resources_same = ap (λ (x : Document). resources x) is ∙ ap (λ (x : Document). resources (with_table rules_id f x)) whole.agrees.schema
       ∙ ap (λ b. (cond b (f (metadata_table resources_id (resources d))) (metadata_table resources_id (resources d))).grid) resources_rules_apart;
-  from_one = tests;
+  positive = tests;
 }
   where
     a : DocAction
@@ -290,7 +290,7 @@ module _ (f : List ViewCol → List CellValue → TextChange) (ws : List ShownRo
   texts_fit k e [] = refl
   texts_fit k e (w ∷ ws) = by (f w.columns w.cells).text (texts_fit k e ws)
     where
-      by : (o : Option (List ℕ)) → map (fit k) (texts_asked f ws) ≡ texts_asked f ws → map (fit k) (elim o as (λ _. List CellValue) [ None ↦ texts_asked f ws | Some t ↦ value.Text t ∷ texts_asked f ws ]) ≡ elim o [ None ↦ texts_asked f ws | Some t ↦ value.Text t ∷ texts_asked f ws ]
+      by : (o : Option (List ℕ)) → map (fit k) (texts_asked f ws) ≡ texts_asked f ws → map (fit k) (texts_before o (texts_asked f ws)) ≡ texts_before o (texts_asked f ws)
       by None later = later
       by (Some t) later = ap (λ c. fit c (value.Text t) ∷ map (fit k) (texts_asked f ws)) e ∙ ap (λ vs. value.Text t ∷ vs) later
 
@@ -315,7 +315,7 @@ module _ (f : List ViewCol → List CellValue → TextChange) (ws : List ShownRo
         let as' : List DocAction = map action_of (if_any rows (update_step rules_id rows given true)) in
         let p = rules_put d whole rows given true (subst (λ xs. all_valid d xs ≡ true) (append-nil as') v) in
         subst (λ xs. PutsTexts d (apply_all d xs)) (sym (append-nil as')) (record {
-          puts = puts_same column (value_for rows given.values) text_put (rules d) (rules (apply_all d as')) (λ r. put_so r p.from_one) p.puts;
+          puts = puts_same column (value_for rows given.values) text_put (rules d) (rules (apply_all d as')) (λ r. put_so r p.positive) p.puts;
           resources_same = p.resources_same;
         })
 

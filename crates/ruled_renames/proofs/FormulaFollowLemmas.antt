@@ -110,8 +110,8 @@ module _ (written : WrittenLaw) (lexemes : LexemeLaw) (height : HeightLaw) (stan
   tokens_stay : (ts : List Token) → tree_from dialect.Rule ts ≡ Some t → t ≡ renamed x t
   tokens_stay ts e = same_Some t (renamed x t) (sym e ∙ spelled_tree dialect.Rule ts (renamed x t) (both_spelled ts (tree_spelled dialect.Rule ts t e)))
 
-  pub rule_stays : (text : List ℕ) → formula_of text ≡ Some (Some t) → t ≡ renamed x t
-  rule_stays text e = by (nat_le (length text) max_bytes) (tokens_in (chars text)) e
+  pub rule_stays : (words : List ℕ) → formula_of words ≡ Some (Some t) → t ≡ renamed x t
+  rule_stays words e = by (nat_le (length words) max_bytes) (tokens_in (chars words)) e
     where
       mapped : (q : Option Tree) → option_map Some q ≡ Some (Some t) → q ≡ Some t
       mapped None f = absurd (none-some (Some t) f)
@@ -140,41 +140,41 @@ abbrev pub read_formula : Option CellValue → Option (Option Tree)
 read_formula c = option_and_then formula_of (text_in c)
 
 module _ (written : WrittenLaw) (lexemes : LexemeLaw) (height : HeightLaw) (stands : StandsLaw) (rewrites : RewrittenRuleLaw) (m : ColumnRename) (named : is_name m.new ≡ true) (new_is_utf8 : IsUtf8 m.new) where
-  module _ (s : Scope) (text : List ℕ) (utf8 : IsUtf8 text) (v : CellValue) (told : text_in (Some v) ≡ Some text) where
+  module _ (s : Scope) (words : List ℕ) (utf8 : IsUtf8 words) (v : CellValue) (told : text_in (Some v) ≡ Some words) where
     -- the formula of the cell after a change
     abbrev after : TextChange → Option (Option Tree)
     after c = read_formula (Some (unwrap_or (option_map value.Text c.text) v))
 
-    stays_same : (c : TextChange) → c.text ≡ None → after c ≡ formula_of text
+    stays_same : (c : TextChange) → c.text ≡ None → after c ≡ formula_of words
     stays_same c e = ap (λ o. read_formula (Some (unwrap_or (option_map value.Text o) v))) e ∙ ap (option_and_then formula_of) told
 
-    tree_follows : (t : Tree) → formula_of text ≡ Some (Some t) → (rule_change m s text).unresolved ≡ 0 → FormulaFollows m s (Some (Some t)) (after (rule_change m s text))
+    tree_follows : (t : Tree) → formula_of words ≡ Some (Some t) → (rule_change m s words).unresolved ≡ 0 → FormulaFollows m s (Some (Some t)) (after (rule_change m s words))
     tree_follows t e none = by (list_any (λ b. b) (marks (rename_in m s) t)) refl
       where
         other : List ℕ
-        other = rewritten_text text (marks (rename_in m s) t) m.new
+        other = rewritten_text words (marks (rename_in m s) t) m.new
 
         count : ℕ
         count = capped (unresolved_among m (uses s t))
 
-        change_is : (b : Bool) → list_any (λ b. b) (marks (rename_in m s) t) ≡ b → rule_change m s text ≡ cond b (rewritten other count) (kept count)
+        change_is : (b : Bool) → list_any (λ b. b) (marks (rename_in m s) t) ≡ b → rule_change m s words ≡ cond b (rewritten other count) (kept count)
         change_is b f =
-            ap (λ (o : Option (Option Tree)). maybe_change m s text (elim o as (λ _. Option Tree) [ None ↦ None | Some q ↦ q ])) e
+            ap (λ (o : Option (Option Tree)). maybe_change m s words (elim o as (λ _. Option Tree) [ None ↦ None | Some q ↦ q ])) e
             ∙ ap (λ b. cond b (rewritten other count) (kept count)) f
 
-        by : (b : Bool) → list_any (λ b. b) (marks (rename_in m s) t) ≡ b → FormulaFollows m s (Some (Some t)) (after (rule_change m s text))
+        by : (b : Bool) → list_any (λ b. b) (marks (rename_in m s) t) ≡ b → FormulaFollows m s (Some (Some t)) (after (rule_change m s words))
         by false f =
             let is = change_is false f in
             let resolved : unresolved_among m (uses s t) ≡ 0 = none_capped (unresolved_among m (uses s t)) (sym (ap (λ c. c.unresolved) is) ∙ none) in
-            subst (FormulaFollows m s (Some (Some t))) (sym (stays_same (rule_change m s text) (ap (λ c. c.text) is) ∙ e))
-            (resolved, rule_stays written lexemes height stands (rename_in m s) t (tree_free m s t (all_resolved m (uses s t) resolved)) f text e)
+            subst (FormulaFollows m s (Some (Some t))) (sym (stays_same (rule_change m s words) (ap (λ c. c.text) is) ∙ e))
+            (resolved, rule_stays written lexemes height stands (rename_in m s) t (tree_free m s t (all_resolved m (uses s t) resolved)) f words e)
         by true f =
             let is = change_is true f in
             let short = within (nat_le (length other) max_bytes) count (sym (ap (λ c. c.unresolved) is) ∙ none) in
             let resolved : unresolved_among m (uses s t) ≡ 0 = none_capped (unresolved_among m (uses s t)) short.1 in
-            let new_formula : after (rule_change m s text) ≡ Some (Some (renamed (rename_in m s) t))
+            let new_formula : after (rule_change m s words) ≡ Some (Some (renamed (rename_in m s) t))
             = ap (λ (c : TextChange). after c) is
-            ∙ rewrites (rename_in m s) text t (record {
+            ∙ rewrites (rename_in m s) words t (record {
               text_is_utf8 = utf8;
               new_is_utf8 = new_is_utf8;
               named = named;
@@ -183,20 +183,20 @@ module _ (written : WrittenLaw) (lexemes : LexemeLaw) (height : HeightLaw) (stan
             }) e in
             subst (FormulaFollows m s (Some (Some t))) (sym new_formula) (resolved, refl)
 
-    text_follows : (rule_change m s text).unresolved ≡ 0 → FormulaFollows m s (formula_of text) (after (rule_change m s text))
-    text_follows none = by (formula_of text) refl
+    text_follows : (rule_change m s words).unresolved ≡ 0 → FormulaFollows m s (formula_of words) (after (rule_change m s words))
+    text_follows none = by (formula_of words) refl
       where
-        none_changed : (o : Option (Option Tree)) → formula_of text ≡ o → (elim o as (λ _. Option Tree) [ None ↦ None | Some q ↦ q ]) ≡ None → after (rule_change m s text) ≡ o
+        none_changed : (o : Option (Option Tree)) → formula_of words ≡ o → (elim o as (λ _. Option Tree) [ None ↦ None | Some q ↦ q ]) ≡ None → after (rule_change m s words) ≡ o
         none_changed o e f =
-            stays_same (rule_change m s text) (ap (λ q. (maybe_change m s text q).text) (ap (λ (o : Option (Option Tree)). elim o as (λ _. Option Tree) [ None ↦ None | Some q ↦ q ]) e ∙ f)) ∙ e
+            stays_same (rule_change m s words) (ap (λ q. (maybe_change m s words q).text) (ap (λ (o : Option (Option Tree)). elim o as (λ _. Option Tree) [ None ↦ None | Some q ↦ q ]) e ∙ f)) ∙ e
 
-        by : (o : Option (Option Tree)) → formula_of text ≡ o → FormulaFollows m s o (after (rule_change m s text))
+        by : (o : Option (Option Tree)) → formula_of words ≡ o → FormulaFollows m s o (after (rule_change m s words))
         by None e = subst (FormulaFollows m s None) (sym (none_changed None e refl)) tt
         by (Some None) e = subst (FormulaFollows m s (Some None)) (sym (none_changed (Some None) e refl)) tt
         by (Some (Some t)) e = tree_follows t e none
 
   -- the change of a rule about something
-  cell_follows : (ts : List AttributeTable) (q : RecordTables) (c : Option CellValue) → ((text : List ℕ) → text_in c ≡ Some text → IsUtf8 text) → (scoped_change m ts (Some q) (text_in c)).unresolved ≡ 0
+  cell_follows : (ts : List AttributeTable) (q : RecordTables) (c : Option CellValue) → ((words : List ℕ) → text_in c ≡ Some words → IsUtf8 words) → (scoped_change m ts (Some q) (text_in c)).unresolved ≡ 0
       → FormulaFollows m (in_rule q ts) (read_formula c) (read_formula (put (option_map value.Text (scoped_change m ts (Some q) (text_in c)).text) c))
   cell_follows ts q None utf8 none = tt
   cell_follows ts q (Some v) utf8 none = by (text_in (Some v)) refl none
@@ -204,10 +204,10 @@ module _ (written : WrittenLaw) (lexemes : LexemeLaw) (height : HeightLaw) (stan
       by : (o : Option (List ℕ)) → text_in (Some v) ≡ o → (scoped_change m ts (Some q) o).unresolved ≡ 0
           → FormulaFollows m (in_rule q ts) (option_and_then formula_of o) (read_formula (Some (unwrap_or (option_map value.Text (scoped_change m ts (Some q) o).text) v)))
       by None e none = subst (λ (o : Option (List ℕ)). FormulaFollows m (in_rule q ts) None (option_and_then formula_of o)) (sym e) tt
-      by (Some text) e none = text_follows (in_rule q ts) text (utf8 text e) v e none
+      by (Some words) e none = text_follows (in_rule q ts) words (utf8 words e) v e none
 
   -- the formula of a rule about this
-  pub formula_follows : (ts : List AttributeTable) (q : Option Resource) (c : Option CellValue) → ((text : List ℕ) → text_in c ≡ Some text → IsUtf8 text)
+  pub formula_follows : (ts : List AttributeTable) (q : Option Resource) (c : Option CellValue) → ((words : List ℕ) → text_in c ≡ Some words → IsUtf8 words)
       → (scoped_change m ts (option_map tables_in q) (text_in c)).unresolved ≡ 0
       → AskedFollows m ts q (read_formula c) (read_formula (put (option_map value.Text (scoped_change m ts (option_map tables_in q) (text_in c)).text) c))
   formula_follows ts None c utf8 none = tt

@@ -157,6 +157,15 @@ or_else_none : {X : Type 0} (o : Option X) → or_else o None ≡ o
 or_else_none None = refl
 or_else_none (Some x) = refl
 
+-- what one change adds in front
+abbrev pub rows_before : ℕ → Option (List ℕ) → List ℤ → List ℤ
+rows_before r None rows = rows
+rows_before r (Some text) rows = pos r ∷ rows
+
+abbrev pub texts_before : Option (List ℕ) → List CellValue → List CellValue
+texts_before None texts = texts
+texts_before (Some text) texts = value.Text text ∷ texts
+
 module _ (f : List ViewCol → List CellValue → TextChange) where
   abbrev pub text_of : ShownRow → Option (List ℕ)
   text_of w = (f w.columns w.cells).text
@@ -165,14 +174,6 @@ module _ (f : List ViewCol → List CellValue → TextChange) where
   abbrev pub text_for : List ShownRow → ℕ → Option (List ℕ)
   text_for [] r = None
   text_for (w ∷ ws) r = or_else (text_for ws r) (cond (nat_eq w.row r) (text_of w) None)
-
-  abbrev rows_before : ℕ → Option (List ℕ) → List ℤ → List ℤ
-  rows_before r None rows = rows
-  rows_before r (Some text) rows = pos r ∷ rows
-
-  abbrev texts_before : Option (List ℕ) → List CellValue → List CellValue
-  texts_before None texts = texts
-  texts_before (Some text) texts = value.Text text ∷ texts
 
   abbrev pub rows_asked : List ShownRow → List ℤ
   rows_asked [] = []

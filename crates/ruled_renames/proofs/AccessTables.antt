@@ -7,7 +7,7 @@ use Rattle.cell_types.specs.declared.column_type.ColType.{ColType}
 use Rattle.cell_types.specs.declared.column_type.ColType.TheVariants as ty
 use Rattle.cell_types.specs.declared.value.CellValue.{CellValue}
 use Rattle.cell_types.specs.declared.value.CellValue.TheVariants as value
-use Rattle.cell_types.specs.Conversion.{fit}
+use Rattle.cell_types.specs.Conversion.{default_value, fit}
 use Rattle.doc_model.specs.declared.action.DocAction.{DocAction}
 use Rattle.doc_model.specs.declared.action.DocAction.TheVariants as action
 use Rattle.doc_model.specs.declared.action.Step.{Step}
@@ -148,8 +148,8 @@ module _ (table : List ℕ) (plain : IsPlain table) where
 
   steps_other : (g : Grid ColDef) (e : ColDef) (info : ColInfo) → AllByRecursion OtherStep (modified_to table g e info)
   steps_other g e info = chosen_other (same_info e.info info) [] _ tt
-      (each_append OtherStep _ (filled table g e info) (each_append OtherStep (emptied table g e info) _ (chosen_other _ _ [] (changed_other g e.id _ g.rows) tt) (tt, tt))
-      (chosen_other info.is_formula [] _ tt (chosen_other e.info.is_formula _ _ (changed_other g e.id _ g.rows) (changed_other g e.id _ g.rows))))
+      (each_append OtherStep _ (filled table g e info) (each_append OtherStep (emptied table g e info) _ (chosen_other _ _ [] (changed_other g e.id (λ _. value.Null) g.rows) tt) (tt, tt))
+      (chosen_other info.is_formula [] _ tt (chosen_other e.info.is_formula _ _ (changed_other g e.id (λ _. default_value info.ty) g.rows) (changed_other g e.id (fit info.ty) g.rows))))
 
   modify_other : (d : Document) (c : UserCol) → AllByRecursion IsOther (actions_of d (user.ModifyColumn table c))
   modify_other d c = each_mapped IsOther action_of (steps_of d (user.ModifyColumn table c)) (by (find_id column_id c.id (grid_at d table).columns))

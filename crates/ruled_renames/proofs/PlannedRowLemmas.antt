@@ -475,7 +475,7 @@ module _ (v : List ViewTable) (m : ColumnRename) (s : Document) (h : IsPlanned v
           subst (λ (x : List ShownRow). IsListed (attributes_in x) a) (sym rules_shown) (listed_at dr rr cr r a there (attribute_is ∙ e)),
         )
 
-    pub row_follows : WrittenLaw → LexemeLaw → HeightLaw → StandsLaw → RewrittenRuleLaw → RenamedListLaw → AttributeReadLaw → RowFollows m ts s s4 r
+    row_follows : WrittenLaw → LexemeLaw → HeightLaw → StandsLaw → RewrittenRuleLaw → RenamedListLaw → AttributeReadLaw → RowFollows m ts s s4 r
     row_follows written lexemes height stands rewrites lists reads = record {
       resource = named_after lists r;
       lists = kept_named r;
@@ -490,7 +490,7 @@ module _ (v : List ViewTable) (m : ColumnRename) (s : Document) (h : IsPlanned v
       kept = may_follow;
     }
 
-  pub rows_follow : WrittenLaw → LexemeLaw → HeightLaw → StandsLaw → RewrittenRuleLaw → RenamedListLaw → AttributeReadLaw → RowsFollow m ts s (after_plan v m s)
+  rows_follow : WrittenLaw → LexemeLaw → HeightLaw → StandsLaw → RewrittenRuleLaw → RenamedListLaw → AttributeReadLaw → RowsFollow m ts s (after_plan v m s)
   rows_follow written lexemes height stands rewrites lists reads =
       subst (λ (d : Document). RowsFollow m ts s d) parted.last (record {
         rows = same_rows;

@@ -16,17 +16,19 @@ use Rattle.doc_model.specs.declared.view.ViewCol.{ViewCol}
 use Rattle.doc_model.specs.declared.view.ViewTable.{ViewTable}
 use Rattle.doc_model.specs.Apply.{all_valid, apply_all}
 use Rattle.doc_model.specs.ByIds.{find_id, has_id}
-use Rattle.doc_model.specs.Changes.{shown_table_id}
+use Rattle.doc_model.specs.Changes.{grid, shown_table_id}
 use Rattle.doc_model.specs.Column.{column_id}
 use Rattle.doc_model.specs.Document.{Document, Table}
 use Rattle.doc_model.specs.DocumentLaws.{IsWhole}
-use Rattle.doc_model.specs.Grid.{Grid, beside, cell}
+use Rattle.doc_model.specs.Grid.{Grid, IsGrid, cell}
 use Rattle.doc_model.specs.MetadataIds.{resources_id, rules_id}
 use Rattle.doc_model.specs.Readers.{cell_at}
 use Rattle.doc_model.specs.Records.{value_for}
 use Rattle.doc_model.specs.Rows.{IsAscending, has}
 use Rattle.doc_model.specs.Schema.{resources, resources_columns, rules, rules_columns}
 use Rattle.doc_model.specs.Sound.{IsSoundGrid}
+use Rattle.doc_model.specs.ViewEdits.{IsShown, shown_id}
+use Rattle.doc_model.proofs.ByIdsLaws.{found_all}
 use Rattle.doc_model.proofs.Choices.{each_weaker}
 use Rattle.doc_model.proofs.InverseLaws.{IsWhole-apply_all}
 use Rattle.doc_model.proofs.RowsLaws.{each_has}
@@ -110,7 +112,7 @@ cell_text (Some (value.List is)) h text e = absurd (cc)
 cell_text (Some (value.Err k)) h text e = absurd (cc)
 cell_text (Some value.Censored) h text e = absurd (cc)
 
-module _ (v : List ViewTable) (s : Document) (t : List ℕ) (h : ShowsTable v s t) (sound : IsSoundGrid (grid_at s t)) where
+module _ (v : List ViewTable) (s : Document) (t : List ℕ) (h : ShowsTable v s t) (sound : IsSoundGrid (grid_at s t)) (shaped : IsGrid shown_id (grid h.shown)) where
   abbrev pub ds : List ViewCol
   ds = h.shown.columns
 
@@ -128,17 +130,16 @@ module _ (v : List ViewTable) (s : Document) (t : List ℕ) (h : ShowsTable v s 
 
   pub cell_is : (c : List ℕ) (r : ℕ) → has rows r ≡ true → shown_cell ds (cells_of_row rows css r) c ≡ cell_in (grid_at s t) c r
   cell_is c r there =
-      let g : Grid ColDef = grid_at s t in
-      let here : has g.rows r ≡ true = ap (λ (rs : List ℕ). has rs r) (sym h.rows) ∙ there in
-      ap (λ (rs : List ℕ). shown_cell ds (cells_of_row rs css r) c) h.rows
-      ∙ ap (λ (cs : List (List CellValue)). shown_cell ds (cells_of_row g.rows cs r) c) h.cells
-      ∙ cell_shown ds g.columns (cells_of_row g.rows g.cells r) c h.columns (each_cells (λ vs. length vs ≡ length g.columns) g.rows g.cells r sound.is_grid.width sound.is_grid.height here)
-      ∙ by (has_id column_id g.columns c) (has g.rows r) here
+      cell_shown ds (cells_of_row rows css r) c (each_cells (λ vs. length vs ≡ length ds) rows css r shaped.width shaped.height there)
+      ∙ ap (λ b. cond b (Some (cell shown_id (grid h.shown) c r)) None) (h.columns c)
+      ∙ by (has_id column_id (grid_at s t).columns c) refl
     where
-      by : (a b : Bool) → b ≡ true → cond a (Some (cell column_id (grid_at s t) c r)) None ≡ cond (a && b) (Some (cell column_id (grid_at s t) c r)) None
-      by true true e = refl
-      by false b e = refl
-      by true false e = absurd (false≢true e)
+      here : has (grid_at s t).rows r ≡ true
+      here = ap (λ (rs : List ℕ). has rs r) (sym h.rows) ∙ there
+
+      by : (a : Bool) → has_id column_id (grid_at s t).columns c ≡ a → cond a (Some (cell shown_id (grid h.shown) c r)) None ≡ cond (a && has (grid_at s t).rows r) (Some (cell column_id (grid_at s t) c r)) None
+      by true e = ap Some (h.cells c r e here) ∙ sym (ap (λ b. cond b (Some (cell column_id (grid_at s t) c r)) None) here)
+      by false e = refl
 
 -- ---- the document after the plan
 
@@ -148,6 +149,16 @@ module _ (v : List ViewTable) (m : ColumnRename) (s : Document) (h : IsPlanned v
 
   sound_resources : IsSoundGrid (grid_at s resources_id)
   sound_resources = subst IsSoundGrid (sym (grid_resources s h.whole)) (good_from s h.whole).resources_sound
+
+  -- a table that is shown has a cell for each row and column
+  shaped : (t : List ℕ) (x : ShowsTable v s t) → IsGrid shown_id (grid x.shown)
+  shaped t x = (found_all shown_table_id (λ (w : ViewTable). IsShown (grid w)) t v x.shown h.shows.view.tables x.found).is_grid
+
+  shaped_rules : IsGrid shown_id (grid g.rules.shown)
+  shaped_rules = shaped rules_id g.rules
+
+  shaped_resources : IsGrid shown_id (grid g.resources.shown)
+  shaped_resources = shaped resources_id g.resources
 
   -- the rows of rules and those of resources
   abbrev ws : List ShownRow
@@ -361,29 +372,29 @@ module _ (v : List ViewTable) (m : ColumnRename) (s : Document) (h : IsPlanned v
         by (Some q) = resource_after q
 
   -- what the view shows of a resource is what the document says
-  shown_resource : (q : ℕ) → has (rows v s resources_id g.resources sound_resources) q ≡ true
-      → resource_shown (ds v s resources_id g.resources sound_resources) (cells_of_row (rows v s resources_id g.resources sound_resources) (css v s resources_id g.resources sound_resources) q) ≡ resource_at s q
+  shown_resource : (q : ℕ) → has (rows v s resources_id g.resources sound_resources shaped_resources) q ≡ true
+      → resource_shown (ds v s resources_id g.resources sound_resources shaped_resources) (cells_of_row (rows v s resources_id g.resources sound_resources shaped_resources) (css v s resources_id g.resources sound_resources shaped_resources) q) ≡ resource_at s q
   shown_resource q there =
-      ap (λ o. resource_from (text_in o) (text_shown (ds v s resources_id g.resources sound_resources) (cells_of_row (rows v s resources_id g.resources sound_resources) (css v s resources_id g.resources sound_resources) q) (codes "colIds")))
-      (cell_is v s resources_id g.resources sound_resources (codes "tableId") q there ∙ sym (grid_cell (codes "tableId") q))
+      ap (λ o. resource_from (text_in o) (text_shown (ds v s resources_id g.resources sound_resources shaped_resources) (cells_of_row (rows v s resources_id g.resources sound_resources shaped_resources) (css v s resources_id g.resources sound_resources shaped_resources) q) (codes "colIds")))
+      (cell_is v s resources_id g.resources sound_resources shaped_resources (codes "tableId") q there ∙ sym (grid_cell (codes "tableId") q))
       ∙ ap (λ o. resource_from (text_in (cell_at s resources_id (codes "tableId") q)) (text_in o))
-      (cell_is v s resources_id g.resources sound_resources (codes "colIds") q there ∙ sym (grid_cell (codes "colIds") q))
+      (cell_is v s resources_id g.resources sound_resources shaped_resources (codes "colIds") q there ∙ sym (grid_cell (codes "colIds") q))
 
   absent_resource : (q : ℕ) → has gr.rows q ≡ false → resource_at s q ≡ None
   absent_resource q e = ap (λ o. resource_from (text_in o) (text_in (cell_at s resources_id (codes "colIds") q))) (grid_cell (codes "tableId") q ∙ no_cell (codes "tableId") q e)
 
   about_is : (q : ℕ) → about_at bs q ≡ option_map tables_in (resource_at s q)
   about_is q =
-      ap (λ x. about_at (abouts_in x) q) (rows_are v s resources_id g.resources sound_resources)
-      ∙ by (has (rows v s resources_id g.resources sound_resources) q) refl
+      ap (λ x. about_at (abouts_in x) q) (rows_are v s resources_id g.resources sound_resources shaped_resources)
+      ∙ by (has (rows v s resources_id g.resources sound_resources shaped_resources) q) refl
     where
       shown : List ShownRow
-      shown = zipped (ds v s resources_id g.resources sound_resources) (rows v s resources_id g.resources sound_resources) (css v s resources_id g.resources sound_resources)
+      shown = zipped (ds v s resources_id g.resources sound_resources shaped_resources) (rows v s resources_id g.resources sound_resources shaped_resources) (css v s resources_id g.resources sound_resources shaped_resources)
 
-      by : (b : Bool) → has (rows v s resources_id g.resources sound_resources) q ≡ b → about_at (abouts_in shown) q ≡ option_map tables_in (resource_at s q)
-      by true e = about_row (ds v s resources_id g.resources sound_resources) (rows v s resources_id g.resources sound_resources) (css v s resources_id g.resources sound_resources) q (ascend v s resources_id g.resources sound_resources) e ∙ ap (option_map tables_in) (shown_resource q e)
+      by : (b : Bool) → has (rows v s resources_id g.resources sound_resources shaped_resources) q ≡ b → about_at (abouts_in shown) q ≡ option_map tables_in (resource_at s q)
+      by true e = about_row (ds v s resources_id g.resources sound_resources shaped_resources) (rows v s resources_id g.resources sound_resources shaped_resources) (css v s resources_id g.resources sound_resources shaped_resources) q (ascend v s resources_id g.resources sound_resources shaped_resources) e ∙ ap (option_map tables_in) (shown_resource q e)
       by false e =
-          about_none (ds v s resources_id g.resources sound_resources) (rows v s resources_id g.resources sound_resources) (css v s resources_id g.resources sound_resources) q e
+          about_none (ds v s resources_id g.resources sound_resources shaped_resources) (rows v s resources_id g.resources sound_resources shaped_resources) (css v s resources_id g.resources sound_resources shaped_resources) q e
           ∙ ap (option_map tables_in) (sym (absent_resource q (ap (λ (rs : List ℕ). has rs q) (sym g.resources.rows) ∙ e)))
 
   -- no list of columns has the new name
@@ -391,14 +402,14 @@ module _ (v : List ViewTable) (m : ColumnRename) (s : Document) (h : IsPlanned v
   none_claimed = (zero_rules v m s h).1.1.0
 
   kept_at : (q : ℕ) → ListsKept m (resource_at s q)
-  kept_at q = by (has (rows v s resources_id g.resources sound_resources) q) refl
+  kept_at q = by (has (rows v s resources_id g.resources sound_resources shaped_resources) q) refl
     where
-      by : (b : Bool) → has (rows v s resources_id g.resources sound_resources) q ≡ b → ListsKept m (resource_at s q)
+      by : (b : Bool) → has (rows v s resources_id g.resources sound_resources shaped_resources) q ≡ b → ListsKept m (resource_at s q)
       by true e =
           lists_kept m (resource_at s q) (ap (claims_new m) (sym (shown_resource q e)) ∙
-          at_row (ds v s resources_id g.resources sound_resources) (λ vs. claims_new m (resource_shown (ds v s resources_id g.resources sound_resources) vs) ≡ false) (rows v s resources_id g.resources sound_resources) (css v s resources_id g.resources sound_resources) q
-          (of_columns (ds v s resources_id g.resources sound_resources) (λ cs vs. claims_new m (resource_shown cs vs) ≡ false) (rows v s resources_id g.resources sound_resources) (css v s resources_id g.resources sound_resources)
-          (subst (AllByRecursion (λ (w : ShownRow). claims_new m (resource_shown w.columns w.cells) ≡ false)) (rows_are v s resources_id g.resources sound_resources) (none_claim m (resource_rows v) none_claimed))) e)
+          at_row (ds v s resources_id g.resources sound_resources shaped_resources) (λ vs. claims_new m (resource_shown (ds v s resources_id g.resources sound_resources shaped_resources) vs) ≡ false) (rows v s resources_id g.resources sound_resources shaped_resources) (css v s resources_id g.resources sound_resources shaped_resources) q
+          (of_columns (ds v s resources_id g.resources sound_resources shaped_resources) (λ cs vs. claims_new m (resource_shown cs vs) ≡ false) (rows v s resources_id g.resources sound_resources shaped_resources) (css v s resources_id g.resources sound_resources shaped_resources)
+          (subst (AllByRecursion (λ (w : ShownRow). claims_new m (resource_shown w.columns w.cells) ≡ false)) (rows_are v s resources_id g.resources sound_resources shaped_resources) (none_claim m (resource_rows v) none_claimed))) e)
       by false e = subst (ListsKept m) (sym (absent_resource q (ap (λ (rs : List ℕ). has rs q) (sym g.resources.rows) ∙ e))) tt
 
   kept_named : (r : ℕ) → ListsKept m (resource_named s r)
@@ -411,19 +422,19 @@ module _ (v : List ViewTable) (m : ColumnRename) (s : Document) (h : IsPlanned v
   -- ---- one row of the rules
 
   abbrev dr : List ViewCol
-  dr = ds v s rules_id g.rules sound_rules
+  dr = ds v s rules_id g.rules sound_rules shaped_rules
 
   abbrev rr : List ℕ
-  rr = rows v s rules_id g.rules sound_rules
+  rr = rows v s rules_id g.rules sound_rules shaped_rules
 
   abbrev cr : List (List CellValue)
-  cr = css v s rules_id g.rules sound_rules
+  cr = css v s rules_id g.rules sound_rules shaped_rules
 
   abbrev shown_rules : List ShownRow
   shown_rules = zipped dr rr cr
 
   rules_shown : rule_rows v ≡ shown_rules
-  rules_shown = rows_are v s rules_id g.rules sound_rules
+  rules_shown = rows_are v s rules_id g.rules sound_rules shaped_rules
 
   none_of : (f : List ViewCol → List CellValue → TextChange) → (with_changes f no_changes ws).unresolved ≡ 0 → (r : ℕ) → has rr r ≡ true → (f dr (cells_of_row rr cr r)).unresolved ≡ 0
   none_of f e r there =
@@ -431,14 +442,14 @@ module _ (v : List ViewTable) (m : ColumnRename) (s : Document) (h : IsPlanned v
       (of_columns dr (λ cs vs. (f cs vs).unresolved ≡ 0) rr cr (subst (AllByRecursion (λ (w : ShownRow). (f w.columns w.cells).unresolved ≡ 0)) rules_shown (all_none f ws e))) there
 
   put_of : (f : List ViewCol → List CellValue → TextChange) (c : List ℕ) (r : ℕ) → has rr r ≡ true → text_put f ws c r ≡ option_map value.Text (f dr (cells_of_row rr cr r)).text
-  put_of f c r there = ap (option_map value.Text) (ap (λ x. text_for f x r) rules_shown ∙ text_at f dr rr cr r (ascend v s rules_id g.rules sound_rules) there)
+  put_of f c r there = ap (option_map value.Text) (ap (λ x. text_for f x r) rules_shown ∙ text_at f dr rr cr r (ascend v s rules_id g.rules sound_rules shaped_rules) there)
 
   module _ (r : ℕ) (there : has rr r ≡ true) where
     abbrev vs : List CellValue
     vs = cells_of_row rr cr r
 
     rule_shown : (c : List ℕ) → shown_cell dr vs c ≡ rule_cell s c r
-    rule_shown c = cell_is v s rules_id g.rules sound_rules c r there ∙ ap (λ (x : Grid ColDef). cell_in x c r) (grid_rules s h.whole) ∙ sym (rule_cells s h.whole c r)
+    rule_shown c = cell_is v s rules_id g.rules sound_rules shaped_rules c r there ∙ ap (λ (x : Grid ColDef). cell_in x c r) (grid_rules s h.whole) ∙ sym (rule_cells s h.whole c r)
 
     about_named : about_of bs dr vs ≡ option_map tables_in (resource_named s r)
     about_named = ap (λ c. option_and_then (about_at bs) (row_number (number_in c))) (rule_shown (codes "resource")) ∙ by (row_number (number_in (rule_cell s (codes "resource") r)))

@@ -5,11 +5,9 @@ use Rattle.std.proofs.lemmas.Bool.{and_parts, eqb-true, false≢true, ne_eqb}
 use Rattle.cell_types.specs.declared.value.CellValue.{CellValue}
 use Rattle.cell_types.specs.declared.value.CellValue.TheVariants as value
 use Rattle.cell_types.specs.Reference.{row_number}
-use Rattle.doc_model.specs.declared.column.ColDef.{ColDef}
 use Rattle.doc_model.specs.declared.view.ViewCol.{ViewCol}
 use Rattle.doc_model.specs.declared.view.ViewTable.{ViewTable}
 use Rattle.doc_model.specs.ByIds.{has_id}
-use Rattle.doc_model.specs.Column.{column_id}
 use Rattle.doc_model.specs.Grid.{beside}
 use Rattle.doc_model.specs.Records.{or_else, value_for}
 use Rattle.doc_model.specs.Rows.{IsAscending, has}
@@ -103,37 +101,25 @@ at_position {K} test (k ∷ ks) (v ∷ vs) =
       | false ↦ at_later v vs (position_or_len test ks) (length ks) (1 + position_or_len test ks) (omega arith) ∙ at_position test ks vs
     ]
 
--- columns with the same ids have their cells at the same places
-pub cell_shown : (ds : List ViewCol) (cs : List ColDef) (vs : List CellValue) (c : List ℕ) → map shown_id ds ≡ map column_id cs → length vs ≡ length cs
-    → shown_cell ds vs c ≡ cond (has_id column_id cs c) (Some (beside (λ (d : ColDef). bytes_eq d.id c) cs vs value.Null)) None
-cell_shown ds cs vs c e l = at_position (λ (d : ViewCol). bytes_eq d.id c) ds vs ∙ by ds cs vs e l
+-- the cell of a column, where each column has one
+pub cell_shown : (ds : List ViewCol) (vs : List CellValue) (c : List ℕ) → length vs ≡ length ds
+    → shown_cell ds vs c ≡ cond (has_id shown_id ds c) (Some (beside (λ (d : ViewCol). bytes_eq d.id c) ds vs value.Null)) None
+cell_shown ds vs c l = at_position (λ (d : ViewCol). bytes_eq d.id c) ds vs ∙ by ds vs l
   where
-    heads : (a b : List ℕ) (as' bs : List (List ℕ)) → a ∷ as' ≡ b ∷ bs → a ≡ b
-    heads a b as' bs e = cc
-
-    tails : (a b : List ℕ) (as' bs : List (List ℕ)) → a ∷ as' ≡ b ∷ bs → as' ≡ bs
-    tails a b as' bs e = cc
-
-    never : (a : List ℕ) (as' : List (List ℕ)) → a ∷ as' ≡ [] → ⊥
-    never a as' e = absurd (cc)
-
     none_left : (n : ℕ) → 0 ≡ suc n → ⊥
     none_left n e = omega arith
 
     one_less : (m n : ℕ) → suc m ≡ suc n → m ≡ n
     one_less m n e = omega arith
 
-    by : (ds : List ViewCol) (cs : List ColDef) (vs : List CellValue) → map shown_id ds ≡ map column_id cs → length vs ≡ length cs
-        → chosen (λ (d : ViewCol). bytes_eq d.id c) ds vs ≡ cond (has_id column_id cs c) (Some (beside (λ (d : ColDef). bytes_eq d.id c) cs vs value.Null)) None
-    by [] [] vs e l = refl
-    by [] (x ∷ cs) vs e l = absurd (never x.id (map column_id cs) (sym e))
-    by (d ∷ ds) [] vs e l = absurd (never d.id (map shown_id ds) e)
-    by (d ∷ ds) (x ∷ cs) [] e l = absurd (none_left (length cs) l)
-    by (d ∷ ds) (x ∷ cs) (v ∷ vs) e l =
-        ap (λ n. cond (bytes_eq n c) (Some v) (chosen (λ (d : ViewCol). bytes_eq d.id c) ds vs)) (heads d.id x.id (map shown_id ds) (map column_id cs) e)
-        ∙ ap (λ o. cond (bytes_eq x.id c) (Some v) o) (by ds cs vs (tails d.id x.id (map shown_id ds) (map column_id cs) e) (one_less (length vs) (length cs) l))
-        ∙ elim (bytes_eq x.id c) as (λ b. cond b (Some v) (cond (has_id column_id cs c) (Some (beside (λ (d : ColDef). bytes_eq d.id c) cs vs value.Null)) None)
-        ≡ cond (b || has_id column_id cs c) (Some (cond b v (beside (λ (d : ColDef). bytes_eq d.id c) cs vs value.Null))) None) [ true ↦ refl | false ↦ refl ]
+    by : (ds : List ViewCol) (vs : List CellValue) → length vs ≡ length ds
+        → chosen (λ (d : ViewCol). bytes_eq d.id c) ds vs ≡ cond (has_id shown_id ds c) (Some (beside (λ (d : ViewCol). bytes_eq d.id c) ds vs value.Null)) None
+    by [] vs l = refl
+    by (d ∷ ds) [] l = absurd (none_left (length ds) l)
+    by (d ∷ ds) (v ∷ vs) l =
+        ap (λ o. cond (bytes_eq d.id c) (Some v) o) (by ds vs (one_less (length vs) (length ds) l))
+        ∙ elim (bytes_eq d.id c) as (λ b. cond b (Some v) (cond (has_id shown_id ds c) (Some (beside (λ (d : ViewCol). bytes_eq d.id c) ds vs value.Null)) None)
+        ≡ cond (b || has_id shown_id ds c) (Some (cond b v (beside (λ (d : ViewCol). bytes_eq d.id c) ds vs value.Null))) None) [ true ↦ refl | false ↦ refl ]
 
 -- ---- what holds of each row
 

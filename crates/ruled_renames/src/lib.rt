@@ -5,8 +5,8 @@
 //! `rename_texts`, `rename_marks`, `renamed_documents`, `renamed_values` and `formula_records`
 //! (texts and names), `user_actions` (steps), `acl_checks`, `acl_rules`, `acl_formula`,
 //! `user_attrs`, `json` and `serde_json` (rules, attributes and their texts), `recalc`,
-//! `doc_readers`, `doc_model`, `formula_parse`, `formula_lex`, `name_rules`, `cell_types` and
-//! `unicode_ident`. No program calls it.
+//! `doc_readers`, `doc_model`, `formula_eval`, `formula_parse`, `formula_lex`, `name_rules`,
+//! `cell_types` and `unicode_ident`. No program calls it.
 //!
 //! Promises: `planned_rules_law`: where a view shows a whole document with its rules, the plan of
 //! a rename has nothing unresolved, and its bundle is valid, each decision on a table outside the

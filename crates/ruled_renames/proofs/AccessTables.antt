@@ -1,5 +1,5 @@
 -- The two tables of access rules after the actions of a plan.
-use Rattle.std.proofs.Common.{◌≡◌, ◌∙◌, ap, refl, subst, sym, ℕ, ℤ, Bool, true, false, cond, ◌&&◌, ◌||◌, List, [], ◌∷◌, ◌++◌, map, Option, Some, None, option_map, unwrap_or, bytes_eq, codes, append-nil, append_assoc}
+use Rattle.std.proofs.Common.{◌≡◌, ◌∙◌, ap, refl, subst, sym, ℕ, ℤ, Bool, true, false, cond, ◌&&◌, List, [], ◌∷◌, ◌++◌, map, Option, Some, None, option_map, bytes_eq, append-nil, append_assoc}
 use Rattle.std.specs.Bool.{⊤}
 use Rattle.std.specs.List.{AllByRecursion}
 use Rattle.std.proofs.lemmas.Bool.{and_parts}
@@ -18,17 +18,17 @@ use Rattle.doc_model.specs.declared.user_action.UserAction.{UserAction}
 use Rattle.doc_model.specs.declared.user_action.UserAction.TheVariants as user
 use Rattle.doc_model.specs.declared.user_action.UserCol.{UserCol}
 use Rattle.doc_model.specs.Apply.{all_valid, apply, apply_all, effect}
-use Rattle.doc_model.specs.ByIds.{find_id, has_id}
+use Rattle.doc_model.specs.ByIds.{find_id}
 use Rattle.doc_model.specs.Column.{column_id}
 use Rattle.doc_model.specs.Document.{Document, Table, on_grid, table_id, with_table}
 use Rattle.doc_model.specs.DocumentLaws.{IsWhole}
-use Rattle.doc_model.specs.Grid.{Grid, cell}
-use Rattle.doc_model.specs.MetadataIds.{columns_id, is_metadata_id, is_schema_id, resources_id, rules_id, tables_id}
+use Rattle.doc_model.specs.Grid.{Grid}
+use Rattle.doc_model.specs.MetadataIds.{columns_id, resources_id, rules_id, tables_id}
 use Rattle.doc_model.specs.Readers.{cell_at}
 use Rattle.doc_model.specs.Records.{update_rows, value_for}
-use Rattle.doc_model.specs.Rows.{all_in, has, has_no_duplicates}
-use Rattle.doc_model.specs.Schema.{columns_grid, metadata_table, no_grid, plain_tables, resources, rules, rules_columns, tables_grid, with_schema}
-use Rattle.doc_model.specs.Valid.{from_one, gives_data, passes, record_table, valid}
+use Rattle.doc_model.specs.Rows.{all_in, has_no_duplicates}
+use Rattle.doc_model.specs.Schema.{columns_grid, metadata_table, no_grid, plain_tables, resources, rules, tables_grid, with_schema}
+use Rattle.doc_model.specs.Valid.{from_one, gives_data, record_table, valid}
 use Rattle.doc_model.specs.ViewEdits.{if_any}
 use Rattle.doc_model.proofs.ByIdsLaws.{bytes_apart, bytes_itself}
 use Rattle.doc_model.proofs.Choices.{cond_false, cond_true, each_mapped, parts_4}
@@ -48,8 +48,8 @@ use Rattle.user_actions.specs.Columns.{info_said}
 use Rattle.user_actions.specs.Modified.{emptied, filled, modified_to, same_info}
 use Rattle.user_actions.specs.StepLaws.{action_of}
 use Rattle.user_actions.specs.Steps.{fitted, row_ids, steps_of, type_in}
-use Rattle.user_actions.proofs.ResourceLemmas.{find_resources, grid_resources}
-use Rattle.ruled_renames.proofs.ShownRowLemmas.{all_rows, all_texts, rows_asked, text_for, texts_asked, texts_before, values_put}
+use Rattle.user_actions.proofs.ResourceLemmas.{find_resources}
+use Rattle.ruled_renames.proofs.ShownRowLemmas.{all_rows, all_texts, text_for, texts_asked, texts_before, values_put}
 use Rattle.ruled_renames.proofs.UpdatedCells.{Puts, cell_in, puts_none, puts_same, updated_cells}
 
 -- ---- the tables in a whole document

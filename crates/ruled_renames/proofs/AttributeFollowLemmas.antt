@@ -1,31 +1,27 @@
 -- Attributes of users follow the changes that are planned of them.
-use Rattle.std.proofs.Common.{◌≡◌, ◌∙◌, ap, refl, subst, sym, ℕ, Bool, true, false, cond, not, ◌&&◌, ◌||◌, nat_eq, nat_le, nat_lt, ◌==◌, arith, List, [], ◌∷◌, map, filter, length, codes, Option, Some, None, option_map, option_and_then, unwrap_or, bytes_eq}
+use Rattle.std.proofs.Common.{◌≡◌, ◌∙◌, ap, refl, subst, sym, ℕ, Bool, true, false, cond, not, ◌&&◌, ◌||◌, nat_eq, nat_le, arith, List, [], ◌∷◌, map, filter, length, codes, Option, Some, None, option_map, option_and_then, bytes_eq}
 use Rattle.std.specs.List.{list_all, list_any}
 use Rattle.std.specs.Str.{IsUtf8, chars}
 use Rattle.std.proofs.lemmas.Bool.{and_from, and_parts, false≢true}
 use Rattle.std.proofs.lemmas.Slice.Eq.{bytes_eq-Decides}
-use Rattle.unicode_ident.specs.Ident.{is_xid_continue, is_xid_start}
+use Rattle.unicode_ident.specs.Ident.{is_xid_continue}
 use Rattle.unicode_ident.proofs.IdentLemmas.{is_xid_start-ascii}
 use Rattle.cell_types.specs.declared.value.CellValue.{CellValue}
 use Rattle.cell_types.specs.declared.value.CellValue.TheVariants as value
 use Rattle.cell_types.specs.NameRule.{has_name_characters, is_name, is_reserved}
 use Rattle.doc_model.specs.declared.view.ViewCol.{ViewCol}
-use Rattle.doc_model.specs.MetadataIds.{columns_id, is_acl_id, is_metadata_id, is_schema_id, resources_id, rules_id, tables_id}
+use Rattle.doc_model.specs.MetadataIds.{columns_id, is_acl_id, resources_id, rules_id, tables_id}
 use Rattle.doc_model.specs.Rows.{has}
 use Rattle.doc_model.proofs.ByIdsLaws.{bytes_itself}
 use Rattle.acl_rules.specs.Loaded.{text_in}
-use Rattle.formula_records.specs.RecordTables.{IsIn, only}
+use Rattle.formula_records.specs.RecordTables.{only}
 use Rattle.rename_flow.specs.AttributeTexts.{attribute_change, attribute_text, lookup_use}
-use Rattle.rename_flow.specs.ShownRows.{ShownRow}
 use Rattle.rename_flow.specs.ShownRules.{attribute_before, attribute_shown, attributes_in}
 use Rattle.rename_marks.specs.declared.column_rename.ColumnRename.{ColumnRename}
 use Rattle.rename_marks.specs.declared.formula_place.AttributeTable.{AttributeTable}
-use Rattle.rename_marks.specs.Scope.{tables_of}
 use Rattle.rename_marks.specs.Uses.{is_replaced, is_unresolved}
-use Rattle.renamed_rules.specs.FollowingRows.{MayFollow}
 use Rattle.renamed_rules.specs.RenamedRules.{AttributeKept, IsListed, attribute_after}
 use Rattle.renamed_values.specs.HeldRecords.{IsPlain}
-use Rattle.renamed_values.specs.SameEv.{IsKept, moved}
 use Rattle.renamed_values.proofs.RecordTableLemmas.{is_itself}
 use Rattle.renamed_values.proofs.ResolvedLemmas.{use_fits}
 use Rattle.user_attrs.specs.AttributeText.{Tells, are_names, attribute_of}

@@ -1,5 +1,5 @@
 -- The text of an attribute of users is read back.
-use Rattle.std.proofs.Common.{◌≡◌, ◌∙◌, ap, refl, subst, sym, ℕ, ◌<◌, ◌≤◌, ◌&&◌, ◌||◌, ◌==◌, arith, Bool, true, false, not, nat_le, nat_lt, List, [], ◌∷◌, ◌++◌, length, get_or, codes, Option, Some, None, option_map, option_and_then, append-nil, append_assoc, leb-true, ltb-true, ne_eqb}
+use Rattle.std.proofs.Common.{◌≡◌, ◌∙◌, ap, refl, sym, ℕ, ◌<◌, ◌≤◌, ◌&&◌, ◌||◌, ◌==◌, arith, Bool, true, false, not, nat_le, nat_lt, List, [], ◌∷◌, ◌++◌, length, get_or, codes, Option, Some, option_and_then, append-nil, append_assoc, leb-true, ltb-true, ne_eqb}
 use Rattle.std.specs.Int.{is_in_range}
 use Rattle.std.specs.Str.{IsUtf8}
 use Rattle.std.proofs.lemmas.Bool.{and_parts, false≢true}
@@ -8,22 +8,22 @@ use Rattle.unicode_ident.proofs.IdentLemmas.{is_xid_continue-ascii}
 use Rattle.json.specs.Token.{Token}
 use Rattle.json.specs.Lex.{tokens}
 use Rattle.json.specs.Json as json
-use Rattle.json.specs.Print.{escape, escape_byte, print, quoted}
+use Rattle.json.specs.Print.{escape, escape_byte}
 use Rattle.json.specs.Tree.{json_tokens}
 use Rattle.json.proofs.Printed.Plain.{escape_on_plain}
 use Rattle.json.proofs.Printed.Tokens.{tokens-print}
 use Rattle.json.proofs.Printed.Trees.{ArePrintable-json_tokens, value-json_tokens}
-use Rattle.serde_json.specs.Data.{Data, object, string, member, no_members}
+use Rattle.serde_json.specs.Data.{Data}
 use Rattle.serde_json.specs.Read.{max_depth, of_json, read}
 use Rattle.serde_json.specs.Written.{compact_text, outline}
 use Rattle.serde_json.proofs.Texts.{print-outline}
 use Rattle.cell_types.specs.NameRule.{is_name}
 use Rattle.rename_flow.specs.AttributeTexts.{attribute_text}
-use Rattle.user_attrs.specs.AttributeText.{are_names, attribute_data, attribute_from, attribute_of, property_of, property_text}
+use Rattle.user_attrs.specs.AttributeText.{are_names, attribute_data, attribute_from, property_of, property_text}
 use Rattle.user_attrs.specs.declared.attribute_rule.AttributeRule.{AttributeRule}
 use Rattle.user_attrs.specs.declared.attribute_rule.UserProperty.{UserProperty}
 use Rattle.user_attrs.specs.declared.attribute_rule.UserProperty.TheVariants as property
-use Rattle.ruled_renames.specs.AttributeLaw.{AttributeReadLaw, HasNames, looking_in}
+use Rattle.ruled_renames.specs.AttributeLaw.{AttributeReadLaw, looking_in}
 use Rattle.ruled_renames.proofs.NameTexts.{name_byte, never_byte}
 
 -- ---- a name needs no escapes

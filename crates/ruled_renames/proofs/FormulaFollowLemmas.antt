@@ -1,9 +1,9 @@
 -- The formula of a rule follows the change that is planned of it.
-use Rattle.std.proofs.Common.{◌≡◌, ◌∙◌, ap, arith, refl, subst, sym, ℕ, ◌+◌, ◌≤◌, Bool, true, false, cond, not, ◌&&◌, ◌||◌, nat_le, List, [], ◌∷◌, ◌++◌, map, length, Option, Some, None, option_map, option_and_then, unwrap_or, bytes_eq, leb-true, le-leb}
+use Rattle.std.proofs.Common.{◌≡◌, ◌∙◌, ap, arith, refl, subst, sym, ℕ, ◌+◌, ◌≤◌, Bool, true, false, cond, not, ◌&&◌, ◌||◌, nat_le, List, [], ◌∷◌, ◌++◌, map, length, Option, Some, None, option_map, option_and_then, unwrap_or, bytes_eq, leb-true}
 use Rattle.std.specs.Bool.{⊤}
-use Rattle.std.specs.List.{AllByRecursion, list_all, list_any}
+use Rattle.std.specs.List.{list_any}
 use Rattle.std.specs.Str.{IsUtf8, chars}
-use Rattle.std.proofs.lemmas.Bool.{false≢true, or_parts}
+use Rattle.std.proofs.lemmas.Bool.{or_parts}
 use Rattle.std.proofs.lemmas.Option.{none-some, same_Some}
 use Rattle.cell_types.specs.declared.value.CellValue.{CellValue}
 use Rattle.cell_types.specs.declared.value.CellValue.TheVariants as value
@@ -15,7 +15,7 @@ use Rattle.formula_parse.specs.declared.operator.Dialect.TheVariants as dialect
 use Rattle.formula_parse.specs.Grammar.{lexemes_of}
 use Rattle.formula_parse.specs.Lexemes.{AllAllowed, kind_of}
 use Rattle.formula_parse.specs.Runs.{tree_from}
-use Rattle.formula_parse.specs.Spelling.{SpellsIn, SpellsTree, max_bytes}
+use Rattle.formula_parse.specs.Spelling.{SpellsTree, max_bytes}
 use Rattle.formula_parse.specs.Standing.{max_height}
 use Rattle.formula_parse.specs.Tree.{Tree, number, text, constant, dollar, binary, prefix, conditional, parentheses, list, call, attribute, every, lookup, atom, Trees, no_trees, one_more, Keys, no_keys, one_key}
 use Rattle.formula_parse.proofs.WordLemmas.{spelled_tree, tree_spelled}
@@ -26,7 +26,7 @@ use Rattle.acl_rules.specs.Loaded.{text_in}
 use Rattle.formula_records.specs.declared.tables.RecordTables.{RecordTables}
 use Rattle.formula_records.specs.RecordTables.{only}
 use Rattle.rename_flow.specs.declared.text_change.TextChange.{TextChange}
-use Rattle.rename_flow.specs.Changes.{by_marks, kept, maybe_change, rewritten, rule_change, rule_tree}
+use Rattle.rename_flow.specs.Changes.{kept, maybe_change, rewritten, rule_change}
 use Rattle.rename_flow.specs.RuleParts.{scoped_change}
 use Rattle.rename_flow.specs.RuleTextLaw.{RewrittenRuleLaw}
 use Rattle.rename_flow.specs.ShownRules.{tables_in}
@@ -35,12 +35,12 @@ use Rattle.rename_marks.specs.declared.formula_place.AttributeTable.{AttributeTa
 use Rattle.rename_marks.specs.Noted.{capped}
 use Rattle.rename_marks.specs.Scope.{Scope, in_rule, rename_in}
 use Rattle.rename_marks.specs.ScopeUses.{key_uses, uses, uses_each}
-use Rattle.rename_marks.specs.Uses.{has_table, is_exactly, is_unresolved, unresolved_among, use_of}
+use Rattle.rename_marks.specs.Uses.{is_exactly, unresolved_among, use_of}
 use Rattle.rename_texts.specs.Laws.{AllFree, HeightLaw, IsFree, KeysFree, LexemeLaw, StandsLaw, WrittenLaw}
 use Rattle.rename_texts.specs.Marked.{marked, marks, rewritten as rewritten_lexeme}
 use Rattle.rename_texts.specs.Renamed.{Rename, renamed}
 use Rattle.rename_texts.specs.Rewriting.{rewritten_text}
-use Rattle.renamed_rules.specs.RenamedRules.{AskedFollows, FormulaFollows, rows_of, scope_of}
+use Rattle.renamed_rules.specs.RenamedRules.{AskedFollows, FormulaFollows}
 use Rattle.renamed_values.proofs.ResolvedLemmas.{AllResolved, IsResolved, all_resolved, parts}
 use Rattle.ruled_renames.proofs.UpdatedCells.{put}
 

@@ -1,13 +1,11 @@
 -- Plans keep what rules decide.
 use Rattle.acl_rules.specs.Loaded.{book_of}
-use Rattle.doc_model.specs.declared.view.ViewTable.{ViewTable}
 use Rattle.doc_model.specs.Document.{Document}
 use Rattle.doc_model.proofs.Choices.{each_weaker}
 use Rattle.formula_records.specs.ShownColumns.{columns_of}
 use Rattle.planned_renames.specs.PlannedValues.{PlannedValuesLaw, renames, rewriting}
 use Rattle.recalc.specs.Evaluated.{filled}
 use Rattle.rename_flow.specs.ShownRules.{attributes_in, rule_rows}
-use Rattle.rename_marks.specs.declared.column_rename.ColumnRename.{ColumnRename}
 use Rattle.renamed_rules.specs.Decisions.{RenamedDecisionLaw}
 use Rattle.renamed_rules.specs.FollowingRows.{FollowingRowsLaw}
 use Rattle.renamed_rules.specs.RenamedCells.{MovedFillingLaw}

@@ -1,6 +1,6 @@
 -- Which bytes a name has.
-use Rattle.std.proofs.Common.{◌≡◌, ◌∙◌, ap, refl, subst, sym, ℕ, ◌<◌, ◌&&◌, ◌||◌, ◌==◌, arith, Bool, true, false, not, nat_le, List, [], ◌∷◌, ◌++◌, length, get_or, codes, append-nil}
-use Rattle.std.specs.List.{AllByRecursion, list_all}
+use Rattle.std.proofs.Common.{◌≡◌, ◌∙◌, ap, refl, subst, sym, ℕ, ◌<◌, ◌&&◌, arith, Bool, true, false, not, nat_le, List, [], ◌∷◌, length, get_or, codes}
+use Rattle.std.specs.List.{list_all}
 use Rattle.std.specs.Str.{IsUtf8, NonePass, chars}
 use Rattle.std.proofs.lemmas.Bool.{and_parts, false≢true}
 use Rattle.std.proofs.lemmas.Str.{NoCharPasses-byte, chars-nil, encodes-chars}

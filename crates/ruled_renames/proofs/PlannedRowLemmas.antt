@@ -1,5 +1,5 @@
 -- Rows of rules follow the plan of a rename.
-use Rattle.std.proofs.Common.{◌≡◌, ◌∙◌, ap, refl, subst, sym, ℕ, suc, arith, Bool, true, false, cond, ◌&&◌, ◌||◌, nat_eq, List, [], ◌∷◌, ◌++◌, map, length, codes, Option, Some, None, option_map, option_and_then, unwrap_or, bytes_eq, append-nil, append_assoc}
+use Rattle.std.proofs.Common.{◌≡◌, ◌∙◌, ap, refl, subst, sym, ℕ, suc, arith, Bool, true, false, cond, ◌&&◌, ◌||◌, nat_eq, List, [], ◌∷◌, ◌++◌, length, codes, Option, Some, None, option_map, option_and_then, bytes_eq, append-nil, append_assoc}
 use Rattle.std.specs.List.{AllByRecursion}
 use Rattle.std.specs.Str.{IsUtf8}
 use Rattle.std.proofs.lemmas.Bool.{false≢true}
@@ -15,7 +15,7 @@ use Rattle.doc_model.specs.declared.user_action.UserAction.{UserAction}
 use Rattle.doc_model.specs.declared.view.ViewCol.{ViewCol}
 use Rattle.doc_model.specs.declared.view.ViewTable.{ViewTable}
 use Rattle.doc_model.specs.Apply.{all_valid, apply_all}
-use Rattle.doc_model.specs.ByIds.{find_id, has_id}
+use Rattle.doc_model.specs.ByIds.{has_id}
 use Rattle.doc_model.specs.Changes.{grid, shown_table_id}
 use Rattle.doc_model.specs.Column.{column_id}
 use Rattle.doc_model.specs.Document.{Document, Table}
@@ -34,21 +34,18 @@ use Rattle.doc_model.proofs.InverseLaws.{IsWhole-apply_all}
 use Rattle.doc_model.proofs.RowsLaws.{each_has}
 use Rattle.doc_model.proofs.WholeLaws.{good_from}
 use Rattle.doc_readers.specs.Parts.{grid_at}
-use Rattle.acl_formula.specs.FormulaText.{formula_of}
-use Rattle.acl_rules.specs.declared.resource.Resource.{Resource}
 use Rattle.acl_rules.specs.Carried.{moved as moved_by}
-use Rattle.acl_rules.specs.Loaded.{number_in, place_of, resource_at, resource_from, resource_named, rule_cell, rule_in, rule_rows as rows_in_document, text_in}
-use Rattle.formula_records.specs.declared.tables.RecordTables.{RecordTables}
+use Rattle.acl_rules.specs.Loaded.{number_in, resource_at, resource_from, resource_named, rule_cell, rule_rows as rows_in_document, text_in}
 use Rattle.planned_renames.specs.PlannedValues.{IsPlanned, actions_in, parts_of}
 use Rattle.rename_flow.specs.declared.shown_rules.RuleAbout.{RuleAbout}
 use Rattle.rename_flow.specs.declared.text_change.TextChange.{TextChange}
 use Rattle.rename_flow.specs.AttributeTexts.{attribute_change}
 use Rattle.rename_flow.specs.ColumnParts.{column_parts}
 use Rattle.rename_flow.specs.Parts.{Part}
-use Rattle.rename_flow.specs.Plan.{name_parts, plan_of, rule_parts}
+use Rattle.rename_flow.specs.Plan.{name_parts, rule_parts}
 use Rattle.rename_flow.specs.RuleParts.{attribute_changed, claims, formula_changed, no_changes, scoped_change, updated, with_changes}
 use Rattle.rename_flow.specs.RuleTextLaw.{RewrittenRuleLaw}
-use Rattle.rename_flow.specs.ShownRows.{ShownRow, rows_from, rows_in, rows_of, shown_cell, text_shown}
+use Rattle.rename_flow.specs.ShownRows.{ShownRow, rows_in, rows_of, shown_cell, text_shown}
 use Rattle.rename_flow.specs.ShownRules.{about_at, about_of, abouts_in, attribute_shown, attributes_in, claims_new, resource_rows, resource_shown, rule_rows, tables_in}
 use Rattle.rename_marks.specs.declared.column_rename.ColumnRename.{ColumnRename}
 use Rattle.rename_marks.specs.declared.formula_place.AttributeTable.{AttributeTable}
@@ -56,8 +53,7 @@ use Rattle.rename_texts.specs.Laws.{HeightLaw, LexemeLaw, StandsLaw, WrittenLaw}
 use Rattle.renamed_documents.specs.RenamingSteps.{naming}
 use Rattle.renamed_resources.specs.Renamed.{columns_renamed, names_table}
 use Rattle.renamed_rules.specs.FollowingRows.{MayFollow, RowFollows, RowsFollow}
-use Rattle.renamed_rules.specs.RenamedRules.{AskedFollows, IsListed, ListsKept, attribute_after}
-use Rattle.renaming_bundles.specs.AskedTexts.{bundle_of}
+use Rattle.renamed_rules.specs.RenamedRules.{AskedFollows, IsListed, ListsKept}
 use Rattle.renaming_bundles.specs.Expanded.{actions_of, expanded}
 use Rattle.user_actions.specs.Steps.{type_in}
 use Rattle.user_actions.proofs.ResourceLemmas.{grid_resources}
@@ -66,14 +62,14 @@ use Rattle.user_attrs.specs.declared.attribute_rule.AttributeRule.{AttributeRule
 use Rattle.ruled_renames.specs.AttributeLaw.{AttributeReadLaw}
 use Rattle.ruled_renames.specs.ListLaw.{RenamedListLaw}
 use Rattle.ruled_renames.specs.PlannedRules.{PlannedRowsLaw, after_plan}
-use Rattle.ruled_renames.specs.ShownRules.{AreTexts, IsAttributeText, ShowsRules, ShowsTable}
-use Rattle.ruled_renames.proofs.AccessTables.{Behind, PutsTexts, SameAccess, behind, changes_put, expanded_both, find_rules, grid_rules, resource_cells, rule_cells, text_put, users_other}
+use Rattle.ruled_renames.specs.ShownRules.{ShowsRules, ShowsTable}
+use Rattle.ruled_renames.proofs.AccessTables.{PutsTexts, SameAccess, behind, changes_put, expanded_both, find_rules, grid_rules, resource_cells, rule_cells, text_put, users_other}
 use Rattle.ruled_renames.proofs.AttributeFollowLemmas.{attribute_follows, attribute_kept, listed_at, read_attribute}
 use Rattle.ruled_renames.proofs.FormulaFollowLemmas.{formula_follows, read_formula}
 use Rattle.ruled_renames.proofs.RenameStepLemmas.{FirstDone, after_first, bundle_valid, columns_other, first_asked, first_done, first_value, moved_rows, moved_values, named_new, plan_actions, table_named, zero_rules}
 use Rattle.ruled_renames.proofs.ResourceFollowLemmas.{about_none, about_row, lists_kept, none_claim, resource_follows}
 use Rattle.ruled_renames.proofs.ShownRowLemmas.{all_none, all_zipped, at_row, cell_shown, cells_of_row, text_at, text_for, zipped}
-use Rattle.ruled_renames.proofs.UpdatedCells.{Puts, cell_in, put, put_none}
+use Rattle.ruled_renames.proofs.UpdatedCells.{cell_in, put, put_none}
 
 -- ---- a table as it is shown
 

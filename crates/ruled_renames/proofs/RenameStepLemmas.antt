@@ -1,12 +1,11 @@
 -- The first action of a plan, and which of its parts leave the tables of access rules.
-use Rattle.std.proofs.Common.{◌≡◌, ◌∙◌, ap, refl, subst, sym, ℕ, Bool, true, false, cond, not, ◌&&◌, ◌||◌, List, [], ◌∷◌, ◌++◌, map, filter, codes, Option, Some, None, option_map, bytes_eq, if◌then◌else◌, length, ◌+◌, ◌*◌, ◌≤◌, arith}
-use Rattle.std.specs.List.{AllByRecursion, list_all, list_any}
+use Rattle.std.proofs.Common.{◌≡◌, ◌∙◌, ap, refl, subst, sym, ℕ, Bool, true, false, cond, not, ◌&&◌, ◌||◌, List, [], ◌∷◌, ◌++◌, map, codes, Option, Some, None, bytes_eq, if◌then◌else◌, length, ◌+◌, ◌*◌, ◌≤◌, arith}
+use Rattle.std.specs.List.{AllByRecursion, list_all}
 use Rattle.std.specs.Option.{is_some}
 use Rattle.std.proofs.lemmas.Bool.{and_parts, false≢true, or_parts}
 use Rattle.std.proofs.lemmas.Slice.Eq.{bytes_eq-Decides}
 use Rattle.std.proofs.lemmas.Str.{chars-nil}
 use Rattle.cell_types.specs.declared.value.CellValue.{CellValue}
-use Rattle.cell_types.specs.declared.value.CellValue.TheVariants as value
 use Rattle.cell_types.specs.NameRule.{is_name}
 use Rattle.doc_model.specs.declared.action.DocAction.{DocAction}
 use Rattle.doc_model.specs.declared.action.DocAction.TheVariants as action
@@ -20,17 +19,15 @@ use Rattle.doc_model.specs.Apply.{all_valid, apply, apply_all}
 use Rattle.doc_model.specs.ByIds.{find_id, has_id}
 use Rattle.doc_model.specs.Column.{column_id}
 use Rattle.doc_model.specs.Document.{Document, Table, table_id}
-use Rattle.doc_model.specs.DocumentLaws.{IsWhole}
 use Rattle.doc_model.specs.Grid.{Grid, cell}
 use Rattle.doc_model.specs.MetadataIds.{is_metadata_id, resources_id}
 use Rattle.doc_model.specs.Records.{value_for}
 use Rattle.doc_model.specs.Rows.{has}
 use Rattle.doc_model.specs.Same.{same_value}
 use Rattle.doc_model.specs.Schema.{no_grid, resources, rules}
-use Rattle.doc_model.specs.Valid.{is_new_column, passes, schema_table, valid}
-use Rattle.doc_model.specs.ViewEdits.{if_any}
+use Rattle.doc_model.specs.Valid.{is_new_column, schema_table, valid}
 use Rattle.doc_model.proofs.ByIdsLaws.{bytes_apart, found_all, found_has, found_id}
-use Rattle.doc_model.proofs.Choices.{each_both, each_weaker}
+use Rattle.doc_model.proofs.Choices.{each_weaker}
 use Rattle.doc_model.proofs.DocumentParts.{passes_parts}
 use Rattle.doc_model.proofs.RecordsLaws.{value_for-map}
 use Rattle.doc_model.proofs.RowsLaws.{has-filter}
@@ -44,10 +41,9 @@ use Rattle.formula_parse.specs.FormulaOf.{formula_of}
 use Rattle.formula_parse.specs.Spelling.{max_bytes}
 use Rattle.formula_parse.specs.Tree.{constant}
 use Rattle.formula_parse.proofs.FormulaOfLemmas.{formula_empty}
-use Rattle.formula_records.specs.ShownColumns.{columns_of, shown_column}
+use Rattle.formula_records.specs.ShownColumns.{columns_of}
 use Rattle.name_rules.specs.FreeName.{free_name, is_taken, least_free, numbered}
 use Rattle.planned_renames.specs.PlannedValues.{IsPlanned, actions_in, parts_of}
-use Rattle.planned_renames.specs.WholeView.{shown_as}
 use Rattle.planned_renames.proofs.ColumnPlans.{OfColumn, parts_have}
 use Rattle.planned_renames.proofs.PlanParts.{with_parts_actions, with_parts_none}
 use Rattle.recalc.specs.Evaluated.{column_in}
@@ -66,10 +62,9 @@ use Rattle.user_actions.specs.CellUpdates.{column_changed, rows_changed}
 use Rattle.user_actions.specs.ResourceSteps.{columns_moved, rows_about}
 use Rattle.user_actions.specs.StepLaws.{action_of}
 use Rattle.user_actions.specs.Steps.{column_ids, column_renaming}
-use Rattle.user_actions.proofs.ResourceLemmas.{grid_resources}
 use Rattle.doc_model.proofs.Choices.{cond_true}
-use Rattle.ruled_renames.proofs.AccessTables.{Behind, IsOtherAsked, PutsResources, SameAccess, behind, one_other, resources_put, whole_after}
-use Rattle.ruled_renames.proofs.UpdatedCells.{Puts, cell_in, put}
+use Rattle.ruled_renames.proofs.AccessTables.{IsOtherAsked, one_other, resources_put, whole_after}
+use Rattle.ruled_renames.proofs.UpdatedCells.{Puts, put}
 
 -- an empty text is the formula `None`
 none_short : 0 ≤ max_bytes

@@ -1,5 +1,5 @@
 -- Rules follow the plan of a rename.
-use Rattle.std.specs.Prelude.{ℕ, true, List, Option, option_map, map, ◌≡◌}
+use Rattle.std.specs.Prelude.{ℕ, List, Option, option_map, map, ◌≡◌}
 use Rattle.std.specs.List.{AllByRecursion}
 use Rattle.acl_checks.specs.Denials.{decided}
 use Rattle.acl_formula.specs.declared.permissions.Perm.{Perm}

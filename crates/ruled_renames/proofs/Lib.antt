@@ -1,0 +1,12 @@
+pub mod NameTexts
+pub mod ListTexts
+pub mod AttributeReadLemmas
+pub mod UpdatedCells
+pub mod ShownRowLemmas
+pub mod AccessTables
+pub mod RenameStepLemmas
+pub mod ResourceFollowLemmas
+pub mod FormulaFollowLemmas
+pub mod AttributeFollowLemmas
+pub mod PlannedRowLemmas
+pub mod KeptDecisions

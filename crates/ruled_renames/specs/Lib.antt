@@ -1,0 +1,4 @@
+pub mod ListLaw
+pub mod AttributeLaw
+pub mod ShownRules
+pub mod PlannedRules

@@ -24,6 +24,7 @@ use Rattle.undo_bundles.proofs.LogLaws.{marked_count, noted_count}
 use Rattle.bundle_judge.specs.Judgement.{Judgement, accepted, refused, judge}
 use Rattle.bundle_judge.specs.Undo.{judge_own_undo}
 use Rattle.bundle_core.specs.Mailbox.{Mailbox, Outcome, quiet, shows_view, says, own, due, posted, posted_if_any, emptied, is_full}
+use Rattle.bundle_core.specs.Renaming.{judge_renaming}
 use Rattle.bundle_core.specs.State.{State, Open, Holder, Verdicts, session_name, session_of, mailbox_of, posted_to, posted_all, with_session, turn_of, step, verdicts, from_closed, from_open, from_lagging, opened, bundle_of, user_of, answered, refusal, session_bound}
 use Rattle.rule_contexts.specs.Context.{view}
 

@@ -25,6 +25,7 @@ use Rattle.bundle_core.specs.Core.{CoreState, IsStep, has_no_effect, is_gone, is
 use Rattle.bundle_core.specs.KeptCore.{state_now}
 use Rattle.bundle_core.specs.MadeLines.{CountsOn, is_more, last_line, last_of, line_due, line_posted, lines_in, lines_made, made_elsewhere, made_line, made_own}
 use Rattle.bundle_core.specs.Mailbox.{Mailbox, Outcome, asked_table, due, emptied, is_full, own, posted_if_any, quiet, says, shown_part, shows_view}
+use Rattle.bundle_core.specs.Renaming.{judge_renaming}
 use Rattle.bundle_core.specs.Replies.{reply_of}
 use Rattle.bundle_core.specs.State.{Holder, Open, State, Verdicts, answered, bundle_of, from_closed, from_lagging, from_open, mailbox_of, opening, posted_all, posted_to, refusal, session_of, shown_if_any, step, turn_of, verdicts}
 use Rattle.bundle_core.proofs.CoreLaws.{gone_verdicts, run_append, verdicts_gone}

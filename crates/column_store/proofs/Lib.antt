@@ -12,3 +12,4 @@ pub mod AboveLaws
 pub mod ComeLaws
 pub mod FreshLaws
 pub mod ToldLaws
+pub mod GuessLaws

@@ -69,12 +69,13 @@ fn take_table(tables: &mut Vec<ColumnTable>, index: usize) -> Result<PlainChange
 }
 
 // The index of the table of this id, which is there.
-fn found_index(tables: &[ColumnTable], id: &Name) -> usize
-    requires { has_id table_id tables.now id.now ≡ true }
+fn found_index(tables: &[ColumnTable], guess: Option<usize>, id: &Name) -> usize
+    requires distinct { AreDistinct table_id tables.now }
+    requires there { has_id table_id tables.now id.now ≡ true }
     ensures within { result < length tables.now }
     ensures found { slice_get tables.now result ≡ find_id table_id id.now tables.now }
 {
-    let Some(index) = index_of_table(tables, id) else {
+    let Some(index) = index_of_table(tables, guess, id) else {
         unreachable!()
     };
     index
@@ -136,7 +137,11 @@ fn add_table(
 }
 
 // Removes the table of this id.
-fn remove_table(tables: &mut Vec<ColumnTable>, id: &Name) -> Result<PlainChange, AllocError>
+fn remove_table(
+    tables: &mut Vec<ColumnTable>,
+    guess: Option<usize>,
+    id: &Name,
+) -> Result<PlainChange, AllocError>
     requires distinct { AreDistinct table_id tables.old.items }
     requires there { has_id table_id tables.old.items id.now ≡ true }
     ensures done { OnOk result (tables.new.items ≡ without_id table_id id.now tables.old.items) }
@@ -144,13 +149,14 @@ fn remove_table(tables: &mut Vec<ColumnTable>, id: &Name) -> Result<PlainChange,
     ensures fit { IfOk result (λ change. plain_fits change tables.new.items) }
     ensures err { OnErr result (tables.new.items ≡ tables.old.items) }
 {
-    let index = found_index(tables, id);
+    let index = found_index(tables, guess, id);
     take_table(tables, index)
 }
 
 // Changes the table that the action names, in place.
 fn change_table(
     tables: &mut Vec<ColumnTable>,
+    guess: Option<usize>,
     action: &DocAction,
 ) -> Result<PlainChange, AllocError>
     requires whole { IsWhole tables.old.items }
@@ -164,12 +170,13 @@ fn change_table(
     ensures fit { IfOk result (λ change. plain_fits change tables.new.items) }
     ensures err { OnErr result (tables.new.items ≡ tables.old.items) }
 {
-    let index = found_index(tables, table_named(action));
+    let index = found_index(tables, guess, table_named(action));
     let back = tables[index].reshape(action)?;
     Ok(PlainChange::Changed { index, back })
 }
 
-/// Changes the plain tables as a schema action does.
+/// Changes the plain tables as a schema action does. The table that it names is looked for at a
+/// guess first.
 ///
 /// All tables are walked: no schema action names a metadata table, and their row is 0, so that no
 /// new table goes before them.
@@ -178,6 +185,7 @@ fn change_table(
 /// where they are or move by one place, and that of the changed table.
 pub(crate) fn change_plain(
     tables: &mut Vec<ColumnTable>,
+    guess: Option<usize>,
     action: &DocAction,
 ) -> Result<PlainChange, AllocError>
     requires whole { IsWhole tables.old.items }
@@ -194,8 +202,8 @@ pub(crate) fn change_plain(
             row,
             columns,
         } => add_table(tables, table, *row, columns.as_slice()),
-        DocAction::RemoveTable { table } => remove_table(tables, table),
-        _ => change_table(tables, action),
+        DocAction::RemoveTable { table } => remove_table(tables, guess, table),
+        _ => change_table(tables, guess, action),
     }
 }
 

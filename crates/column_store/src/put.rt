@@ -62,7 +62,11 @@ pub(crate) fn put_back(tables: &mut Vec<ColumnTable>, replaced: Replaced)
 
 // Applies a schema action: changes the plain tables, and then makes the schema tables anew, which
 // describe them; where memory is wanting, the plain tables are changed back.
-fn schema_put(tables: &mut Vec<ColumnTable>, action: &DocAction) -> Result<Replaced, AllocError>
+fn schema_put(
+    tables: &mut Vec<ColumnTable>,
+    guess: Option<usize>,
+    action: &DocAction,
+) -> Result<Replaced, AllocError>
     requires whole { IsWhole tables.old.items }
     requires valid { valid tables.old.items action.now ≡ true }
     requires schema { is_record action.now ≡ false }
@@ -71,7 +75,7 @@ fn schema_put(tables: &mut Vec<ColumnTable>, action: &DocAction) -> Result<Repla
     ensures fit { IfOk result (λ replaced. has_index replaced tables.new.items) }
     ensures err { OnErr result (tables.new.items ≡ tables.old.items) }
 {
-    let change = change_plain(tables, action)?;
+    let change = change_plain(tables, guess, action)?;
     match schema_tables(tables) {
         Ok(after) => {
             let schema = swap_schema(tables, after);
@@ -86,7 +90,11 @@ fn schema_put(tables: &mut Vec<ColumnTable>, action: &DocAction) -> Result<Repla
 
 // Adds a table, and tells the schema tables of it in their places; where memory is wanting, the
 // table goes again.
-fn table_put(tables: &mut Vec<ColumnTable>, action: &DocAction) -> Result<Replaced, AllocError>
+fn table_put(
+    tables: &mut Vec<ColumnTable>,
+    guess: Option<usize>,
+    action: &DocAction,
+) -> Result<Replaced, AllocError>
     requires whole { IsWhole tables.old.items }
     requires valid { valid tables.old.items action.now ≡ true }
     requires adds { adds_table action.now ≡ true }
@@ -96,7 +104,7 @@ fn table_put(tables: &mut Vec<ColumnTable>, action: &DocAction) -> Result<Replac
     ensures err { OnErr result (tables.new.items ≡ tables.old.items) }
 {
     let told = told_of(*tables.allocator(), action)?;
-    let change = change_plain(tables, action)?;
+    let change = change_plain(tables, guess, action)?;
     match tell_schema(tables, told) {
         Ok(schema) => Ok(Replaced::Told { schema, change }),
         Err(error) => {
@@ -114,7 +122,11 @@ fn adds_table(action: &DocAction) -> bool
 }
 
 // Applies a record action, in place of the table that it names.
-fn record_put(tables: &mut Vec<ColumnTable>, action: &DocAction) -> Result<Replaced, AllocError>
+fn record_put(
+    tables: &mut Vec<ColumnTable>,
+    guess: Option<usize>,
+    action: &DocAction,
+) -> Result<Replaced, AllocError>
     requires whole { IsWhole tables.old.items }
     requires valid { valid tables.old.items action.now ≡ true }
     requires record { is_record action.now ≡ true }
@@ -123,18 +135,19 @@ fn record_put(tables: &mut Vec<ColumnTable>, action: &DocAction) -> Result<Repla
     ensures fit { IfOk result (λ replaced. has_index replaced tables.new.items) }
     ensures err { OnErr result (tables.new.items ≡ tables.old.items) }
 {
-    let Some(index) = index_of_table(tables, table_named(action)) else {
+    let Some(index) = index_of_table(tables, guess, table_named(action)) else {
         unreachable!()
     };
     let change = tables[index].put(action)?;
     Ok(Replaced::Changed { index, change })
 }
 
-/// Applies an action.
+/// Applies an action. The table that it names is looked for at a guess first.
 ///
 /// Errors: out of memory; all tables are then as they were.
 pub(crate) fn action_put(
     tables: &mut Vec<ColumnTable>,
+    guess: Option<usize>,
     action: &DocAction,
 ) -> Result<Replaced, AllocError>
     requires whole { IsWhole tables.old.items }
@@ -145,10 +158,10 @@ pub(crate) fn action_put(
     ensures err { OnErr result (tables.new.items ≡ tables.old.items) }
 {
     if is_record(action) {
-        record_put(tables, action)
+        record_put(tables, guess, action)
     } else if adds_table(action) {
-        table_put(tables, action)
+        table_put(tables, guess, action)
     } else {
-        schema_put(tables, action)
+        schema_put(tables, guess, action)
     }
 }

@@ -1,7 +1,7 @@
 //! Document actions as changes of one table, and the index of that table.
 
-ghost use Rattle.std.specs.Prelude.{◌≡◌, ◌<◌, None, MatchOption, length, slice_get};
-ghost use Rattle.doc_model.specs.ByIds.{find_id};
+ghost use Rattle.std.specs.Prelude.{◌≡◌, ◌<◌, IfSome, None, MatchOption, length, slice_get};
+ghost use Rattle.doc_model.specs.ByIds.{AreDistinct, find_id};
 ghost use Rattle.doc_model.specs.Document.{table_id};
 ghost use Rattle.row_tables.specs.Steps.{is_record, table_index, table_named};
 
@@ -38,10 +38,8 @@ pub(crate) fn table_named(action: &DocAction) -> &Name
     }
 }
 
-/// The index of the table of this id.
-///
-/// Memory: none. Cost: linear in the tables.
-pub(crate) fn index_of_table(tables: &[ColumnTable], id: &Name) -> Option<usize>
+// The index of the table of this id, by a walk.
+fn walked_index(tables: &[ColumnTable], id: &Name) -> Option<usize>
     ensures { MatchOption result (find_id table_id id.now tables.now ≡ None)
         (λ k. (k < length tables.now)
         × (slice_get tables.now k ≡ find_id table_id id.now tables.now)) }
@@ -52,6 +50,40 @@ pub(crate) fn index_of_table(tables: &[ColumnTable], id: &Name) -> Option<usize>
         }
     }
     None
+}
+
+// The index, where the table of this id stands there.
+fn confirmed(tables: &[ColumnTable], guess: Option<usize>, id: &Name) -> Option<usize>
+    requires { AreDistinct table_id tables.now }
+    ensures { IfSome result (λ k. (k < length tables.now)
+        × (slice_get tables.now k ≡ find_id table_id id.now tables.now)) }
+{
+    let index = guess?;
+    let table = tables.get(index)?;
+    if is_same_id(table.id(), id) {
+        Some(index)
+    } else {
+        None
+    }
+}
+
+/// The index of the table of this id. A guess is looked at first, whatever it is.
+///
+/// Memory: none. Cost: linear in the tables where the guess is wrong, else the same for each.
+pub(crate) fn index_of_table(
+    tables: &[ColumnTable],
+    guess: Option<usize>,
+    id: &Name,
+) -> Option<usize>
+    requires { AreDistinct table_id tables.now }
+    ensures { MatchOption result (find_id table_id id.now tables.now ≡ None)
+        (λ k. (k < length tables.now)
+        × (slice_get tables.now k ≡ find_id table_id id.now tables.now)) }
+{
+    match confirmed(tables, guess, id) {
+        Some(index) => Some(index),
+        None => walked_index(tables, id),
+    }
 }
 
 /// Where a table of that row goes: before the first one with a greater row.

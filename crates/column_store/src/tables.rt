@@ -2,13 +2,14 @@
 
 ghost use Rattle.std.specs.Prelude.{◌≡◌, IfOk, None, map};
 ghost use Rattle.std.specs.Option.{option_copied};
-ghost use Rattle.doc_model.specs.ByIds.{find_id};
+ghost use Rattle.doc_model.specs.ByIds.{AreDistinct, find_id};
 ghost use Rattle.doc_model.specs.Document.{table_id};
 ghost use Rattle.doc_model.specs.NewDocument.{new_document};
 
 use crate::fresh::new_tables;
-use crate::look::is_same_id;
+use crate::places::{Places, are_many};
 use crate::put::{Replaced, action_put, put_back};
+use crate::steps::{index_of_table, table_named};
 use crate::table::ColumnTable;
 use cell_types::{CellValue, Name};
 use doc_model::{ColDef, DocAction, DocReader, DocTables};
@@ -20,6 +21,9 @@ use std::marker::Model;
 #[derive(Drop)]
 pub struct ColumnTables {
     pub(crate) tables: Vec<ColumnTable>,
+    // Where tables stood by their ids, where they are many. Each is a guess, which the table that
+    // stands there confirms: so nothing is to be done where an action is taken back.
+    guesses: Option<Places>,
 }
 
 impl Model for ColumnTables {
@@ -36,11 +40,74 @@ impl Model for ColumnTables {
     ghost invariant = { λ a. IsWhole a.tables.items };
 }
 
-// The table of this id.
-fn find_table<'a>(tables: &'a [ColumnTable], id: &Name) -> Option<&'a ColumnTable>
+// The table of this id. A guess is looked at first.
+fn find_table<'a>(
+    tables: &'a [ColumnTable],
+    guess: Option<usize>,
+    id: &Name,
+) -> Option<&'a ColumnTable>
+    requires { AreDistinct table_id tables.now }
     ensures { option_copied result ≡ find_id table_id id.now tables.now }
 {
-    tables.iter().find(|table| is_same_id(table.id(), id))
+    let index = index_of_table(tables, guess, id)?;
+    tables.get(index)
+}
+
+// The places of tables, where they are many and there is memory.
+fn table_places(alloc: Global, tables: &[ColumnTable]) -> Option<Places> {
+    if !are_many(tables.len()) {
+        return None;
+    }
+    let mut places = Places::new(alloc);
+    for table in tables {
+        if !places.try_push(alloc, table.id()) {
+            return None;
+        }
+    }
+    Some(places)
+}
+
+// Where the table of this id may stand.
+fn guess_of(guesses: &Option<Places>, id: &Name) -> Option<usize> {
+    match guesses {
+        Some(places) => places.place(id),
+        None => None,
+    }
+}
+
+// Where the table that an action names may stand. Where nothing is guessed all tables are noted, if
+// there is memory.
+fn guess_for(
+    guesses: &mut Option<Places>,
+    tables: &Vec<ColumnTable>,
+    action: &DocAction,
+) -> Option<usize> {
+    if guesses.is_none() {
+        *guesses = table_places(*tables.allocator(), tables);
+    }
+    guess_of(guesses, table_named(action))
+}
+
+// Notes where a table stands that came, and tells whether it came last.
+fn note_last(places: &mut Places, tables: &Vec<ColumnTable>, id: &Name) -> bool {
+    let last = tables.len().checked_sub(1);
+    if places.place(id).is_none() {
+        let _noted = places.try_push(*tables.allocator(), id);
+    }
+    places.place(id) == last
+}
+
+// What is guessed after an action: a table that came last is noted, and where others may have moved
+// all is forgotten, until the next action.
+fn follow(guesses: &mut Option<Places>, tables: &Vec<ColumnTable>, action: &DocAction) {
+    let is_right = match (action, &mut *guesses) {
+        (DocAction::AddTable { table, .. }, Some(places)) => note_last(places, tables, table),
+        (DocAction::RemoveTable { .. } | DocAction::RenameTable { .. }, _) => false,
+        _ => true,
+    };
+    if !is_right {
+        *guesses = None;
+    }
 }
 
 // No cell for each row.
@@ -61,7 +128,8 @@ impl ColumnTables {
         ensures { IfOk result (λ s. s ≡ new_document) }
     {
         let tables = new_tables(alloc)?;
-        Ok(ColumnTables { tables })
+        let guesses = None;
+        Ok(ColumnTables { tables, guesses })
     }
 
     /// A copy of the document.
@@ -71,7 +139,8 @@ impl ColumnTables {
         ensures { IfOk result (λ s. s ≡ self.now) }
     {
         let tables = all_copied(alloc, &self.tables, |table| table.copy())?;
-        Ok(ColumnTables { tables })
+        let guesses = table_places(alloc, &tables);
+        Ok(ColumnTables { tables, guesses })
     }
 }
 
@@ -89,15 +158,17 @@ impl DocReader for ColumnTables {
     }
 
     fn column(&self, table: &Name, index: usize) -> Option<&ColDef> {
-        find_table(&self.tables, table)?.columns().get(index)
+        find_table(&self.tables, guess_of(&self.guesses, table), table)?
+            .columns()
+            .get(index)
     }
 
     fn rows(&self, table: &Name) -> Option<&[u32]> {
-        Some(find_table(&self.tables, table)?.rows())
+        Some(find_table(&self.tables, guess_of(&self.guesses, table), table)?.rows())
     }
 
     fn cell(&self, table: &Name, column: &Name, row: u32) -> Option<&CellValue> {
-        find_table(&self.tables, table)?.cell(column, row)
+        find_table(&self.tables, guess_of(&self.guesses, table), table)?.cell(column, row)
     }
 
     fn cells(
@@ -107,7 +178,7 @@ impl DocReader for ColumnTables {
         column: &Name,
         rows: &[u32],
     ) -> Result<Vec<Option<&CellValue>>, AllocError> {
-        match find_table(&self.tables, table) {
+        match find_table(&self.tables, guess_of(&self.guesses, table), table) {
             Some(found) => found.column_cells(alloc, column, rows),
             None => no_cells(alloc, rows),
         }
@@ -124,7 +195,9 @@ impl DocTables for ColumnTables {
     ghost fits = { λ back s. fits_back back.replaced s };
 
     fn put(&mut self, action: &DocAction) -> Result<ColumnBack, AllocError> {
-        let replaced = action_put(&mut self.tables, action)?;
+        let guess = guess_for(&mut self.guesses, &self.tables, action);
+        let replaced = action_put(&mut self.tables, guess, action)?;
+        follow(&mut self.guesses, &self.tables, action);
         Ok(ColumnBack { replaced })
     }
 

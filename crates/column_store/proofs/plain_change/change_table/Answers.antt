@@ -1,6 +1,6 @@
 use Rattle.std.proofs.Common.{ℕ, List, Some, get_or, set, slice_get, length, ◌≡◌, ◌<◌, refl, sym, subst, ap, ◌∙◌}
 use Rattle.std.proofs.lemmas.Option.{slice_get_read}
-use Rattle.doc_model.specs.ByIds.{find_id}
+use Rattle.doc_model.specs.ByIds.{find_id, AreDistinct}
 use Rattle.doc_model.specs.Document.{Document, Table, table_id}
 use Rattle.row_tables.specs.Steps.{table_named, table_change}
 use Rattle.row_tables.proofs.SchemaLaws.{changed_found}
@@ -36,3 +36,6 @@ pub returns-clause-fit : goal.returns-clause-fit
 returns-clause-fit c =
     let within : c.found_index-index.result < length c.args.tables.now.items = subst (λ z. c.found_index-index.result < length z) c.deref.ensures.value c.found_index-index.ensures.within in
     changed_fits c.args.tables.now.items c.found_index-index.result c.index_mut.result.now c.reshape.new.self within (back_fits c.in_ok-back.back) c.in_ok-back.ensures.fit
+
+pub found_index-index-requires-clause-distinct : goal.found_index-index-requires-clause-distinct
+found_index-index-requires-clause-distinct c = subst (AreDistinct table_id) (sym c.deref.ensures.value) c.requires.whole.sound.distinct

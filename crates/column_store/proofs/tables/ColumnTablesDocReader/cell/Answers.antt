@@ -1,5 +1,5 @@
-use Rattle.std.proofs.Common.{◌≡◌, Some, sym, ap, ◌∙◌}
-use Rattle.doc_model.specs.ByIds.{find_id}
+use Rattle.std.proofs.Common.{◌≡◌, Some, sym, ap, ◌∙◌, subst}
+use Rattle.doc_model.specs.ByIds.{find_id, AreDistinct}
 use Rattle.doc_model.specs.Document.{Table, table_id}
 use Rattle.doc_model.specs.Readers.{cell_at}
 use Rattle.doc_model.specs.Sound.{IsSoundGrid}
@@ -20,3 +20,6 @@ returns c =
     ∙ cell-found c.self.inside.tables.items c.args.table.now c.args.column.now c.args.row c.in_ok-find_table.field-0.now c.self.invariant.sound
     (sym (c.in_ok-find_table.ensures ∙ ap (find_id table_id c.args.table.now) c.deref.ensures.value))
     ∙ ap (λ s. cell_at s c.args.table.now c.args.column.now c.args.row) c.self.view_is)
+
+pub find_table-requires : goal.find_table-requires
+find_table-requires c = subst (AreDistinct table_id) (sym c.deref.ensures.value) c.self.invariant.sound.distinct

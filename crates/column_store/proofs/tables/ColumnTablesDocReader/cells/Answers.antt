@@ -1,6 +1,6 @@
 use Rattle.std.proofs.Common.{◌≡◌, ◌∙◌, Some, IfOk, ap, sym, subst, map}
 use Rattle.std.specs.Option.{option_copied}
-use Rattle.doc_model.specs.ByIds.{find_id}
+use Rattle.doc_model.specs.ByIds.{find_id, AreDistinct}
 use Rattle.doc_model.specs.Document.{Table, table_id}
 use Rattle.doc_model.specs.Readers.{cell_at}
 use Rattle.doc_model.specs.Sound.{IsSoundGrid}
@@ -23,3 +23,6 @@ returns-in-Some c =
     (map_same (kept c.in-Some.found.now.grid c.args.column.now) (cell_at c.args.self.now c.args.table.now c.args.column.now) c.args.rows.now
     (λ r. cell-found c.self.inside.tables.items c.args.table.now c.args.column.now r c.in-Some.found.now c.self.invariant.sound found ∙ ap (λ s. cell_at s c.args.table.now c.args.column.now r) c.self.view_is))
     c.column_cells.ensures
+
+pub find_table-requires : goal.find_table-requires
+find_table-requires c = subst (AreDistinct table_id) (sym c.deref.ensures.value) c.self.invariant.sound.distinct

@@ -1,7 +1,7 @@
 use Rattle.std.proofs.Common.{sym, ap, ◌∙◌}
 use Rattle.std.specs.Str.{bytes_eq}
 use Rattle.row_tables.proofs.StepLaws.{find_at}
-use Rattle.column_store.proofs.steps.index_of_table.Goals as goal
+use Rattle.column_store.proofs.steps.walked_index.Goals as goal
 
 pub returns-then-is_same_id : goal.returns-then-is_same_id
 returns-then-is_same_id c = (

@@ -1,7 +1,7 @@
 use Rattle.std.proofs.Common.{◌≡◌, drop}
 use Rattle.doc_model.specs.ByIds.{find_id}
 use Rattle.doc_model.specs.Document.{table_id}
-use Rattle.column_store.proofs.steps.index_of_table.Given as goal
+use Rattle.column_store.proofs.steps.walked_index.Given as goal
 
 -- the rest finds what the whole finds
 abbrev pub invariant-loop-index : goal.invariant-loop-index

@@ -18,8 +18,8 @@ const REQUESTS: &str = concat!(
 {"table":"no name", "method":"fetchTable"} => Fetch { table: CellText { shared: Some("no name") "#,
     r#"} }
 {"column":"K","method":"renameColumn","new":"1x","table":""} => Rename { table: CellText { "#,
-    r#"shared: None }, column: CellText { shared: Some("K") }, new: CellText { shared: Some("1x") "#,
-    r#"} }
+    r#"shared: None }, column: CellText { shared: Some("K") }, new: CellText { shared: "#,
+    r#"Some("1x") } }
 {"bundle":0,"method":"undo"} => Undo { bundle: 0 }
 {"method":"undo","bundle":9223372036854775807} => Undo { bundle: 9223372036854775807 }
 {"actions":[],"method":"applyUserActions"} => Apply { actions: Sequence { items: [] } }

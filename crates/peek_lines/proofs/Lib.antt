@@ -1,0 +1,2 @@
+pub mod PeekLemmas
+pub mod AnswerLemmas

@@ -1,0 +1,4 @@
+pub mod Past
+pub mod Shots
+pub mod Rule
+pub mod Views

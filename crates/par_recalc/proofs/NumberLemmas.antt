@@ -1,5 +1,5 @@
 -- Numbers of ids, and rounds by them.
-use Rattle.std.proofs.Common.{ℕ, zero, suc, Bool, true, false, cond, ◌||◌, ◌+◌, ◌<◌, ◌≤◌, ◌≡◌, ◌⊎◌, inl, inr, refl, sym, ap, ◌∙◌, subst, arith, List, [], ◌∷◌, ◌++◌, map, length, get_or, set, drop, Option, Some, None}
+use Rattle.std.proofs.Common.{ℕ, zero, suc, Bool, true, false, cond, ◌||◌, ◌+◌, ◌<◌, ◌≤◌, ◌≡◌, ◌⊎◌, ◌↔◌, inl, inr, refl, sym, ap, ◌∙◌, subst, arith, List, [], ◌∷◌, ◌++◌, map, length, get_or, set, drop, Option, Some, None}
 use Rattle.std.specs.Prelude.{not, option_to_list}
 use Rattle.std.specs.List.{list_all, list_any}
 use Rattle.std.specs.Option.{option_or}
@@ -205,10 +205,10 @@ blank_false (f ∷ fs) (suc p) = blank_false fs p
 
 -- ---- one round
 
-same_bool : (a b : Bool) → (a ≡ true → b ≡ true) → (b ≡ true → a ≡ true) → a ≡ b
-same_bool true b there back = sym (there refl)
-same_bool false true there back = back refl
-same_bool false false there back = refl
+same_from : (a b : Bool) → ((a ≡ true) ↔ (b ≡ true)) → a ≡ b
+same_from true b ways = sym (ways.0 refl)
+same_from false true ways = ways.1 refl
+same_from false false ways = refl
 
 module _ (fs : List ColumnFormula) (k : ℕ) where
   abbrev waiting : List Bool
@@ -233,7 +233,7 @@ module _ (fs : List ColumnFormula) (k : ℕ) where
           (λ g j own. of_ready fs k f g h j (in_any g.column (named f.formula) (subst (λ n. In n (named f.formula)) (injective fs 0 q g.column p at own) i)))
 
   ready_same : (f : ColumnFormula) → are_ready waiting (numbers_named fs f) ≡ is_ready fs k f
-  ready_same f = same_bool (are_ready waiting (numbers_named fs f)) (is_ready fs k f) (ready_there f) (ready_back f)
+  ready_same f = same_from (are_ready waiting (numbers_named fs f)) (is_ready fs k f) (ready_there f, ready_back f)
 
   marks_of : (gs : List ColumnFormula) → next_marks waiting (map (numbers_named fs) gs) (map (is_below fs k) gs) ≡ map (is_below fs (suc k)) gs
   marks_of [] = refl

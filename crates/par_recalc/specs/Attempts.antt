@@ -34,7 +34,8 @@ run_at told f r = evaluated told (record { table = f.table; row = r }) f.formula
 
 -- one attempt at the cell of a column in a row
 abbrev pub IsCellAttempt : Reader → ColumnFormula → ℕ → CellAttempt → Type 0
-IsCellAttempt told f r a = (a.cell ≡ cell_at f.table f.column r) × IsFound told (run_at told f r) a.found
+IsCellAttempt told f r a =
+    (a.cell ≡ cell_at f.table f.column r) × IsFound told (run_at told f r) a.found
 
 abbrev pub IsAt : Reader → ColumnFormula × ℕ → CellAttempt → Type 0
 IsAt told c a = IsCellAttempt told c.0 c.1 a

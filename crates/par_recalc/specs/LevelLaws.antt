@@ -34,7 +34,8 @@ Leads fs (suc n) f g = (h : ColumnFormula) × IsAmong h fs × (names f h ≡ tru
 
 -- naming leads from a column to one from which it leads back
 abbrev pub LeadsIntoCycle : List ColumnFormula → ColumnFormula → Type 0
-LeadsIntoCycle fs f = (g : ColumnFormula) × ((n : ℕ) × Leads fs n f g) × ((m : ℕ) × Leads fs (suc m) g g)
+LeadsIntoCycle fs f =
+    (g : ColumnFormula) × ((n : ℕ) × Leads fs n f g) × ((m : ℕ) × Leads fs (suc m) g g)
 
 -- the place is one of them
 abbrev pub IsPlaceIn : ℕ → List ℕ → Type 0

@@ -1,6 +1,6 @@
 //! One attempt at each cell of a level, in as many threads as serve.
 
-ghost use Rattle.std.specs.Prelude.{◌≡◌, ◌<◌, IfOk, length};
+ghost use Rattle.std.specs.Prelude.{◌≡◌, ◌<◌, IfOk, length, slice_get};
 ghost use Rattle.std.specs.List.{AllZip};
 ghost use Rattle.std.specs.Option.{option_copied};
 ghost use Rattle.formula_eval.specs.Eval.{evaluated};
@@ -161,6 +161,12 @@ fn attempt_some<T: Threads + Sync, R: CellReader + Sync>(
     }
 }
 
+fn column_at(columns: &[ColumnFormula], place: usize) -> Option<&ColumnFormula>
+    ensures { option_copied result ≡ slice_get columns.now place }
+{
+    columns.get(place)
+}
+
 // At each cell of the columns at some places, one place after the other.
 fn run_places<T: Threads + Sync, R: CellReader + Sync>(
     rt: &T,
@@ -174,7 +180,7 @@ fn run_places<T: Threads + Sync, R: CellReader + Sync>(
 {
     let mut all = Vec::new(alloc);
     for place in places {
-        let mut found = attempt_some(rt, alloc, columns.get(*place), reader)?;
+        let mut found = attempt_some(rt, alloc, column_at(columns, *place), reader)?;
         all.append(&mut found)?;
     }
     Ok(all)

@@ -1,4 +1,4 @@
-use Rattle.std.proofs.Common.{◌≡◌, ◌+◌, get_or, take, subst, sym, rules, slice_get}
+use Rattle.std.proofs.Common.{◌+◌, take, subst, sym}
 use Rattle.std.specs.List.{AllZip}
 use Rattle.std.specs.Option.{option_copied}
 use Rattle.par_recalc.specs.Attempts.{IsAt, places_cells}
@@ -11,6 +11,5 @@ loop-place-preserved g c =
     let fs = c.args.columns.now in
     let ps = c.args.places.now in
     let i = c.loop-place.place-index in
-    let at : option_copied c.get.result ≡ slice_get fs (get_or ps i 0) = search rules in
     subst (AllZip (IsAt told) (places_cells told fs (take (i + 1) ps))) (sym c.in_ok-append.ensures.items)
-    (more_cells told fs ps i (option_copied c.get.result) c.loop-place.all.items c.in_ok-found.found.items c.loop-place-test.true at c.loop-place.invariant c.in_ok-found.ensures)
+    (more_cells told fs ps i (option_copied c.column_at.result) c.loop-place.all.items c.in_ok-found.found.items c.loop-place-test.true c.column_at.ensures c.loop-place.invariant c.in_ok-found.ensures)

@@ -5,7 +5,7 @@ use Rattle.std.specs.List.{list_all, list_any}
 use Rattle.std.specs.Option.{option_or}
 use Rattle.std.specs.Str.{bytes_eq}
 use Rattle.std.proofs.lemmas.Bool.{true≢false, false≢true, cases_eq, not-true, not_from_false, or_from, or_left, or_parts, or_right}
-use Rattle.std.proofs.lemmas.List.{get_or-set_other, get_or-set_same, length-map, length-set}
+use Rattle.std.proofs.lemmas.List.{get_or-set_other, get_or-set_same, length-map, length-set, set_past}
 use Rattle.std.proofs.lemmas.Slice.Eq.{bytes_eq-Decides}
 use Rattle.par_recalc.specs.declared.plan.ColumnFormula.{ColumnFormula}
 use Rattle.par_recalc.specs.LevelLaws.{IsAmong}
@@ -197,6 +197,10 @@ module _ (p : ℕ) where
     unsettled [] waiting h marked = h
     unsettled (f ∷ gs) waiting h marked =
         unsettled gs (with_column waiting (own f) (below f)) (after_one waiting (own f) (below f) h (marked f (inl refl))) (λ g i. marked g (inr i))
+
+-- past its end a list stays as it is
+pub same_past : (bs : List Bool) (i : ℕ) (b : Bool) → length bs ≤ i → bs ≡ set bs i b
+same_past bs i b le = sym (set_past bs i b le)
 
 pub blank_false : (fs : List ColumnFormula) (p : ℕ) → get_or (blank fs) p false ≡ false
 blank_false [] p = refl

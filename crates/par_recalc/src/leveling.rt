@@ -1,6 +1,6 @@
 //! The levels of formula columns, found round by round.
 
-ghost use Rattle.std.specs.Prelude.{◌≡◌, ◌++◌, ◌||◌, length, map, IfOk, OnOk};
+ghost use Rattle.std.specs.Prelude.{◌≡◌, ◌++◌, ◌||◌, true, length, map, slice_set, IfOk, OnOk};
 ghost use Rattle.std.specs.List.{list_any};
 ghost use Rattle.par_recalc.specs.Levels.{AreLevels, marked_anew, one_anew};
 ghost use Rattle.par_recalc.specs.Numbers.{numbers_named, own_number};
@@ -21,6 +21,15 @@ fn blank(alloc: Global, formulas: &[ColumnFormula]) -> Result<Vec<bool>, AllocEr
     Ok(marks)
 }
 
+#[tactic(auto, using(crate::proofs::NumberLemmas::same_past))]
+fn set_waiting(waiting: &mut [bool], number: usize)
+    ensures { waiting.new ≡ slice_set waiting.old number true }
+{
+    if number < waiting.len() {
+        waiting[number] = true;
+    }
+}
+
 // Tells that a column waits, by the number of its id, where it is not marked.
 fn with_column(waiting: &mut [bool], own: Option<usize>, mark: bool)
     ensures { waiting.new ≡ with_column waiting.old own mark }
@@ -31,9 +40,7 @@ fn with_column(waiting: &mut [bool], own: Option<usize>, mark: bool)
     let Some(number) = own else {
         return;
     };
-    if let Some(place) = waiting.get_mut(number) {
-        *place = true;
-    }
+    set_waiting(waiting, number);
 }
 
 // The same of all columns.

@@ -1,0 +1,7 @@
+mod CellLemmas
+mod CycleLemmas
+mod LevelLemmas
+mod NamingLemmas
+mod NumberLemmas
+mod OkLemmas
+mod RoundLemmas

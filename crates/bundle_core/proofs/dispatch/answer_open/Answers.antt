@@ -1,15 +1,18 @@
 use Rattle.std.proofs.Common.{◌≡◌, Bool, true, false, get_or, Some, None, refl, sym, ap, subst, ◌∙◌, arith}
 use Rattle.std.proofs.lemmas.Result.{IfOk-weaker}
+use Rattle.doc_model.specs.declared.user.User.{User}
 use Rattle.bundle_judge.specs.declared.bare_verdict.BareVerdict.TheVariants.{Done}
 use Rattle.bundle_core.specs.declared.dispatch.Turn.{Turn}
 use Rattle.bundle_core.specs.Core.{marked}
 use Rattle.bundle_core.specs.Dispatch.{Answers, state_of}
+use Rattle.bundle_core.specs.Renaming.{planned}
 use Rattle.bundle_core.specs.SessionState.{SessionState}
-use Rattle.bundle_core.specs.State.{answered, fetched, from_open}
+use Rattle.bundle_core.specs.State.{Holder, answered, fetched, from_open}
 use Rattle.bundle_core.specs.Turns.{IsTurn}
+use Rattle.bundle_core.proofs.JudgedLemmas.{asks_renaming}
 use Rattle.bundle_core.proofs.KeptTurns.{found_none, quiet_err, quiet_kept, quiet_ok}
 use Rattle.bundle_core.proofs.OpenLemmas.{code_lagging, code_open, code_sync, find_leaves, find_stays, comes_lagging, comes_open}
-use Rattle.bundle_core.proofs.Prepared.{on_err_always}
+use Rattle.bundle_core.proofs.Prepared.{at_any, on_err_always}
 use Rattle.bundle_core.proofs.dispatch.answer_open.Goals as goal
 
 pub returns-then-is_lagging : goal.returns-then-is_lagging
@@ -151,3 +154,14 @@ returns-in-Close g c =
       err_faults = on_err_always c.quiet-in-Close.result refl;
       later = omega arith;
     }
+
+pub answer_renaming-requires-clause-asks : goal.answer_renaming-requires-clause-asks
+answer_renaming-requires-clause-asks g c =
+    λ d. let s = g.D.DocReader.document c.args.doc.now in
+    let xs = c.args.sessions.now.items in
+    let h : Holder = (get_or xs c.args.index d).holder in
+    let at = at_any xs c.args.index c.index-in-Rename.result.now d c.requires.finds.within c.index-in-Rename.ensures in
+    let own : c.user-user.result.now ≡ h.user = c.user-user.ensures ∙ ap (λ (x : SessionState). x.holder.user) (sym at) in
+    let P : User → Type 0 = λ u. c.in_ok-plan-in-Rename.plan ≡ planned u s c.in-Rename.table c.in-Rename.column c.in-Rename.new in
+    asks_renaming h s c.args.entry.now.request c.in-Rename.table c.in-Rename.column c.in-Rename.new c.in_ok-plan-in-Rename.plan c.in-Rename.is
+    (subst P own c.in_ok-plan-in-Rename.ensures.plan)

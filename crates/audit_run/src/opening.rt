@@ -7,17 +7,17 @@ ghost use Rattle.doc_model.specs.NewDocument.{new_document};
 ghost use Rattle.doc_opening.specs.Opening.{FirstBad, Opens};
 ghost use Rattle.doc_opening.specs.declared.opening.StartCause.TheVariants.{BadStore, StoreFault};
 
-use column_store::ColumnTables;
 use doc_keeper::{KeepFault, Keeper};
 use doc_model::laws::new_document_law;
 use doc_opening::{StartCause, open_records};
 use evaluated_doc::Doc;
+use row_tables::RowTables;
 use std::alloc::Global;
 
 /// A document that was made of so many records, evaluated.
 #[derive(Drop)]
 pub(crate) struct OpenedDocument {
-    pub doc: Doc<ColumnTables>,
+    pub doc: Doc<RowTables>,
     pub count: u32,
 }
 
@@ -40,7 +40,7 @@ fn make_ready<K: Keeper>(keeper: &mut K) -> Result<(), StartCause>
 fn take_records<K: Keeper>(
     alloc: Global,
     keeper: &mut K,
-    tables: &mut ColumnTables,
+    tables: &mut RowTables,
 ) -> Result<u32, StartCause>
     requires first { tables.old ≡ new_document }
     ensures same { K.records keeper.new ≡ K.records keeper.old }
@@ -78,7 +78,7 @@ pub(crate) fn open_document<K: Keeper>(
     if let Err(cause) = make_ready(keeper) {
         return Err(cause);
     }
-    let Ok(mut tables) = ColumnTables::new_document(alloc) else {
+    let Ok(mut tables) = RowTables::new_document(alloc) else {
         return Err(StartCause::NoMemory);
     };
     match take_records(alloc, keeper, &mut tables) {

@@ -11,25 +11,25 @@ ghost use Rattle.bundle_core.specs.Loading.{IsLoaded, IsLoadedAs};
 
 use crate::ruled_document::RuledDocument;
 use action_limits::Tally;
-use column_store::ColumnTables;
 use doc_keeper::{KeepFault, Keeper};
 use doc_model::laws::new_document_law;
 use doc_opening::{StartCause, open_records};
 use evaluated_doc::Doc;
+use row_tables::RowTables;
 use std::alloc::{AllocError, Global};
 
 /// The document that a core began with: a new one, or a copy of what records made of it.
 #[derive(Drop)]
 pub(crate) enum Opening {
     NewDocument,
-    Copied(ColumnTables),
+    Copied(RowTables),
 }
 
 /// A document that was made of so many records, evaluated, with its tally and the copy of it.
 #[derive(Drop)]
 pub(crate) struct Loaded {
     pub opening: Opening,
-    pub doc: RuledDocument<ColumnTables>,
+    pub doc: RuledDocument<RowTables>,
     pub tally: Tally,
     pub count: u32,
 }
@@ -50,7 +50,7 @@ fn make_ready<K: Keeper>(keeper: &mut K) -> Result<(), StartCause>
 }
 
 // What is kept of a document that was made of so many records: nothing of a new one.
-fn opening_of(alloc: Global, tables: &ColumnTables, count: u32) -> Result<Opening, AllocError>
+fn opening_of(alloc: Global, tables: &RowTables, count: u32) -> Result<Opening, AllocError>
     requires { count ≡ 0 → tables.now ≡ new_document }
     ensures { IfOk result (λ o. document_of o ≡ tables.now) }
 {
@@ -61,7 +61,7 @@ fn opening_of(alloc: Global, tables: &ColumnTables, count: u32) -> Result<Openin
 }
 
 // Counts a document and evaluates it.
-fn evaluated(alloc: Global, tables: ColumnTables, count: u32) -> Result<Loaded, AllocError>
+fn evaluated(alloc: Global, tables: RowTables, count: u32) -> Result<Loaded, AllocError>
     requires whole { IsWhole tables }
     requires first { count ≡ 0 → tables ≡ new_document }
     ensures { IfOk result (λ l. IsLoadedAs tables count l) }
@@ -84,7 +84,7 @@ fn evaluated(alloc: Global, tables: ColumnTables, count: u32) -> Result<Loaded, 
 fn take_records<K: Keeper>(
     alloc: Global,
     keeper: &mut K,
-    tables: &mut ColumnTables,
+    tables: &mut RowTables,
 ) -> Result<u32, StartCause>
     requires first { tables.old ≡ new_document }
     ensures same { K.records keeper.new ≡ K.records keeper.old }
@@ -119,7 +119,7 @@ pub(crate) fn load<K: Keeper>(alloc: Global, keeper: &mut K) -> Result<Loaded, S
     if let Err(cause) = make_ready(keeper) {
         return Err(cause);
     }
-    let Ok(mut tables) = ColumnTables::new_document(alloc) else {
+    let Ok(mut tables) = RowTables::new_document(alloc) else {
         return Err(StartCause::NoMemory);
     };
     match take_records(alloc, keeper, &mut tables) {

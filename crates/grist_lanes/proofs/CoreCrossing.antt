@@ -36,7 +36,7 @@ use Rattle.formula_parse.proofs.operator.PrefixOp.TheSendSync.{the_send as prefi
 use Rattle.formula_parse.proofs.rule.RuleAtom.TheSendSync.{the_send as ruleAtom-send}
 use Rattle.known_reads.proofs.beside.KnownReads.TheSendSync.{the_send as knownReads-send}
 use Rattle.recalc.proofs.indexes.ColumnIndex.TheSendSync.{the_send as columnIndex-send}
-use Rattle.column_store.proofs.tables.ColumnTables.TheSendSync.{the_send as columnTables-send}
+use Rattle.row_tables.proofs.tables.RowTables.TheSendSync.{the_send as rowTables-send}
 use Rattle.undo_bundles.proofs.log.BundleLog.TheSendSync.{the_send as bundleLog-send}
 use Rattle.user_attrs.proofs.attribute_rule.AttributeRule.TheSendSync.{the_send as attributeRule-send}
 use Rattle.watch_box.proofs.watch_list.WatchList.TheSendSync.{the_send as watchList-send}
@@ -62,10 +62,10 @@ use Rattle.acl_rules.specs.contracts.decision.Ctx as ctx
 use Rattle.agreeing_contexts.specs.contracts.field.UserField as field
 use Rattle.context_changes.specs.contracts.known.KnownContexts as known
 use Rattle.doc_keeper.specs.declared.keeper.Keeper as keeper
-use Rattle.column_store.specs.contracts.tables.ColumnTables as tables
-use Rattle.column_store.specs.contracts.tables.ColumnTablesDocTables as doc-tables
-use Rattle.column_store.specs.contracts.tables.ColumnBack as back
-use Rattle.column_store.specs.contracts.tables.ColumnTablesDocReader as doc-reader
+use Rattle.row_tables.specs.contracts.tables.RowTables as tables
+use Rattle.row_tables.specs.contracts.tables.RowTablesDocTables as doc-tables
+use Rattle.row_tables.specs.contracts.tables.RowBack as back
+use Rattle.row_tables.specs.contracts.tables.RowTablesDocReader as doc-reader
 use Rattle.evaluated_doc.specs.contracts.doc.Doc as doc
 use Rattle.bundle_core.specs.contracts.ruled_document.RuledDocument as ruled
 use Rattle.bundle_core.specs.contracts.ruled_document.RuledDocument.TheInside as ruled-inside
@@ -113,7 +113,7 @@ ruleset parts = (
   lookupKind-send,
   prefixOp-send,
   ruleAtom-send,
-  columnTables-send,
+  rowTables-send,
   knownReads-send,
   columnIndex-send,
   bundleLog-send,

@@ -1,9 +1,8 @@
 //! Tests of evaluation by what changed: random changes of a document with formulas, each cell
-//! compared with evaluation from the records alone, and the store by columns with that by rows; and
-//! how often changes of large documents ask the store for a cell.
+//! compared with evaluation from the records alone; and how often changes of large documents ask
+//! the store for a cell.
 //!
-//! Stands on `evaluated_doc`, `column_store`, `row_tables`, `doc_actions`, `doc_model` and
-//! `cell_types`. Nothing stands on it.
+//! Stands on `evaluated_doc`, `row_tables`, `doc_model` and `cell_types`. Nothing stands on it.
 //!
 //! Promises: nothing. What is tested of random changes is proved of every document: that what is
 //! kept is what evaluation afresh gives. They show that changes succeed where there is memory, and

@@ -104,9 +104,12 @@ fn column_index(table: &Name, column: &Name, index: LookupIndex) -> Result<Colum
     })
 }
 
-// Makes the index of a column, where it is a data column and has none. By `id` rows are found
-// without one.
-fn index_column<D: DocTables>(
+/// Makes the index of a column, where it is a data column in which no error stands and has none. By
+/// `id` rows are found without one.
+///
+/// Errors: out of memory; the indexes are then to be given up.
+/// Memory: a row id for each row of the table. Cost: linear in the table's rows, where it is made.
+pub fn index_column<D: DocTables>(
     alloc: Global,
     tables: &D,
     indexes: &mut Vec<ColumnIndex>,

@@ -41,7 +41,7 @@ mod watched;
 pub use blank::blank_tables;
 pub use cells::{cell_id, keep_lost, push_cells, row_of};
 pub use current::{brings_formula, has_formula, has_formulas};
-pub use indexes::{ColumnIndex, bucket_at, index_lookup, index_lookups};
+pub use indexes::{ColumnIndex, bucket_at, index_column, index_lookup, index_lookups};
 pub use kept::{KeptColumn, KeptTable};
 pub use names::{push_if, sorted};
 pub use places::{column_at, exchange_value, value_beside};

@@ -24,8 +24,10 @@ fn blank_values(alloc: Global, rows: &[u32]) -> Result<Vec<Option<CellValue>>, A
     Ok(values)
 }
 
-// The formula of a text, where it has one.
-fn tree_of(alloc: Global, text: &CellText) -> Result<Option<Formula>, AllocError>
+/// The formula of a text, where it has one.
+///
+/// Errors: out of memory.
+pub fn tree_of(alloc: Global, text: &CellText) -> Result<Option<Formula>, AllocError>
     ensures { IfOk result (λ tree. tree ≡ formula_of text.now) }
 {
     match parse(alloc, text.as_str()) {

@@ -38,7 +38,7 @@ mod rows;
 mod touched;
 mod watched;
 
-pub use blank::blank_tables;
+pub use blank::{blank_tables, tree_of};
 pub use cells::{cell_id, keep_lost, push_cells, row_of};
 pub use current::{brings_formula, has_formula, has_formulas};
 pub use indexes::{ColumnIndex, bucket_at, index_column, index_lookup, index_lookups};

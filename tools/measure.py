@@ -175,21 +175,46 @@ def updates():
     yield "a row that 50 sums read, 50,000 rows beside 5,000", f"{come[0] / come[1]:.2f} times", "flat"
 
 
+FEW = {"Q": "$N // 3", "S": "SUM(Work.lookupRecords(K=$K).N)"}
+MORE = {**FEW, "T": "SUM(Work.lookupRecords(K=$K).Q)", "U": "$N + $S", "V": "MAX(Work.lookupRecords(K=$K).N)",
+        "W": "$S if $N < 0 else $Q"}
+
+
+def work_rows(count):
+    """Rows of a table of numbers, 50 of a key."""
+    keys = max(count // 50, 1)
+    return rows("Work", 500, N=[n * 7919 % 1000 - 500 for n in range(count)], K=[n * 37 % keys for n in range(count)])
+
+
 def opened():
     """A kept document as the generator makes it, opened, and told whole to a session."""
     count, words = size(5_000), ("replay", "--doc", "work")
-    few = {"Q": "$N // 3", "S": "SUM(Work.lookupRecords(K=$K).N)"}
-    more = {**few, "T": "SUM(Work.lookupRecords(K=$K).Q)", "U": "$N + $S", "V": "MAX(Work.lookupRecords(K=$K).N)",
-            "W": "$S if $N < 0 else $Q"}
-    for texts in (few, more):
+    for texts in (FEW, MORE):
         lines = [USER, OPEN, table("Work", N="Int", K="Int", **{id: "=" + text for id, text in texts.items()})]
-        lines += rows("Work", 500, N=[n * 7919 % 1000 - 500 for n in range(count)], K=[n * 37 % 100 for n in range(count)])
+        lines += work_rows(count)
         lines += [update("Work", row, N=row * 31 % 1000 - 500) for row in range(1, min(count, 200) + 1)]
         with tempfile.TemporaryDirectory() as folder:
             made = run_once(lines, words, folder)[0]
             alone, shown = least([USER], 5, words, folder)[0], least([USER, OPEN], 5, words, folder)[0]
         yield (f"a kept document of {count:,} rows and {len(texts)} formula columns, opened and told whole",
                f"{1e3 * shown:.0f} ms ({1e3 * alone:.0f} opened, made in {made:.2f} s)", "500 ms")
+
+
+def levels():
+    """Kept documents opened on one processor and on all: their formula columns are evaluated level by level."""
+    words, every = ("replay", "--doc", "work"), os.sched_getaffinity(0)
+    one = {min(every)}
+    for count in (size(5_000), size(200_000)):
+        data = [USER, OPEN, table("Work", N="Int", K="Int"), *work_rows(count)]
+        with tempfile.TemporaryDirectory() as folder:
+            run_once(data, words, folder)
+            plain = least([USER], 3, words, folder, one)[0]
+            run_once([USER, OPEN, *(formula("Work", id, text) for id, text in MORE.items())], words, folder)
+            alone, low = least([USER], 3, words, folder, one)
+            shared, high = least([USER], 3, words, folder, every)
+        yield (f"a kept document of {count:,} rows and {len(MORE)} formula columns, opened on {len(every)} processors",
+               f"{1e3 * shared:.0f} ms, {shared / alone:.2f} of one processor's time, {high / low:.2f} of its memory "
+               f"({1e3 * plain:.0f} ms without formulas)", "0.4" if count > size(5_000) else "1")
 
 
 def keeping():
@@ -453,7 +478,7 @@ def generated():
 
 WORKLOADS = {
     "adds": added_rows, "bundles": bundles, "undo": undo, "rules": rules, "formulas": formulas, "updates": updates,
-    "opening": opened, "keeping": keeping, "serving": serving, "views": views, "told": of_changes, "audits": audits, "gen": generated,
+    "opening": opened, "levels": levels, "keeping": keeping, "serving": serving, "views": views, "told": of_changes, "audits": audits, "gen": generated,
 }
 
 

@@ -65,13 +65,15 @@ def update(table, row, session="s1", **cells):
     return bundle(["UpdateRecord", table, row, cells], session=session)
 
 
-def run_once(lines, words=("replay",), folder=None, program=None):
-    """The seconds of a run over these lines, its peak memory in bytes, and what it wrote."""
+def run_once(lines, words=("replay",), folder=None, program=None, processors=None):
+    """The seconds of a run over these lines, on these processors alone where some are given, its peak memory in bytes,
+    and what it wrote."""
+    only = processors and (lambda: os.sched_setaffinity(0, processors))
     with tempfile.TemporaryFile() as script, tempfile.TemporaryFile() as out:
         script.writelines(line.encode() for line in lines)
         script.seek(0)
         start = time.monotonic()
-        run = subprocess.Popen([program or PROGRAM, *words], stdin=script, stdout=out, cwd=folder)
+        run = subprocess.Popen([program or PROGRAM, *words], stdin=script, stdout=out, cwd=folder, preexec_fn=only)
         _, status, usage = os.wait4(run.pid, 0)
         seconds = time.monotonic() - start
         run.returncode = os.waitstatus_to_exitcode(status)
@@ -81,10 +83,10 @@ def run_once(lines, words=("replay",), folder=None, program=None):
         return seconds, usage.ru_maxrss * 1024, out.read()
 
 
-def least(lines, times=3, words=("replay",), folder=None):
+def least(lines, times=3, words=("replay",), folder=None, processors=None):
     """The least seconds of so many runs over these lines, and the greatest peak of memory."""
     lines = list(lines)
-    ran = [run_once(lines, words, folder)[:2] for _ in range(times)]
+    ran = [run_once(lines, words, folder, processors=processors)[:2] for _ in range(times)]
     return min(seconds for seconds, _ in ran), max(peak for _, peak in ran)
 
 

@@ -23,7 +23,7 @@ use crate::altering::{find_altered, refresh_altered};
 use crate::going_back::go_back_to;
 use crate::indexing::{enter_behind, gone_rows, leave_behind, take_indexes};
 use crate::moving::{find_moved, moved_by, refresh_moved};
-use crate::starting::{Start, start_alone, start_of};
+use crate::starting::{Start, start_alone, start_in_levels, start_of};
 use crate::touching::{Touched, refresh_cells, touched_cells};
 use crate::trace::{Before, Trace};
 use crate::updating::{find_affected, is_of_schema, is_update, refresh_updated};
@@ -43,6 +43,7 @@ use std::alloc::{AllocError, Global};
 use std::marker::{Brand, Model};
 use std::mem;
 use std::sync::ledger::{Blank, Ledger};
+use std::thread::Threads;
 
 /// A document with its evaluated cells. It is seen as its tables.
 ///
@@ -84,13 +85,15 @@ pub enum ChangeFault {
     NoMemory,
 }
 
-impl<D: DocTables> Doc<D> {
-    /// Evaluates the cells of a document, and records what they read by the same attempts.
+impl<D: DocTables<Back: Send> + Sync> Doc<D> {
+    /// Evaluates the cells of a document, level by level in as many threads as serve, and records
+    /// what they read by the same attempts. What comes of it is what one thread finds.
     ///
     /// Errors: out of memory.
     /// Memory: a value for each formula cell, what the graph takes of its reads, an index of each
-    /// data column by which lookups are made, and a stack as deep as the chains of cells.
-    pub fn start(alloc: Global, tables: D) -> Result<Doc<D>, AllocError>
+    /// data column by which lookups are made, a stack as deep as the chains of cells, and what some
+    /// thousand attempts found.
+    pub fn start<T: Threads + Sync>(rt: &T, alloc: Global, tables: D) -> Result<Doc<D>, AllocError>
         requires { IsWhole (D.document tables) }
         ensures { IfOk result (λ doc. doc ≡ tables) }
     {
@@ -98,7 +101,7 @@ impl<D: DocTables> Doc<D> {
             kept,
             reads,
             indexes,
-        } = start_alone::<D, Brand>(alloc, &tables, Blank::new(1))?;
+        } = start_in_levels::<T, D, Brand>(rt, alloc, &tables, Blank::new(1))?;
         Ok(Doc {
             alloc,
             tables,
@@ -108,6 +111,30 @@ impl<D: DocTables> Doc<D> {
         })
     }
 
+    /// Evaluates all cells again. They are as they were.
+    ///
+    /// Errors: out of memory.
+    /// Memory: as to start.
+    pub fn refresh_all<T: Threads + Sync>(
+        &mut self,
+        rt: &T,
+        alloc: Global,
+    ) -> Result<(), AllocError>
+        ensures { D.document self.new ≡ D.document self.old }
+    {
+        let Start {
+            kept,
+            reads,
+            indexes,
+        } = start_in_levels::<T, D, Brand>(rt, alloc, &self.tables, Blank::new(1))?;
+        self.kept = kept;
+        self.reads = reads;
+        self.indexes = indexes;
+        Ok(())
+    }
+}
+
+impl<D: DocTables> Doc<D> {
     /// The tables with their base cells.
     ///
     /// Memory: none.
@@ -467,11 +494,8 @@ impl<D: DocTables> Doc<D> {
         }
     }
 
-    /// Evaluates all cells again. They are as they were.
-    ///
-    /// Errors: out of memory.
-    /// Memory: as to start.
-    pub fn refresh_all(&mut self, alloc: Global) -> Result<(), AllocError>
+    // Evaluates all cells again, in one thread.
+    fn evaluate_anew(&mut self, alloc: Global) -> Result<(), AllocError>
         ensures { D.document self.new ≡ D.document self.old }
     {
         let Start {
@@ -495,7 +519,7 @@ impl<D: DocTables> Doc<D> {
         ensures { D.document self.new ≡ D.document self.old }
     {
         if !self.reads.is_known() {
-            return self.refresh_all(alloc);
+            return self.evaluate_anew(alloc);
         }
         let cells = touched_cells(alloc, self.reads.graph(), touched)?;
         let Some(kept) = &mut self.kept else {

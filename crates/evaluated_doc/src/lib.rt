@@ -23,7 +23,8 @@
 //! at each read that is recorded for what it affects, copies the values of all formula cells, and
 //! evaluates those that it affects or alters. The indexes of the data columns by which cells look
 //! rows up are made once, and each action on records keeps them up by its rows, and so does its way
-//! back; any other action gives them up. At its start, and where a first column is given a formula,
+//! back; any other action gives them up. At its start, which goes by levels in as many threads as
+//! serve, and where a first column is given a formula,
 //! the whole document is evaluated and recorded, and where too much is read to be recorded, by each
 //! change. Where no column has a formula nothing is kept, and a record action looks at what it
 //! writes or removes. Which cells `Doc::refresh` evaluates is not promised: their values stay.

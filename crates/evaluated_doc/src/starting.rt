@@ -14,10 +14,11 @@ ghost use Rattle.known_reads.specs.Beside.{KnowsReads};
 
 use doc_model::DocTables;
 use formula_eval::Steps;
-use known_reads::{Evaluated, KnownReads, evaluate_recording};
+use known_reads::{Evaluated, KnownReads, evaluate_in_levels, evaluate_recording};
 use recalc::{ColumnIndex, KeptTable, has_formulas};
 use std::alloc::{AllocError, Global};
 use std::sync::ledger::{Blank, Ledger};
+use std::thread::Threads;
 
 /// The values of the formula cells of a document, what these read, and indexes of its data columns;
 /// nothing where no column has a formula.
@@ -80,7 +81,7 @@ pub(crate) fn start_of<D: DocTables, L: Ledger>(
     })
 }
 
-/// Evaluates a document, in a count of its own.
+/// Evaluates a document in one thread, in a count of its own.
 ///
 /// Errors, memory and cost: as to `start_of`.
 pub(crate) fn start_alone<D: DocTables, L: Ledger>(
@@ -100,4 +101,40 @@ pub(crate) fn start_alone<D: DocTables, L: Ledger>(
 {
     let mut steps = Steps::<L>::new(blank);
     start_of(alloc, tables, false, false, &mut steps)
+}
+
+/// The same by levels, in as many threads as serve.
+///
+/// Errors: out of memory. Memory and cost: none without formula columns but for a look at each
+/// column, else as to `evaluate_in_levels`.
+pub(crate) fn start_in_levels<T: Threads + Sync, D: DocTables<Back: Send> + Sync, L: Ledger>(
+    rt: &T,
+    alloc: Global,
+    tables: &D,
+    blank: Blank,
+) -> Result<Start, AllocError>
+    requires name { blank.name ≡ L.name }
+    requires parts { blank.parts ≡ L.parts }
+    requires some { 0 < L.parts }
+    requires whole { IsWhole (D.document tables.now) }
+    ensures current { IfOk result
+        (λ x. IsCurrent (D.document tables.now) (option_map (λ v. v.items) x.kept)) }
+    ensures reads { IfOk result (λ x. KnowsReads (D.document tables.now) x.reads) }
+    ensures indexed { IfOk result
+        (λ x. AreIndexes (sheet_of (D.document tables.now)) x.indexes.items) }
+{
+    if !has_formulas(tables) {
+        return Ok(plain_start(alloc));
+    }
+    let mut steps = Steps::<L>::new(blank);
+    let Evaluated {
+        kept,
+        reads,
+        indexes,
+    } = evaluate_in_levels(rt, alloc, tables, &mut steps)?;
+    Ok(Start {
+        kept: Some(kept),
+        reads,
+        indexes,
+    })
 }

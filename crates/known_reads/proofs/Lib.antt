@@ -8,3 +8,4 @@ pub mod BoundLemmas
 pub mod StartedLemmas
 pub mod SourceLemmas
 pub mod WatchedLemmas
+pub mod ListedLemmas

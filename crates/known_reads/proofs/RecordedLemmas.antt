@@ -56,7 +56,7 @@ value_needs v (stops (need cs)) e h = none_some v e
 
 module _ (s : Sheet) (sheet : IsSheet s) (k : Values) (sound : IsSound s k) where
   -- an attempt that answers a value notes what the run over all values notes
-  notes_told : (c : CellId) (f : List ℕ) (v : CellValue) → s.formula c ≡ Some f → value_of (run_of (over s k) c f).out ≡ Some v → notes s c ≡ (run_of (over s k) c f).notes
+  pub notes_told : (c : CellId) (f : List ℕ) (v : CellValue) → s.formula c ≡ Some f → value_of (run_of (over s k) c f).out ≡ Some v → notes s c ≡ (run_of (over s k) c f).notes
   notes_told c f v e h =
       ap (notes_by s (λ b. Some (evaluated s b)) c) e
       ∙ (elim (over_alike needs ⊥ s k (λ b. Some (evaluated s b)) needs_joined (told_cell s k sound) c f) [

@@ -1,6 +1,7 @@
 pub mod Attempts
 pub mod Beside
 pub mod Known
+pub mod Listed
 pub mod Moved
 pub mod Recorded
 pub mod SomeCells

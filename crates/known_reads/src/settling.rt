@@ -44,8 +44,8 @@ fn is_on(stack: &[CellId], top: &CellId, cell: &CellId) -> bool
     holds(stack, cell) || is_same(top, cell)
 }
 
-// Whether a cell is a formula cell whose value is not known.
-fn is_open<D: DocTables>(tables: &D, kept: &[KeptTable], cell: &CellId) -> bool
+/// Whether a cell is a formula cell whose value is not known.
+pub(crate) fn is_open<D: DocTables>(tables: &D, kept: &[KeptTable], cell: &CellId) -> bool
     requires whole { IsWhole (D.document tables.now) }
     requires of_document { IsKeptOf (D.document tables.now) kept.now }
     ensures opened { result ≡ true → IsOpen (sheet_of (D.document tables.now))
@@ -58,8 +58,13 @@ fn is_open<D: DocTables>(tables: &D, kept: &[KeptTable], cell: &CellId) -> bool
     }
 }
 
-// Puts the value of a formula cell in its place.
-fn put_value<D: DocTables>(tables: &D, kept: &mut Vec<KeptTable>, cell: &CellId, value: CellValue)
+/// Puts the value of a formula cell in its place.
+pub(crate) fn put_value<D: DocTables>(
+    tables: &D,
+    kept: &mut Vec<KeptTable>,
+    cell: &CellId,
+    value: CellValue,
+)
     requires whole { IsWhole (D.document tables.now) }
     requires of_document { IsKeptOf (D.document tables.now) kept.old.items }
     requires opened { IsOpen (sheet_of (D.document tables.now))

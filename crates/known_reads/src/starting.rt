@@ -1,7 +1,7 @@
 //! All formula cells of a document evaluated, each recorded by the attempt that finds its value:
 //! table by table, column by column, row by row.
 
-ghost use Rattle.std.specs.Prelude.{◌≡◌, ◌+◌, ◌≤◌, List, [], map, IfOk, OnOk};
+ghost use Rattle.std.specs.Prelude.{◌≡◌, ◌+◌, ◌≤◌, List, [], length, map, IfOk, OnOk};
 ghost use Rattle.cell_types.specs.declared.cell.CellId.{CellId};
 ghost use Rattle.doc_model.specs.DocumentLaws.{IsWhole};
 ghost use Rattle.doc_readers.specs.Parts.{grid_at};
@@ -12,10 +12,11 @@ ghost use Rattle.recalc.specs.Remembered.{IsRemembered};
 ghost use Rattle.affected_cells.specs.Bound.{attempt_bound};
 ghost use Rattle.affected_search.specs.ExactNotes.{HasNoReads};
 ghost use Rattle.known_reads.specs.Attempts.{HasFormulas, most_attempts};
-ghost use Rattle.known_reads.specs.Beside.{KnowsReads};
+ghost use Rattle.known_reads.specs.Beside.{KnowsOthers, KnowsReads};
 ghost use Rattle.known_reads.specs.Walked.{AreHeld, IsWalked};
 
 use crate::beside::KnownReads;
+use crate::levels::settle_levels;
 use crate::settling::settle_cell;
 use cell_types::Name;
 use doc_model::{ColDef, DocTables};
@@ -24,6 +25,7 @@ use formula_eval::Steps;
 use recalc::{ColumnIndex, KeptTable, LastLookup, blank_tables, cell_id};
 use std::alloc::{AllocError, Global};
 use std::sync::ledger::Ledger;
+use std::thread::Threads;
 
 /// The values of the formula cells of a document, with what they read, and the indexes of the data
 /// columns by which they look rows up.
@@ -134,8 +136,30 @@ fn settle_tables<D: DocTables, L: Ledger>(
     Ok(())
 }
 
-// Evaluates all cells where none is known.
-fn settle_all<D: DocTables, L: Ledger>(
+// Nothing is known of any cell.
+fn blank_evaluated<D: DocTables>(
+    alloc: Global,
+    tables: &D,
+    is_wide: bool,
+) -> Result<Evaluated, AllocError>
+    requires { IsWhole (D.document tables.now) }
+    ensures blank { IfOk result (λ x. map table_part x.kept.items
+        ≡ map blank_table (D.document tables.now)) }
+    ensures none { IfOk result (λ x. HasNoReads x.reads.graph) }
+    ensures stale { IfOk result (λ x. x.reads.stale ≡ []) }
+    ensures indexed { IfOk result
+        (λ x. AreIndexes (sheet_of (D.document tables.now)) x.indexes.items) }
+{
+    let kept = blank_tables(alloc, tables)?;
+    Ok(Evaluated {
+        kept,
+        reads: KnownReads::blank(alloc, is_wide),
+        indexes: Vec::new(alloc),
+    })
+}
+
+// Evaluates all cells whose values are not known.
+fn settle_rest<D: DocTables, L: Ledger>(
     alloc: Global,
     tables: &D,
     evaluated: &mut Evaluated,
@@ -143,21 +167,13 @@ fn settle_all<D: DocTables, L: Ledger>(
 ) -> Result<(), AllocError>
     requires whole { IsWhole (D.document tables.now) }
     requires indexed { AreIndexes (sheet_of (D.document tables.now)) evaluated.old.indexes.items }
-    requires blank { map table_part evaluated.old.kept.items
-        ≡ map blank_table (D.document tables.now) }
-    requires none { HasNoReads evaluated.old.reads.graph }
-    requires stale { evaluated.old.reads.stale ≡ [] }
+    requires settled { IsSettled (D.document tables.now) evaluated.old.kept.items }
+    ensures walked { OnOk result (IsWalked (D.document tables.now) evaluated.old.kept.items
+        evaluated.old.reads steps.old evaluated.new.kept.items evaluated.new.reads steps.new) }
     ensures evaluated { OnOk result
         (IsEvaluated (D.document tables.now) evaluated.new.kept.items) }
-    ensures reads { OnOk result (KnowsReads (D.document tables.now) evaluated.new.reads) }
     ensures indexed { OnOk result
         (AreIndexes (sheet_of (D.document tables.now)) evaluated.new.indexes.items) }
-    ensures attempts { OnOk result (steps.new ≤ steps.old
-        + most_attempts (sheet_of (D.document tables.now))
-        (formula_cells (D.document tables.now))) }
-    ensures named { OnOk result ((all : List CellId)
-        → HasFormulas (D.document tables.now) (formula_cells (D.document tables.now)) all
-        → steps.new ≤ steps.old + attempt_bound (sheet_of (D.document tables.now)) all) }
 {
     let Evaluated {
         kept,
@@ -165,12 +181,32 @@ fn settle_all<D: DocTables, L: Ledger>(
         indexes,
     } = evaluated;
     let mut last = None;
-    let done = settle_tables(alloc, tables, kept, indexes, &mut last, reads, steps);
-    drop(last);
-    done?;
+    settle_tables(alloc, tables, kept, indexes, &mut last, reads, steps)
+}
+
+// Records what the cells read that are still stale once all are evaluated.
+fn record_rest<D: DocTables, L: Ledger>(
+    alloc: Global,
+    tables: &D,
+    evaluated: &mut Evaluated,
+    steps: &mut Steps<L>,
+)
+    requires whole { IsWhole (D.document tables.now) }
+    requires indexed { AreIndexes (sheet_of (D.document tables.now)) evaluated.old.indexes.items }
+    requires evaluated { IsEvaluated (D.document tables.now) evaluated.old.kept.items }
+    requires others { KnowsOthers (D.document tables.now) evaluated.old.reads }
+    ensures kept { evaluated.new.kept ≡ evaluated.old.kept }
+    ensures reads { KnowsReads (D.document tables.now) evaluated.new.reads }
+    ensures indexed { AreIndexes (sheet_of (D.document tables.now)) evaluated.new.indexes.items }
+    ensures steps { steps.new ≤ steps.old + length evaluated.old.reads.stale }
+{
+    let Evaluated {
+        kept,
+        reads,
+        indexes,
+    } = evaluated;
     reads.record_stale(alloc, tables, kept, indexes, steps);
     reads.give_up_where_full(alloc);
-    Ok(())
 }
 
 /// Evaluates the formula cells of a document, and records what they read by the same attempts, of
@@ -203,12 +239,40 @@ pub fn evaluate_recording<D: DocTables, L: Ledger>(
         → HasFormulas (D.document tables.now) (formula_cells (D.document tables.now)) all
         → steps.new ≤ steps.old + attempt_bound (sheet_of (D.document tables.now)) all) }
 {
-    let kept = blank_tables(alloc, tables)?;
-    let mut evaluated = Evaluated {
-        kept,
-        reads: KnownReads::blank(alloc, is_wide),
-        indexes: Vec::new(alloc),
-    };
-    settle_all(alloc, tables, &mut evaluated, steps)?;
+    let mut evaluated = blank_evaluated(alloc, tables, is_wide)?;
+    settle_rest(alloc, tables, &mut evaluated, steps)?;
+    record_rest(alloc, tables, &mut evaluated, steps);
+    Ok(evaluated)
+}
+
+/// The same by levels: the cells of a column are attempted in as many threads as serve, once all
+/// columns that its formula names are evaluated. What comes of it is what one thread finds. Of the
+/// attempts of threads those are counted that find a value.
+///
+/// Errors: out of memory.
+/// Memory and cost: as to one thread, and what some thousand attempts found beside; an index of
+/// each data column by which a formula may look rows up, also where none does.
+pub fn evaluate_in_levels<T: Threads + Sync, D: DocTables<Back: Send> + Sync, L: Ledger>(
+    rt: &T,
+    alloc: Global,
+    tables: &D,
+    steps: &mut Steps<L>,
+) -> Result<Evaluated, AllocError>
+    requires { IsWhole (D.document tables.now) }
+    ensures evaluated { IfOk result (λ x. IsEvaluated (D.document tables.now) x.kept.items) }
+    ensures reads { IfOk result (λ x. KnowsReads (D.document tables.now) x.reads) }
+    ensures indexed { IfOk result
+        (λ x. AreIndexes (sheet_of (D.document tables.now)) x.indexes.items) }
+    ensures attempts { OnOk result (steps.new ≤ steps.old
+        + most_attempts (sheet_of (D.document tables.now))
+        (formula_cells (D.document tables.now))) }
+    ensures named { OnOk result ((all : List CellId)
+        → HasFormulas (D.document tables.now) (formula_cells (D.document tables.now)) all
+        → steps.new ≤ steps.old + attempt_bound (sheet_of (D.document tables.now)) all) }
+{
+    let mut evaluated = blank_evaluated(alloc, tables, false)?;
+    settle_levels(rt, alloc, tables, &mut evaluated, steps)?;
+    settle_rest(alloc, tables, &mut evaluated, steps)?;
+    record_rest(alloc, tables, &mut evaluated, steps);
     Ok(evaluated)
 }

@@ -1,7 +1,7 @@
 mod CellLemmas
 mod CycleLemmas
 mod LevelLemmas
-mod NamingLemmas
+pub mod NamingLemmas
 mod NumberLemmas
 mod OkLemmas
 mod RoundLemmas

@@ -1,7 +1,7 @@
 //! Formula columns by levels, and attempts at all cells of a level in several threads.
 //!
 //! Stands on `cell_types` (names), `formula_parse` (trees), `formula_eval` (one attempt),
-//! `dep_graph` (notes of runs) and `rayon`. Nothing calls it yet; a start is to go by it.
+//! `dep_graph` (notes of runs) and `rayon`. Used by `known_reads`, for a start.
 //!
 //! Promises: `levels` puts each formula column in its level by the ids that stand in its formula:
 //! in level 0 where it names no formula column, else in the level after the greatest that it names,

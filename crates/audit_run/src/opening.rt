@@ -13,6 +13,7 @@ use doc_opening::{StartCause, open_records};
 use evaluated_doc::Doc;
 use row_tables::RowTables;
 use std::alloc::Global;
+use std::thread::Threads;
 
 /// A document that was made of so many records, evaluated.
 #[derive(Drop)]
@@ -63,7 +64,8 @@ fn take_records<K: Keeper>(
 /// once.
 ///
 /// Errors: `StoreFault`, where the keeper's count of faults rose; `BadStore`; out of memory.
-pub(crate) fn open_document<K: Keeper>(
+pub(crate) fn open_document<R: Threads + Sync, K: Keeper>(
+    rt: &R,
     alloc: Global,
     keeper: &mut K,
 ) -> Result<OpenedDocument, StartCause>
@@ -82,7 +84,7 @@ pub(crate) fn open_document<K: Keeper>(
         return Err(StartCause::NoMemory);
     };
     match take_records(alloc, keeper, &mut tables) {
-        Ok(count) => match Doc::start(alloc, tables) {
+        Ok(count) => match Doc::start(rt, alloc, tables) {
             Ok(doc) => Ok(OpenedDocument { doc, count }),
             Err(_) => Err(StartCause::NoMemory),
         },

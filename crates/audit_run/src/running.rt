@@ -17,6 +17,7 @@ use doc_opening::StartCause;
 use grist_run::{Outcome, Status, send, start_status, without_history};
 use io_edges::{LineReader, Outbox, Sink, Source};
 use std::alloc::Global;
+use std::thread::Threads;
 use users_alone::read_users_alone;
 
 // The lines of these users in a document that was opened.
@@ -32,7 +33,8 @@ fn lines_in(alloc: Global, opened: &OpenedDocument, users: &[User]) -> Result<St
 
 // The lines of these users in the document that the keeper's records lead to.
 #[tactic(auto, using(crate::proofs::RunLemmas::tells))]
-fn lines_told<K: Keeper>(
+fn lines_told<R: Threads + Sync, K: Keeper>(
+    rt: &R,
     alloc: Global,
     keeper: &mut K,
     users: &[User],
@@ -46,7 +48,7 @@ fn lines_told<K: Keeper>(
     ensures bad { IfErr result (λ cause. (n : ℕ) → cause ≡ BadStore n
         → FirstBad (K.records keeper.old) new_document n) }
 {
-    match open_document(alloc, keeper) {
+    match open_document(rt, alloc, keeper) {
         Ok(opened) => lines_in(alloc, &opened, users),
         Err(cause) => Err(cause),
     }
@@ -85,7 +87,8 @@ fn tell<O: Sink, K: Keeper>(
 /// Errors: the status says which event came first. It is never `Usage`, `PortFault` nor
 /// `HistoryFull`. Memory: all lines together are made before the first is written.
 /// Source: docs/PROTOCOL.md, "the program".
-pub fn audit_users<S: Source, O: Sink, K: Keeper>(
+pub fn audit_users<R: Threads + Sync, S: Source, O: Sink, K: Keeper>(
+    rt: &R,
     alloc: Global,
     input: &mut S,
     out: &mut O,
@@ -116,7 +119,7 @@ pub fn audit_users<S: Source, O: Sink, K: Keeper>(
         Err(status) => return without_history(alloc, status, keeper),
     };
     let mut keeper = keeper;
-    match lines_told(alloc, &mut keeper, users.as_slice()) {
+    match lines_told(rt, alloc, &mut keeper, users.as_slice()) {
         Ok(text) => tell(alloc, keeper, outbox, text.as_str(), out),
         Err(cause) => without_history(alloc, start_status(cause), keeper),
     }

@@ -32,6 +32,7 @@ use grist_json::Line;
 use row_tables::RowTables;
 use std::alloc::{AllocError, Global};
 use std::marker::Model;
+use std::thread::Threads;
 
 /// How many entries a history may have before a step answers that it is full.
 pub const MAX_ENTRIES: usize = 1_048_576;
@@ -117,7 +118,12 @@ impl<K: Keeper> Core<K> {
     ///
     /// Errors: `StoreFault`, where the keeper's count of faults rose; `BadStore`, of the first
     /// record that is bad at its place; out of memory. The keeper is handed back.
-    pub fn start(alloc: Global, users: UserList, keeper: K) -> Result<Core<K>, StartFault<K>>
+    pub fn start<R: Threads + Sync>(
+        rt: &R,
+        alloc: Global,
+        users: UserList,
+        keeper: K,
+    ) -> Result<Core<K>, StartFault<K>>
         ensures ok { IfOk result (λ c. IsStarted users (K.records keeper) (K.failures keeper) c) }
         ensures same { IfErr result (λ f. K.records f.keeper ≡ K.records keeper) }
         ensures later { IfErr result (λ f. K.failures keeper ≤ K.failures f.keeper) }
@@ -127,7 +133,7 @@ impl<K: Keeper> Core<K> {
             → FirstBad (K.records keeper) new_document n) }
     {
         let mut keeper = keeper;
-        match load(alloc, &mut keeper) {
+        match load(rt, alloc, &mut keeper) {
             Ok(loaded) => Ok(Core::of(alloc, users, loaded, keeper)),
             Err(cause) => Err(StartFault { cause, keeper }),
         }

@@ -17,6 +17,7 @@ use doc_opening::{StartCause, open_records};
 use evaluated_doc::Doc;
 use row_tables::RowTables;
 use std::alloc::{AllocError, Global};
+use std::thread::Threads;
 
 /// The document that a core began with: a new one, or a copy of what records made of it.
 #[derive(Drop)]
@@ -61,7 +62,12 @@ fn opening_of(alloc: Global, tables: &RowTables, count: u32) -> Result<Opening, 
 }
 
 // Counts a document and evaluates it.
-fn evaluated(alloc: Global, tables: RowTables, count: u32) -> Result<Loaded, AllocError>
+fn evaluated<R: Threads + Sync>(
+    rt: &R,
+    alloc: Global,
+    tables: RowTables,
+    count: u32,
+) -> Result<Loaded, AllocError>
     requires whole { IsWhole tables }
     requires first { count ≡ 0 → tables ≡ new_document }
     ensures { IfOk result (λ l. IsLoadedAs tables count l) }
@@ -71,7 +77,7 @@ fn evaluated(alloc: Global, tables: RowTables, count: u32) -> Result<Loaded, All
         // Never taken: no memory holds so much.
         return Err(AllocError);
     };
-    let doc = RuledDocument::new(alloc, Doc::start(alloc, tables)?)?;
+    let doc = RuledDocument::new(alloc, Doc::start(rt, alloc, tables)?)?;
     Ok(Loaded {
         opening,
         doc,
@@ -107,7 +113,11 @@ fn take_records<K: Keeper>(
 /// document is evaluated once.
 ///
 /// Errors: `StoreFault`, where the keeper's count of faults rose; `BadStore`; out of memory.
-pub(crate) fn load<K: Keeper>(alloc: Global, keeper: &mut K) -> Result<Loaded, StartCause>
+pub(crate) fn load<R: Threads + Sync, K: Keeper>(
+    rt: &R,
+    alloc: Global,
+    keeper: &mut K,
+) -> Result<Loaded, StartCause>
     ensures same { K.records keeper.new ≡ K.records keeper.old }
     ensures later { K.failures keeper.old ≤ K.failures keeper.new }
     ensures fault { IfErr result (λ cause. cause ≡ StoreFault
@@ -123,7 +133,7 @@ pub(crate) fn load<K: Keeper>(alloc: Global, keeper: &mut K) -> Result<Loaded, S
         return Err(StartCause::NoMemory);
     };
     match take_records(alloc, keeper, &mut tables) {
-        Ok(count) => match evaluated(alloc, tables, count) {
+        Ok(count) => match evaluated(rt, alloc, tables, count) {
             Ok(loaded) => Ok(loaded),
             Err(_) => Err(StartCause::NoMemory),
         },

@@ -16,6 +16,7 @@ use grist_run::{Status, run_alone};
 use io_edges::{Failed, MemSink, MemSource, Source};
 use std::alloc::{AllocError, Global};
 use std::test::Fail;
+use std::thread::Threads;
 
 // How many bytes a read gives at most.
 const PIECE: usize = 7;
@@ -40,9 +41,14 @@ impl Source for Pieces {
 }
 
 // How a run over this input ends, of which nothing is kept behind it.
-fn end_of<S: Source>(alloc: Global, input: &mut S, out: &mut MemSink) -> Status {
+fn end_of<R: Threads + Sync, S: Source>(
+    rt: &R,
+    alloc: Global,
+    input: &mut S,
+    out: &mut MemSink,
+) -> Status {
     let keeper = SureKeeper::new(alloc);
-    run_alone(alloc, input, out, keeper, no_watchers(alloc)).status
+    run_alone(rt, alloc, input, out, keeper, no_watchers(alloc)).status
 }
 
 const SCRIPT: &str = r#"> {"user":{"access":"editors","email":"e","id":2,"name":"Ed","token":"te"}}
@@ -81,14 +87,20 @@ fn given_within(alloc: Global, bytes: usize) -> Result<Vec<u8>, AllocError> {
 
 // Whether a run whose read of this number fails ends so, and gives what the lines ask for that come
 // whole in so many bytes.
-fn ends_at_read(alloc: Global, read: u64, bytes: usize, end: Status) -> Result<bool, AllocError> {
+fn ends_at_read<R: Threads + Sync>(
+    rt: &R,
+    alloc: Global,
+    read: u64,
+    bytes: usize,
+    end: Status,
+) -> Result<bool, AllocError> {
     let want = given_within(alloc, bytes)?;
     let lines = lines_behind(alloc, "> ", SCRIPT)?;
     let mut input = Pieces {
         source: MemSource::new(lines, vec![in alloc; read]?),
     };
     let mut out = MemSink::new(alloc, 65_536, Vec::new(alloc))?;
-    let status = end_of(alloc, &mut input, &mut out);
+    let status = end_of(rt, alloc, &mut input, &mut out);
     Ok(status == end && out.bytes() == want.as_slice())
 }
 
@@ -96,10 +108,10 @@ fn ends_at_read(alloc: Global, read: u64, bytes: usize, end: Status) -> Result<b
 fn each_read_fails_in_turn(rt: HostRuntime) -> Result<(), Fail> {
     let mut bytes = 0usize;
     for read in 0..=READS {
-        assert!(rt; ends_at_read(rt.alloc(), read, bytes, Status::ReadFault)?);
+        assert!(rt; ends_at_read(&rt, rt.alloc(), read, bytes, Status::ReadFault)?);
         bytes = bytes.saturating_add(PIECE);
     }
-    assert!(rt; ends_at_read(rt.alloc(), READS + 1, bytes, Status::Done)?);
+    assert!(rt; ends_at_read(&rt, rt.alloc(), READS + 1, bytes, Status::Done)?);
     Ok(())
 }
 
@@ -118,11 +130,17 @@ fn many(alloc: Global, line: &str) -> Result<Vec<u8>, AllocError> {
 
 // Whether a run of so many bad lines whose write or flush of this number fails ends so, and writes
 // so many bytes of the answers.
-fn ends_at_write(alloc: Global, call: u64, bytes: usize, end: Status) -> Result<bool, AllocError> {
+fn ends_at_write<R: Threads + Sync>(
+    rt: &R,
+    alloc: Global,
+    call: u64,
+    bytes: usize,
+    end: Status,
+) -> Result<bool, AllocError> {
     let want = many(alloc, ANSWER)?;
     let mut input = MemSource::new(many(alloc, NO)?, Vec::new(alloc));
     let mut out = MemSink::new(alloc, 131_072, vec![in alloc; call]?)?;
-    let status = end_of(alloc, &mut input, &mut out);
+    let status = end_of(rt, alloc, &mut input, &mut out);
     let written = out.bytes();
     Ok(status == end && written.len() == bytes && want.as_slice().starts_with(written))
 }
@@ -140,7 +158,7 @@ static WRITES: [(u64, usize, Status); 5] = [
 #[test]
 fn each_write_fails_in_turn(rt: HostRuntime) -> Result<(), Fail> {
     for &(call, bytes, end) in &WRITES {
-        assert!(rt; ends_at_write(rt.alloc(), call, bytes, end)?);
+        assert!(rt; ends_at_write(&rt, rt.alloc(), call, bytes, end)?);
     }
     Ok(())
 }

@@ -6,6 +6,7 @@ use grist_run::{Status, generate};
 use io_edges::MemSink;
 use std::alloc::{AllocError, Global};
 use std::test::Fail;
+use std::thread::Threads;
 
 static LINES: [(u32, &'static str); 4] = [
     (
@@ -27,19 +28,24 @@ static LINES: [(u32, &'static str); 4] = [
 ];
 
 // Whether a generated run of so many rows ends well and writes that line.
-fn sums_up(alloc: Global, rows: u32, line: &str) -> Result<bool, AllocError> {
+fn sums_up<R: Threads + Sync>(
+    rt: &R,
+    alloc: Global,
+    rows: u32,
+    line: &str,
+) -> Result<bool, AllocError> {
     if rows == 0 || rows > 20_000 {
         return Ok(false);
     }
     let mut out = MemSink::new(alloc, 65_536, vec![in alloc; 99]?)?;
-    let outcome = generate(alloc, rows, &mut out, SureKeeper::new(alloc));
+    let outcome = generate(rt, alloc, rows, &mut out, SureKeeper::new(alloc));
     Ok(outcome.status == Status::Done && out.bytes() == line.as_bytes())
 }
 
 #[test]
 fn generates_by_the_script(rt: HostRuntime) -> Result<(), Fail> {
     for (rows, line) in &LINES {
-        let sums_up = sums_up(rt.alloc(), *rows, line);
+        let sums_up = sums_up(&rt, rt.alloc(), *rows, line);
         assert!(rt; matches!(sums_up, Ok(true)));
     }
     Ok(())

@@ -12,6 +12,7 @@ use grist_run::{Outcome, Status, run};
 use io_edges::{MemSink, MemSource};
 use std::alloc::{AllocError, Global};
 use std::test::Fail;
+use std::thread::Threads;
 
 // A run over a keeper that fails at its call of this number and, where one is told, has a record.
 // Keeping that one is call 0; then come `ready` and a `load` for each record and one behind them.
@@ -36,7 +37,8 @@ fn keeper_of(alloc: Global, case: &Case) -> Result<MemKeeper, AllocError> {
 }
 
 // What a run of the script came to, and what it wrote.
-fn ran_over<K: Keeper>(
+fn ran_over<R: Threads + Sync, K: Keeper>(
+    rt: &R,
     alloc: Global,
     keeper: K,
     script: &str,
@@ -46,6 +48,7 @@ fn ran_over<K: Keeper>(
     let mut input = MemSource::new(lines, vec![in alloc; 99]?);
     let mut out = MemSink::new(alloc, 65_536, vec![in alloc; 99]?)?;
     let outcome = run(
+        rt,
         alloc,
         words.as_slice(),
         &mut input,
@@ -79,11 +82,11 @@ fn is_given(alloc: Global, written: &[u8], script: &str) -> bool {
     }
 }
 
-fn ends_as_told(alloc: Global, case: &Case) -> bool {
+fn ends_as_told<R: Threads + Sync>(rt: &R, alloc: Global, case: &Case) -> bool {
     let Ok(keeper) = keeper_of(alloc, case) else {
         return false;
     };
-    let Ok((outcome, written)) = ran_over(alloc, keeper, case.script) else {
+    let Ok((outcome, written)) = ran_over(rt, alloc, keeper, case.script) else {
         return false;
     };
     let mut keeper = outcome.keeper;
@@ -190,7 +193,7 @@ static KEPT: [Case; 5] = [
 #[test]
 fn keeps_what_is_accepted(rt: HostRuntime) -> Result<(), Fail> {
     for case in &KEPT {
-        assert!(rt; ends_as_told(rt.alloc(), case));
+        assert!(rt; ends_as_told(&rt, rt.alloc(), case));
     }
     Ok(())
 }
@@ -266,7 +269,7 @@ static BAD: [&str; 5] = [
 ];
 
 // Whether a run over that record alone ends at it, and leaves it.
-fn is_refused(alloc: Global, record: &'static str) -> bool {
+fn is_refused<R: Threads + Sync>(rt: &R, alloc: Global, record: &'static str) -> bool {
     let case = Case {
         fails: 99,
         record,
@@ -277,7 +280,7 @@ fn is_refused(alloc: Global, record: &'static str) -> bool {
     let Ok(keeper) = keeper_of(alloc, &case) else {
         return false;
     };
-    let Ok((outcome, written)) = ran_over(alloc, keeper, UNANSWERED) else {
+    let Ok((outcome, written)) = ran_over(rt, alloc, keeper, UNANSWERED) else {
         return false;
     };
     let mut keeper = outcome.keeper;
@@ -291,10 +294,10 @@ fn is_refused(alloc: Global, record: &'static str) -> bool {
 #[test]
 fn ends_where_no_document_opens(rt: HostRuntime) -> Result<(), Fail> {
     for case in &UNOPENED {
-        assert!(rt; ends_as_told(rt.alloc(), case));
+        assert!(rt; ends_as_told(&rt, rt.alloc(), case));
     }
     for record in BAD {
-        assert!(rt; is_refused(rt.alloc(), record));
+        assert!(rt; is_refused(&rt, rt.alloc(), record));
     }
     Ok(())
 }
@@ -313,11 +316,11 @@ const SEEN: &str = r#"> {"user":{"access":"editors","email":"e","id":2,"name":"E
 < {"line":{"ok":{"bundle":1,"retValues":[null]}},"session":"s2"}"#;
 
 // A bundle of a column and a row, its undo, and the undo of that.
-fn sees_what_was_added(alloc: Global) -> bool {
-    let Ok((first, _)) = ran_over(alloc, SureKeeper::new(alloc), ADDED) else {
+fn sees_what_was_added<R: Threads + Sync>(rt: &R, alloc: Global) -> bool {
+    let Ok((first, _)) = ran_over(rt, alloc, SureKeeper::new(alloc), ADDED) else {
         return false;
     };
-    let Ok((second, written)) = ran_over(alloc, first.keeper, SEEN) else {
+    let Ok((second, written)) = ran_over(rt, alloc, first.keeper, SEEN) else {
         return false;
     };
     let mut keeper = second.keeper;
@@ -329,6 +332,6 @@ fn sees_what_was_added(alloc: Global) -> bool {
 
 #[test]
 fn opens_again_what_was_kept(rt: HostRuntime) -> Result<(), Fail> {
-    assert!(rt; sees_what_was_added(rt.alloc()));
+    assert!(rt; sees_what_was_added(&rt, rt.alloc()));
     Ok(())
 }

@@ -11,6 +11,7 @@ use grist_run::{Status, WatchedSession, run};
 use io_edges::{MemSink, MemSource};
 use std::alloc::{AllocError, Global};
 use std::test::Fail;
+use std::thread::Threads;
 use watch_box::SureWatcher;
 
 // A run: its word, the numbers of its first read and write that fail, its script and its end.
@@ -43,13 +44,18 @@ pub(crate) fn no_watchers(alloc: Global) -> Vec<WatchedSession<SureWatcher>>
 }
 
 // How a run of the case ended, and what it wrote.
-fn ran(alloc: Global, case: &Case) -> Result<(Status, Vec<u8>), AllocError> {
+fn ran<R: Threads + Sync>(
+    rt: &R,
+    alloc: Global,
+    case: &Case,
+) -> Result<(Status, Vec<u8>), AllocError> {
     let words = vec![in alloc; String::from_str(alloc, case.word)?]?;
     let lines = lines_behind(alloc, "> ", case.script)?;
     let mut input = MemSource::new(lines, vec![in alloc; case.read]?);
     let mut out = MemSink::new(alloc, 65_536, vec![in alloc; case.write]?)?;
     let keeper = SureKeeper::new(alloc);
     let outcome = run(
+        rt,
         alloc,
         words.as_slice(),
         &mut input,
@@ -61,8 +67,8 @@ fn ran(alloc: Global, case: &Case) -> Result<(Status, Vec<u8>), AllocError> {
 }
 
 // Whether a run of the case ends as it says, and writes the lines that it gives.
-fn ends_as_told(alloc: Global, case: &Case) -> bool {
-    let Ok((end, written)) = ran(alloc, case) else {
+fn ends_as_told<R: Threads + Sync>(rt: &R, alloc: Global, case: &Case) -> bool {
+    let Ok((end, written)) = ran(rt, alloc, case) else {
         return false;
     };
     let Ok(want) = lines_behind(alloc, "< ", case.script) else {
@@ -181,7 +187,7 @@ fn answers_as_the_protocol_says(rt: HostRuntime) -> Result<(), Fail> {
             script,
             end: Status::Done,
         };
-        assert!(rt; ends_as_told(rt.alloc(), &case));
+        assert!(rt; ends_as_told(&rt, rt.alloc(), &case));
     }
     Ok(())
 }
@@ -252,7 +258,7 @@ static ENDED: [Case; 7] = [
 #[test]
 fn ends_at_the_first_event(rt: HostRuntime) -> Result<(), Fail> {
     for case in &ENDED {
-        assert!(rt; ends_as_told(rt.alloc(), case));
+        assert!(rt; ends_as_told(&rt, rt.alloc(), case));
     }
     Ok(())
 }

@@ -11,6 +11,7 @@ use grist_run::run;
 use io_edges::{MemSink, MemSource};
 use std::alloc::{AllocError, Global};
 use std::test::Fail;
+use std::thread::Threads;
 
 // Ann makes the tables and the rules, and Vic opens the document.
 static START: &str = r#"
@@ -66,11 +67,12 @@ fn input_of(alloc: Global, does: bool) -> Result<Vec<u8>, AllocError> {
 }
 
 // What is written for it.
-fn written(alloc: Global, does: bool) -> Result<Vec<u8>, AllocError> {
+fn written<R: Threads + Sync>(rt: &R, alloc: Global, does: bool) -> Result<Vec<u8>, AllocError> {
     let words = vec![in alloc; String::from_str(alloc, "replay")?]?;
     let mut input = MemSource::new(input_of(alloc, does)?, Vec::new(alloc));
     let mut out = MemSink::new(alloc, 262_144, Vec::new(alloc))?;
     run(
+        rt,
         alloc,
         words.as_slice(),
         &mut input,
@@ -94,15 +96,15 @@ fn lines_of(alloc: Global, written: &[u8], session: &str) -> Result<String, Fail
 }
 
 // Whether the viewer is given so many lines, the same in both.
-fn is_same(alloc: Global, lines: usize) -> Result<bool, Fail> {
-    let busy = lines_of(alloc, written(alloc, true)?.as_slice(), VIEWER)?;
-    let still = lines_of(alloc, written(alloc, false)?.as_slice(), VIEWER)?;
+fn is_same<R: Threads + Sync>(rt: &R, alloc: Global, lines: usize) -> Result<bool, Fail> {
+    let busy = lines_of(alloc, written(rt, alloc, true)?.as_slice(), VIEWER)?;
+    let still = lines_of(alloc, written(rt, alloc, false)?.as_slice(), VIEWER)?;
     Ok(busy == still && busy.lines().count() == lines)
 }
 
 // How many bundles of the owner are accepted.
-fn accepted(alloc: Global) -> Result<usize, Fail> {
-    let lines = lines_of(alloc, written(alloc, true)?.as_slice(), OWNER)?;
+fn accepted<R: Threads + Sync>(rt: &R, alloc: Global) -> Result<usize, Fail> {
+    let lines = lines_of(alloc, written(rt, alloc, true)?.as_slice(), OWNER)?;
     Ok(
         lines
             .lines()
@@ -113,7 +115,7 @@ fn accepted(alloc: Global) -> Result<usize, Fail> {
 
 #[test]
 fn a_stranger_is_given_the_same(rt: HostRuntime) -> Result<(), Fail> {
-    assert!(rt; is_same(rt.alloc(), 85)?);
-    assert!(rt; accepted(rt.alloc())? == 13);
+    assert!(rt; is_same(&rt, rt.alloc(), 85)?);
+    assert!(rt; accepted(&rt, rt.alloc())? == 13);
     Ok(())
 }

@@ -20,6 +20,7 @@ use doc_model::{DocAction, DocActionList};
 use evaluated_doc::Doc;
 use row_tables::RowTables;
 use std::alloc::{AllocError, Global};
+use std::thread::Threads;
 
 // The new document after these actions.
 fn document_after(alloc: Global, changes: &[Change]) -> Result<RowTables, AllocError>
@@ -34,13 +35,17 @@ fn document_after(alloc: Global, changes: &[Change]) -> Result<RowTables, AllocE
     }
 }
 
-fn started(alloc: Global, changes: &[Change]) -> Result<Doc<RowTables>, AllocError> {
+fn started<R: Threads + Sync>(
+    rt: &R,
+    alloc: Global,
+    changes: &[Change],
+) -> Result<Doc<RowTables>, AllocError> {
     let document = document_after(alloc, changes)?;
-    Doc::start(alloc, document)
+    Doc::start(rt, alloc, document)
 }
 
-fn evaluates_to(alloc: Global, changes: &[Change], want: &str) -> bool {
-    match started(alloc, changes) {
+fn evaluates_to<R: Threads + Sync>(rt: &R, alloc: Global, changes: &[Change], want: &str) -> bool {
+    match started(rt, alloc, changes) {
         Ok(doc) => reads_as(alloc, &doc, want),
         Err(_) => false,
     }
@@ -143,7 +148,11 @@ static CASES: [Case; 10] = [
 #[test]
 fn formula_columns_have_their_values(rt: HostRuntime) {
     for case in &CASES {
-        assert!(rt; evaluates_to(rt.alloc(), case.0, case.1), "not {}", case.1);
+        assert!(rt;
+            evaluates_to(&rt, rt.alloc(), case.0, case.1),
+            "not {}",
+            case.1
+        );
     }
 }
 
@@ -269,23 +278,23 @@ fn one_loses(
 
 // Whether the document reads so, evaluated and in its base cells, and does so when it is evaluated
 // again.
-fn is_evaluated(alloc: Global, doc: &mut Doc<RowTables>) -> bool {
+fn is_evaluated<R: Threads + Sync>(rt: &R, alloc: Global, doc: &mut Doc<RowTables>) -> bool {
     reads_as(alloc, &*doc, READING)
-        && doc.refresh_all(alloc).is_ok()
+        && doc.refresh_all(rt, alloc).is_ok()
         && reads_as(alloc, &*doc, READING)
         && reads_as(alloc, doc.tables(), BASE)
 }
 
-fn is_loss(alloc: Global, loss: &Loss) -> bool {
-    let Ok(mut doc) = started(alloc, &BEFORE) else {
+fn is_loss<R: Threads + Sync>(rt: &R, alloc: Global, loss: &Loss) -> bool {
+    let Ok(mut doc) = started(rt, alloc, &BEFORE) else {
         return false;
     };
-    is_evaluated(alloc, &mut doc) && one_loses(alloc, &mut doc, &single(alloc, &loss.0), loss)
+    is_evaluated(rt, alloc, &mut doc) && one_loses(alloc, &mut doc, &single(alloc, &loss.0), loss)
 }
 
 #[test]
 fn changes_tell_what_they_lost(rt: HostRuntime) {
     for loss in &LOSSES {
-        assert!(rt; is_loss(rt.alloc(), loss), "not {}", loss.1);
+        assert!(rt; is_loss(&rt, rt.alloc(), loss), "not {}", loss.1);
     }
 }

@@ -101,11 +101,11 @@ pub fn run<
         → SomeFailed (map P.state ports.old.items) (map P.state ports.new.items) }
 {
     if asks_for_replay(words) {
-        run_alone(alloc, input, out, keeper, watchers)
+        run_alone(rt, alloc, input, out, keeper, watchers)
     } else if let Some(rows) = rows_asked(words) {
-        generate(alloc, rows, out, keeper)
+        generate(rt, alloc, rows, out, keeper)
     } else if asks_for_audit(words) {
-        audit_users(alloc, input, out, keeper)
+        audit_users(rt, alloc, input, out, keeper)
     } else if asks_for_lanes(words, ports.len()) {
         host(rt, alloc, input, out, keeper, ports, watchers)
     } else {
@@ -185,7 +185,7 @@ fn host<
         Ok(users) => users,
         Err(status) => return without_history(alloc, status, keeper),
     };
-    match start_watched(alloc, users, keeper, watchers) {
+    match start_watched(rt, alloc, users, keeper, watchers) {
         Ok(watched) => host_from(rt, alloc, watched, LineRoom { outbox, line }, out, ports),
         Err(StartFault { cause, keeper }) => without_history(alloc, start_status(cause), keeper),
     }

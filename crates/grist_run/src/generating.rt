@@ -29,6 +29,7 @@ use grist_json::Line;
 use io_edges::{Outbox, Sink};
 use run_generator::{Generator, first_session, generated_users, second_session};
 use std::alloc::{AllocError, Global};
+use std::thread::Threads;
 
 /// What is counted of the entries so far: denied bundles, and stream lines that were made.
 #[derive(Clone, Copy)]
@@ -257,7 +258,13 @@ fn generate_from<O: Sink, K: Keeper>(
 /// Its users are those of the script. It reads nothing, gives no lines to anybody, and waits for
 /// nobody. Errors: the status says which event came first. Nothing but that line is written.
 /// Source: docs/PROTOCOL.md, "the program".
-pub fn generate<O: Sink, K: Keeper>(alloc: Global, rows: u32, out: &mut O, keeper: K) -> Outcome<K>
+pub fn generate<R: Threads + Sync, O: Sink, K: Keeper>(
+    rt: &R,
+    alloc: Global,
+    rows: u32,
+    out: &mut O,
+    keeper: K,
+) -> Outcome<K>
     requires rows { (0 < rows) × (rows ≤ row_bound) }
     ensures at { result.at ≡ place_of result.status }
     ensures generated { IsGenerated rows result.status result.history
@@ -279,7 +286,7 @@ pub fn generate<O: Sink, K: Keeper>(alloc: Global, rows: u32, out: &mut O, keepe
     let Ok(users) = generated_users(alloc) else {
         return without_history(alloc, Status::NoMemory, keeper);
     };
-    match Core::start(alloc, users, keeper) {
+    match Core::start(rt, alloc, users, keeper) {
         Ok(core) => generate_from(alloc, core, rows, LineRoom { outbox, line }, out),
         Err(StartFault { cause, keeper }) => without_history(alloc, start_status(cause), keeper),
     }

@@ -25,6 +25,7 @@ use doc_opening::StartCause;
 use io_edges::{LineReader, NextLine, Outbox, Sink, Source};
 use run_words::asks_for_replay;
 use std::alloc::Global;
+use std::thread::Threads;
 use watch_box::Watcher;
 use watched_core::WatchedCore;
 
@@ -32,7 +33,8 @@ use watched_core::WatchedCore;
 ///
 /// Errors: those of a replay; `Usage`, exactly where the words ask for something else.
 /// Source: docs/PROTOCOL.md, "the program".
-pub fn run<S: Source, O: Sink, K: Keeper, W: Watcher>(
+pub fn run<R: Threads + Sync, S: Source, O: Sink, K: Keeper, W: Watcher>(
+    rt: &R,
     alloc: Global,
     words: &[String],
     input: &mut S,
@@ -57,7 +59,7 @@ pub fn run<S: Source, O: Sink, K: Keeper, W: Watcher>(
         → Rose (K.failures keeper) (K.failures result.keeper) }
 {
     if asks_for_replay(words) {
-        run_alone(alloc, input, out, keeper, watchers)
+        run_alone(rt, alloc, input, out, keeper, watchers)
     } else {
         without_history(alloc, Status::Usage, keeper)
     }
@@ -91,7 +93,8 @@ pub fn without_history<K: Keeper>(alloc: Global, status: Status, keeper: K) -> O
 /// Errors: the status says which event came first; what waits is written before it is told, and
 /// where that fails it is `WriteFault`. It is never `Usage` nor `PortFault`.
 /// Source: docs/PROTOCOL.md, "the program".
-pub fn run_alone<S: Source, O: Sink, K: Keeper, W: Watcher>(
+pub fn run_alone<R: Threads + Sync, S: Source, O: Sink, K: Keeper, W: Watcher>(
+    rt: &R,
     alloc: Global,
     input: &mut S,
     out: &mut O,
@@ -128,7 +131,7 @@ pub fn run_alone<S: Source, O: Sink, K: Keeper, W: Watcher>(
         Ok(front) => front,
         Err(status) => return without_history(alloc, status, keeper),
     };
-    match start_watched(alloc, users, keeper, watchers) {
+    match start_watched(rt, alloc, users, keeper, watchers) {
         Ok(watched) => { replay_from(alloc, watched, next, &mut outbox, &mut reader, input, out) }
         Err(StartFault { cause, keeper }) => without_history(alloc, start_status(cause), keeper),
     }

@@ -13,6 +13,7 @@ use doc_keeper::Keeper;
 use doc_model::UserList;
 use doc_opening::StartCause;
 use std::alloc::{AllocError, Global};
+use std::thread::Threads;
 use watch_box::Watcher;
 use watched_core::WatchedCore;
 
@@ -27,7 +28,8 @@ pub struct WatchedSession<W: Watcher> {
 ///
 /// Errors: those of `Core::start`; out of memory. The keeper is handed back, and the watchers are
 /// dropped.
-pub fn start_watched<K: Keeper, W: Watcher>(
+pub fn start_watched<R: Threads + Sync, K: Keeper, W: Watcher>(
+    rt: &R,
     alloc: Global,
     users: UserList,
     keeper: K,
@@ -49,7 +51,7 @@ pub fn start_watched<K: Keeper, W: Watcher>(
     ensures bad { IfErr result (λ f. (n : ℕ) → f.cause ≡ BadStore n
         → FirstBad (K.records keeper) new_document n) }
 {
-    let core = Core::start(alloc, users, keeper)?;
+    let core = Core::start(rt, alloc, users, keeper)?;
     let mut watched = WatchedCore::new(alloc, core);
     match attach_all(&mut watched, watchers) {
         Ok(()) => Ok(watched),

@@ -10,6 +10,7 @@ use doc_model::UserList;
 use grist_json::{UserLine, read_user};
 use session_gate::{Gate, NoGate, PassList};
 use std::alloc::{AllocError, Global};
+use std::thread::Threads;
 use watch_box::SureWatcher;
 use watched_core::WatchedCore;
 
@@ -35,10 +36,10 @@ fn users(alloc: Global) -> Result<UserList, AllocError> {
 pub(crate) type TestCore = WatchedCore<SureKeeper, SureWatcher>;
 
 /// A core over the new document, without watchers.
-pub(crate) fn new_core(alloc: Global) -> Result<TestCore, AllocError>
+pub(crate) fn new_core<R: Threads + Sync>(rt: &R, alloc: Global) -> Result<TestCore, AllocError>
     ensures { IfOk result (λ c. c.core.state.history ≡ []) }
 {
-    match Core::start(alloc, users(alloc)?, SureKeeper::new(alloc)) {
+    match Core::start(rt, alloc, users(alloc)?, SureKeeper::new(alloc)) {
         Ok(core) => Ok(WatchedCore::new(alloc, core)),
         Err(_) => Err(AllocError),
     }
@@ -60,12 +61,13 @@ pub(crate) fn gate_round(
 }
 
 /// A gate round a new core.
-pub(crate) fn new_gate(
+pub(crate) fn new_gate<R: Threads + Sync>(
+    rt: &R,
     alloc: Global,
     passes: u32,
 ) -> Result<(Gate<TestCore>, PassList<TestCore>), AllocError>
     requires { (0 < passes) × (passes ≤ 64) }
     ensures own { IfOk result (λ r. All (IsPassOf r.0) r.1) }
 {
-    gate_round(alloc, new_core(alloc)?, passes)
+    gate_round(alloc, new_core(rt, alloc)?, passes)
 }

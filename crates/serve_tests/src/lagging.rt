@@ -30,8 +30,8 @@ const LAST_LINE: &str = r#"{"error":{"code":21,"name":"Lagged"}}
 "#;
 
 // A core in which the session `slow` is open.
-fn slow_core(alloc: Global) -> Result<TestCore, AllocError> {
-    let mut core = new_core(alloc)?;
+fn slow_core<R: Threads + Sync>(rt: &R, alloc: Global) -> Result<TestCore, AllocError> {
+    let mut core = new_core(rt, alloc)?;
     let token = CellText::copy_of(alloc, "te")?;
     match core.step(&name_of(alloc, "slow")?, Request::Open { token }, 0)? {
         Answer::Lines(_) => Ok(core),
@@ -55,10 +55,13 @@ fn wide_link(alloc: Global, bytes: Vec<u8>) -> Result<MemLink, AllocError> {
 }
 
 // A gate round such a core, and its one pass.
-fn slow_gate(alloc: Global) -> Result<(Gate<TestCore>, Pass<TestCore>), AllocError>
+fn slow_gate<R: Threads + Sync>(
+    rt: &R,
+    alloc: Global,
+) -> Result<(Gate<TestCore>, Pass<TestCore>), AllocError>
     ensures { IfOk result (λ r. IsPassOf r.0 r.1) }
 {
-    let (gate, passes) = gate_round(alloc, slow_core(alloc)?, 1)?;
+    let (gate, passes) = gate_round(alloc, slow_core(rt, alloc)?, 1)?;
     let mut passes = passes.into_vec();
     match passes.pop() {
         Some(pass) => Ok((gate, pass)),
@@ -71,7 +74,7 @@ fn slow_link<R: Threads + Wait + Sync>(
     rt: &R,
     alloc: Global,
 ) -> Result<(SessionEnd, MemLink), AllocError> {
-    let (gate, mut pass) = slow_gate(alloc)?;
+    let (gate, mut pass) = slow_gate(rt, alloc)?;
     let mut busy = wide_link(alloc, many_changes(alloc)?)?;
     let busy_name = name_of(alloc, "busy")?;
     let _end = serve_link(rt, alloc, &gate, &mut pass, &busy_name, &mut busy);

@@ -135,7 +135,7 @@ fn serve_alone<R: Threads + Wait + Sync, L: Link>(
     link: &mut L,
 ) -> Result<Served, AllocError> {
     let session = name_of(alloc, "s")?;
-    let (gate, passes) = new_gate(alloc, 1)?;
+    let (gate, passes) = new_gate(rt, alloc, 1)?;
     let mut passes = passes.into_vec();
     let Some(mut pass) = passes.pop() else {
         return Err(AllocError);

@@ -42,7 +42,7 @@ fn served_by_two<R: Threads + Wait + Sync>(rt: &R, alloc: Global) -> Result<Shar
     let first = Vec::from_slice(alloc, FIRST.as_bytes())?;
     let second = Vec::from_slice(alloc, SECOND.as_bytes())?;
     let mut ports = two_ports(alloc, first, second)?;
-    match serve_lanes(rt, alloc, new_core(alloc)?, &mut ports) {
+    match serve_lanes(rt, alloc, new_core(rt, alloc)?, &mut ports) {
         Ok(
             Served {
                 watched,
@@ -107,8 +107,12 @@ impl Alone {
 }
 
 // What a core alone gives both for the requests in the order of the history.
-fn given_alone(alloc: Global, history: &[Entry]) -> Result<(Vec<u8>, Vec<u8>), AllocError> {
-    let mut core = new_core(alloc)?;
+fn given_alone<R: Threads + Sync>(
+    rt: &R,
+    alloc: Global,
+    history: &[Entry],
+) -> Result<(Vec<u8>, Vec<u8>), AllocError> {
+    let mut core = new_core(rt, alloc)?;
     let mut first = Alone {
         lines: FIRST.lines(),
         given: Vec::new(alloc),
@@ -130,7 +134,7 @@ fn given_alone(alloc: Global, history: &[Entry]) -> Result<(Vec<u8>, Vec<u8>), A
 #[test]
 fn links_share_one_history(rt: HostRuntime) -> Result<(), Fail> {
     let shared = served_by_two(&rt, rt.alloc())?;
-    let (first, second) = given_alone(rt.alloc(), shared.history.as_slice())?;
+    let (first, second) = given_alone(&rt, rt.alloc(), shared.history.as_slice())?;
     assert_eq!(rt; shared.history.len(), 10);
     let ports = shared.ports.as_slice();
     assert!(rt; were_given(ports, first.as_slice(), second.as_slice()));

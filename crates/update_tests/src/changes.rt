@@ -196,13 +196,20 @@ fn add_column(
     Ok(DocAction::AddColumn { table, column })
 }
 
-fn add_formula(
+/// Adds a column with a formula.
+pub(crate) fn add_formula(
     alloc: Global,
     column: &str,
     row: u32,
     formula: &str,
 ) -> Result<DocAction, AllocError> {
     let info = formula_info(alloc, formula)?;
+    add_column(alloc, column, row, info)
+}
+
+/// Adds a column of any values.
+pub(crate) fn add_data(alloc: Global, column: &str, row: u32) -> Result<DocAction, AllocError> {
+    let info = data_info(alloc, ColType::Any)?;
     add_column(alloc, column, row, info)
 }
 
@@ -268,8 +275,8 @@ fn definition(alloc: Global, id: &str, row: u32, info: ColInfo) -> Result<ColDef
     Ok(ColDef { id, info, row })
 }
 
-// The other table.
-fn add_table(alloc: Global) -> Result<DocAction, AllocError> {
+/// Adds the other table.
+pub(crate) fn add_table(alloc: Global) -> Result<DocAction, AllocError> {
     let sum = formula_info(alloc, "SUM(Table1.lookupRecords(A=$P).B)")?;
     let next = formula_info(alloc, "$G + len(Table1.all)")?;
     let mut columns = ColDefList::new(alloc);

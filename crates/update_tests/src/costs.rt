@@ -15,6 +15,7 @@ use doc_model::laws::new_document_law;
 use doc_model::{CellColumn, ColumnList, DocAction, DocReader};
 use evaluated_doc::{Doc, Touched};
 use std::alloc::{AllocError, Global};
+use std::thread::Threads;
 
 const ROWS: u32 = 10_000;
 
@@ -114,10 +115,10 @@ fn is_taken_back(
 }
 
 // A document of all rows, with this formula in `C`, where a first change was made.
-fn loaded(alloc: Global, formula: &str) -> Option<Doc<CountedTables>> {
+fn loaded<R: Threads + Sync>(rt: &R, alloc: Global, formula: &str) -> Option<Doc<CountedTables>> {
     new_document_law();
     let tables = CountedTables::new_document(alloc).ok()?;
-    let mut doc = Doc::start(alloc, tables).ok()?;
+    let mut doc = Doc::start(rt, alloc, tables).ok()?;
     if is_done(alloc, &mut doc, add_all(alloc))
         && is_done(alloc, &mut doc, modify(alloc, "C", formula))
         && is_done(alloc, &mut doc, write(alloc, "B", 5_000, 2))
@@ -163,8 +164,9 @@ fn is_most(asked: Option<u64>, most: u64) -> bool {
 }
 
 // An edit of the last row but one changes two cells, one of the first row changes all.
-fn is_chain_cheap(alloc: Global) -> bool {
+fn is_chain_cheap<R: Threads + Sync>(rt: &R, alloc: Global) -> bool {
     let Some(mut doc) = loaded(
+        rt,
         alloc,
         "IF($id == 1, 0, Table1.lookupOne(id=$id - 1).C) + $B",
     ) else {
@@ -181,8 +183,8 @@ fn is_chain_cheap(alloc: Global) -> bool {
 }
 
 // A summed value changes fifty sums of fifty values, a key a hundred.
-fn are_sums_cheap(alloc: Global) -> bool {
-    let Some(mut doc) = loaded(alloc, "SUM(Table1.lookupRecords(A=$A).B)") else {
+fn are_sums_cheap<R: Threads + Sync>(rt: &R, alloc: Global) -> bool {
+    let Some(mut doc) = loaded(rt, alloc, "SUM(Table1.lookupRecords(A=$A).B)") else {
         return false;
     };
     let is_back = is_taken_back(alloc, &mut doc, write(alloc, "B", 1, 8));
@@ -198,8 +200,8 @@ fn are_sums_cheap(alloc: Global) -> bool {
 
 #[test]
 fn changes_ask_for_what_they_affect(rt: HostRuntime) {
-    assert!(rt; is_chain_cheap(rt.alloc()));
-    assert!(rt; are_sums_cheap(rt.alloc()));
+    assert!(rt; is_chain_cheap(&rt, rt.alloc()));
+    assert!(rt; are_sums_cheap(&rt, rt.alloc()));
 }
 
 // A cell of `C` that may have changed, and nothing else.
@@ -226,8 +228,9 @@ fn asked_anew(alloc: Global, doc: &mut Doc<CountedTables>, row: u32) -> Option<u
 }
 
 // Each of them reads a value of its row: the last one alone, the last two, and a hundred.
-fn are_touched_cells_cheap(alloc: Global) -> bool {
+fn are_touched_cells_cheap<R: Threads + Sync>(rt: &R, alloc: Global) -> bool {
     let Some(mut doc) = loaded(
+        rt,
         alloc,
         "IF($id == 1, 0, Table1.lookupOne(id=$id - 1).C) + $B",
     ) else {
@@ -245,5 +248,5 @@ fn are_touched_cells_cheap(alloc: Global) -> bool {
 
 #[test]
 fn touched_cells_are_evaluated_anew(rt: HostRuntime) {
-    assert!(rt; are_touched_cells_cheap(rt.alloc()));
+    assert!(rt; are_touched_cells_cheap(&rt, rt.alloc()));
 }

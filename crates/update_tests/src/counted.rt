@@ -7,13 +7,13 @@ use cell_types::{CellValue, Name};
 use doc_model::{ColDef, DocAction, DocReader, DocTables};
 use row_tables::{RowBack, RowTables};
 use std::alloc::{AllocError, Global};
-use std::cell::Cell;
+use std::sync::atomic::{AtomicU64, Ordering};
 
 /// Plain tables, and how often a cell was asked for.
 #[derive(Drop)]
 pub(crate) struct CountedTables {
     tables: RowTables,
-    asked: Cell<u64>,
+    asked: AtomicU64,
 }
 
 impl CountedTables {
@@ -22,13 +22,13 @@ impl CountedTables {
         ensures { IfOk result (λ s. s.tables ≡ new_document) }
     {
         let tables = RowTables::new_document(alloc)?;
-        let asked = Cell::new(0);
+        let asked = AtomicU64::new(0);
         Ok(CountedTables { tables, asked })
     }
 
     /// How often a cell was asked for.
     pub fn asked(&self) -> u64 {
-        self.asked.get()
+        self.asked.load(Ordering::SeqCst)
     }
 }
 
@@ -48,7 +48,7 @@ impl DocReader for CountedTables {
     }
 
     fn cell(&self, table: &Name, column: &Name, row: u32) -> Option<&CellValue> {
-        self.asked.set(self.asked.get().wrapping_add(1));
+        self.asked.fetch_add(1, Ordering::SeqCst);
         self.tables.cell(table, column, row)
     }
 }

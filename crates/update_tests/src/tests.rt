@@ -15,6 +15,7 @@ use doc_model::{ColDef, DocAction, DocReader};
 use evaluated_doc::{ChangeFault, Doc};
 use row_tables::RowTables;
 use std::alloc::{AllocError, Global};
+use std::thread::Threads;
 
 const CHANGES: u32 = 10_000;
 
@@ -78,16 +79,20 @@ fn are_same<L: DocReader, R: DocReader>(left: &L, right: &R) -> bool {
     })
 }
 
-fn started(alloc: Global, tables: &RowTables) -> Result<Doc<RowTables>, AllocError>
+fn started<R: Threads + Sync>(
+    rt: &R,
+    alloc: Global,
+    tables: &RowTables,
+) -> Result<Doc<RowTables>, AllocError>
     requires { IsWhole tables.now }
 {
     let copy = tables.copy(alloc)?;
-    Doc::start(alloc, copy)
+    Doc::start(rt, alloc, copy)
 }
 
 // Whether the document tells what one tells that is started over its tables.
-fn is_as_started(alloc: Global, doc: &Doc<RowTables>) -> bool {
-    match started(alloc, doc.tables()) {
+fn is_as_started<R: Threads + Sync>(rt: &R, alloc: Global, doc: &Doc<RowTables>) -> bool {
+    match started(rt, alloc, doc.tables()) {
         Ok(fresh) => are_same(doc, &fresh),
         Err(_) => false,
     }
@@ -95,12 +100,20 @@ fn is_as_started(alloc: Global, doc: &Doc<RowTables>) -> bool {
 
 // Whether the action was done; nothing where memory is wanting, all cells were evaluated, or a cell
 // is not as it has to be, after the action, after it was taken back, and after it was done again.
-fn play(alloc: Global, doc: &mut Doc<RowTables>, action: &DocAction) -> Option<bool> {
+fn play<R: Threads + Sync>(
+    rt: &R,
+    alloc: Global,
+    doc: &mut Doc<RowTables>,
+    action: &DocAction,
+) -> Option<bool> {
     match doc.change(alloc, action) {
         Ok(trace) => {
-            let is_right = !trace.is_whole() && is_as_started(alloc, &*doc);
+            let is_right = !trace.is_whole() && is_as_started(rt, alloc, &*doc);
             doc.go_back(trace);
-            if is_right && is_as_started(alloc, &*doc) && is_done(alloc, doc, action, false) {
+            if is_right
+                && is_as_started(rt, alloc, &*doc)
+                && is_done(rt, alloc, doc, action, false)
+            {
                 Some(true)
             } else {
                 None
@@ -111,9 +124,10 @@ fn play(alloc: Global, doc: &mut Doc<RowTables>, action: &DocAction) -> Option<b
     }
 }
 
-// Whether the action was done, and the document is then as it has to be; also where it evaluated
-// the whole document, if it may.
-fn is_done(
+/// Whether the action was done, and the document is then as it has to be; also where it evaluated
+/// the whole document, if it may.
+pub(crate) fn is_done<R: Threads + Sync>(
+    rt: &R,
     alloc: Global,
     doc: &mut Doc<RowTables>,
     action: &DocAction,
@@ -123,52 +137,80 @@ fn is_done(
         Ok(trace) => {
             let is_right = may_be_whole || !trace.is_whole();
             drop(trace);
-            is_right && is_as_started(alloc, &*doc)
+            is_right && is_as_started(rt, alloc, &*doc)
         }
         Err(_) => false,
     }
 }
 
-fn play_next(alloc: Global, doc: &mut Doc<RowTables>, draws: &mut Draws) -> Option<bool> {
+fn play_next<R: Threads + Sync>(
+    rt: &R,
+    alloc: Global,
+    doc: &mut Doc<RowTables>,
+    draws: &mut Draws,
+) -> Option<bool> {
     match change(alloc, draws) {
-        Ok(action) => play(alloc, doc, &action),
+        Ok(action) => play(rt, alloc, doc, &action),
         Err(_) => None,
     }
 }
 
-fn is_opened(alloc: Global, doc: &mut Doc<RowTables>) -> bool {
-    (0..10).all(|number| match opening(alloc, number) {
+fn is_opened_by<R: Threads + Sync>(
+    rt: &R,
+    alloc: Global,
+    doc: &mut Doc<RowTables>,
+    number: u32,
+) -> bool {
+    match opening(alloc, number) {
         // The first formula affects all.
-        Ok(action) => is_done(alloc, doc, &action, number < 2),
+        Ok(action) => is_done(rt, alloc, doc, &action, number < 2),
         Err(_) => false,
-    })
+    }
+}
+
+fn is_opened<R: Threads + Sync>(rt: &R, alloc: Global, doc: &mut Doc<RowTables>) -> bool {
+    for number in 0..10 {
+        if !is_opened_by(rt, alloc, doc, number) {
+            return false;
+        }
+    }
+    true
 }
 
 // How many changes were done, of so many that were drawn, until there were enough; none where one
 // went wrong.
-fn played(alloc: Global, doc: &mut Doc<RowTables>, drawn: u32) -> Option<u32> {
+fn played<R: Threads + Sync>(
+    rt: &R,
+    alloc: Global,
+    doc: &mut Doc<RowTables>,
+    drawn: u32,
+) -> Option<u32> {
     let mut draws = Draws::new(1);
     let mut done = 0u32;
     for _turn in 0..drawn {
-        if done < CHANGES && play_next(alloc, doc, &mut draws)? {
+        if done < CHANGES && play_next(rt, alloc, doc, &mut draws)? {
             done = done.saturating_add(1);
         }
     }
     Some(done)
 }
 
-fn new_doc(alloc: Global) -> Result<Doc<RowTables>, AllocError> {
+/// The new document.
+pub(crate) fn new_doc<R: Threads + Sync>(
+    rt: &R,
+    alloc: Global,
+) -> Result<Doc<RowTables>, AllocError> {
     new_document_law();
     let tables = RowTables::new_document(alloc)?;
-    Doc::start(alloc, tables)
+    Doc::start(rt, alloc, tables)
 }
 
 // How many changes were done; none where one went wrong.
-fn played_from_new(alloc: Global) -> Option<u32> {
-    match new_doc(alloc) {
+fn played_from_new<R: Threads + Sync>(rt: &R, alloc: Global) -> Option<u32> {
+    match new_doc(rt, alloc) {
         Ok(mut doc) => {
-            if is_opened(alloc, &mut doc) {
-                played(alloc, &mut doc, 4 * CHANGES)
+            if is_opened(rt, alloc, &mut doc) {
+                played(rt, alloc, &mut doc, 4 * CHANGES)
             } else {
                 None
             }
@@ -179,7 +221,7 @@ fn played_from_new(alloc: Global) -> Option<u32> {
 
 #[test]
 fn cells_are_as_from_the_start(rt: HostRuntime) {
-    let done = played_from_new(rt.alloc());
+    let done = played_from_new(&rt, rt.alloc());
     assert!(rt; done.is_some());
     assert!(rt; done == Some(CHANGES));
 }

@@ -25,6 +25,7 @@ use plain_view::changes;
 use recalc::laws::laid_out_law;
 use row_tables::RowTables;
 use std::alloc::{AllocError, Global};
+use std::thread::Threads;
 
 /// Of a context: the hidden column, the one whose formula is hidden, the guarded one, and whether
 /// all are guarded.
@@ -84,9 +85,12 @@ fn new_document(alloc: Global) -> Result<RowTables, AllocError>
 }
 
 /// The small document: its rows 1 and 3 have a true key, and C is twice B.
-pub(crate) fn started(alloc: Global) -> Result<Doc<RowTables>, AllocError> {
+pub(crate) fn started<R: Threads + Sync>(
+    rt: &R,
+    alloc: Global,
+) -> Result<Doc<RowTables>, AllocError> {
     let tables = new_document(alloc)?;
-    let mut doc = Doc::start(alloc, tables)?;
+    let mut doc = Doc::start(rt, alloc, tables)?;
     let actions = bundle_of(alloc, &START)?;
     let traces = done(alloc, &mut doc, &actions)?;
     drop(traces);
@@ -101,9 +105,13 @@ fn seen(alloc: Global, context: &ByHand, doc: &Doc<RowTables>) -> Result<View, A
     whole_view(alloc, context, doc)
 }
 
-fn view_by_hand(alloc: Global, hand: Hand) -> Result<String, AllocError> {
+fn view_by_hand<R: Threads + Sync>(
+    rt: &R,
+    alloc: Global,
+    hand: Hand,
+) -> Result<String, AllocError> {
     let context = by_hand(alloc, hand)?;
-    let doc = started(alloc)?;
+    let doc = started(rt, alloc)?;
     let view = seen(alloc, &context, &doc)?;
     view_line(alloc, &view)
 }
@@ -139,7 +147,7 @@ static VIEWS: [(Hand, &str); 6] = [
 fn contexts_show_their_views(rt: HostRuntime) {
     for case in &VIEWS {
         assert!(rt;
-            is_line(&view_by_hand(rt.alloc(), case.0), case.1),
+            is_line(&view_by_hand(&rt, rt.alloc(), case.0), case.1),
             "not {}",
             case.1
         );
@@ -255,9 +263,14 @@ fn agreed_line(
     }
 }
 
-fn changes_by_hand(alloc: Global, hand: Hand, edits: &[Edit]) -> Result<String, AllocError> {
+fn changes_by_hand<R: Threads + Sync>(
+    rt: &R,
+    alloc: Global,
+    hand: Hand,
+    edits: &[Edit],
+) -> Result<String, AllocError> {
     let context = by_hand(alloc, hand)?;
-    let mut doc = started(alloc)?;
+    let mut doc = started(rt, alloc)?;
     let actions = bundle_of(alloc, edits)?;
     agreed_line(alloc, &context, &mut doc, &actions)
 }
@@ -313,7 +326,7 @@ static BUNDLES: [Bundle; 12] = [
 fn bundles_are_followed(rt: HostRuntime) {
     for case in &BUNDLES {
         assert!(rt;
-            is_line(&changes_by_hand(rt.alloc(), case.0, case.1), case.2),
+            is_line(&changes_by_hand(&rt, rt.alloc(), case.0, case.1), case.2),
             "not {}",
             case.2
         );

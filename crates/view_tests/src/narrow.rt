@@ -13,6 +13,7 @@ use recalc::laws::laid_out_law;
 use row_tables::RowTables;
 use std::alloc::{AllocError, Global};
 use std::cell::Cell;
+use std::thread::Threads;
 
 // An evaluated document, and how often a cell was asked for.
 #[derive(Drop)]
@@ -45,8 +46,12 @@ impl DocReader for CountedDocument<'_> {
 }
 
 // The small document with rows up to this one.
-fn with_rows(alloc: Global, last: u32) -> Result<Doc<RowTables>, AllocError> {
-    let mut doc = started(alloc)?;
+fn with_rows<R: Threads + Sync>(
+    rt: &R,
+    alloc: Global,
+    last: u32,
+) -> Result<Doc<RowTables>, AllocError> {
+    let mut doc = started(rt, alloc)?;
     let mut edits = Vec::new(alloc);
     for row in 4..last {
         edits.push(Edit::Add(row, true, 1))?;
@@ -74,9 +79,9 @@ fn asked_by(
 }
 
 // How many are asked for by an update of one record among these.
-fn asked_among(alloc: Global, last: u32) -> Result<u64, AllocError> {
+fn asked_among<R: Threads + Sync>(rt: &R, alloc: Global, last: u32) -> Result<u64, AllocError> {
     let context = by_hand(alloc, GUARDED)?;
-    let mut doc = with_rows(alloc, last)?;
+    let mut doc = with_rows(rt, alloc, last)?;
     let actions = bundle_of(alloc, &[Edit::Update(2, "B", Given::Number(7))])?;
     let traces = done(alloc, &mut doc, &actions)?;
     let steps = steps_of(alloc, actions.as_slice(), traces.as_slice())?;
@@ -92,7 +97,7 @@ fn are_few(few: Result<u64, AllocError>, many: Result<u64, AllocError>) -> bool 
 
 #[test]
 fn rows_that_stay_are_not_asked_for(rt: HostRuntime) {
-    let few = asked_among(rt.alloc(), 4);
-    let many = asked_among(rt.alloc(), 64);
+    let few = asked_among(&rt, rt.alloc(), 4);
+    let many = asked_among(&rt, rt.alloc(), 64);
     assert!(rt; are_few(few, many), "other rows are asked for");
 }

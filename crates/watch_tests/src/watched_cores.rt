@@ -9,6 +9,7 @@ use doc_keeper::SureKeeper;
 use doc_model::UserList;
 use grist_json::{UserLine, read_request, read_user};
 use std::alloc::{AllocError, Global};
+use std::thread::Threads;
 use watch_box::MemWatcher;
 use watched_core::WatchedCore;
 
@@ -55,8 +56,8 @@ fn ask(
     }
 }
 
-fn new_core(alloc: Global) -> Result<WatchedByMem, AllocError> {
-    match Core::start(alloc, users(alloc)?, SureKeeper::new(alloc)) {
+fn new_core<R: Threads + Sync>(rt: &R, alloc: Global) -> Result<WatchedByMem, AllocError> {
+    match Core::start(rt, alloc, users(alloc)?, SureKeeper::new(alloc)) {
         Ok(core) => Ok(WatchedCore::new(alloc, core)),
         Err(_) => Err(AllocError),
     }
@@ -132,12 +133,12 @@ fn play(alloc: Global, core: &mut WatchedByMem) -> Result<bool, AllocError> {
     Ok(are_numbered && take_what_is_given(alloc, core)?)
 }
 
-fn played(alloc: Global) -> Result<bool, AllocError> {
-    let mut core = new_core(alloc)?;
+fn played<R: Threads + Sync>(rt: &R, alloc: Global) -> Result<bool, AllocError> {
+    let mut core = new_core(rt, alloc)?;
     play(alloc, &mut core)
 }
 
 #[test]
 fn watchers_take_what_sessions_are_given(rt: HostRuntime) {
-    assert!(rt; matches!(played(rt.alloc()), Ok(true)));
+    assert!(rt; matches!(played(&rt, rt.alloc()), Ok(true)));
 }

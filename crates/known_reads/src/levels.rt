@@ -1,5 +1,5 @@
 //! Formula cells evaluated level by level: attempts at the cells of a column in as many threads as
-//! serve, over what is known before, and then what they found put and recorded in the order of rows.
+//! serve, over what is known before, then what they found put and recorded in the order of rows.
 
 ghost use Rattle.std.specs.Prelude.{◌≡◌, Some, OnOk, IfOk};
 ghost use Rattle.std.specs.List.{AllByRecursion};

@@ -20,8 +20,4 @@ mod counted;
 #[cfg(test)]
 mod draws;
 #[cfg(test)]
-mod levels;
-#[cfg(test)]
-mod meeting;
-#[cfg(test)]
 mod tests;

@@ -11,7 +11,7 @@ ghost use Rattle.doc_model.specs.DocumentLaws.{IsWhole};
 use crate::changes::{add_data, add_formula, add_table, modify, name};
 use crate::meeting::MeetingTables;
 use crate::tests::{is_done, new_doc};
-use cell_types::{CellValue, RowList, ValueList};
+use cell_types::{CellValue, Name, RowList, ValueList};
 use doc_model::{CellColumn, ColumnList, DocAction};
 use evaluated_doc::Doc;
 use row_tables::RowTables;
@@ -23,19 +23,37 @@ const ROWS: u32 = 8_192;
 
 const FEWER_ROWS: u32 = 3_000;
 
-// Rows up to the last one, with a small number in the column.
-fn add_rows(alloc: Global, table: &str, column: &str, last: u32) -> Result<DocAction, AllocError> {
+// Rows up to the last one.
+fn rows_to(alloc: Global, last: u32) -> Result<RowList, AllocError> {
     let mut rows = Vec::new(alloc);
-    let mut values = ValueList::new(alloc);
     for row in 1..=last {
         rows.push(row)?;
+    }
+    Ok(RowList::from(rows))
+}
+
+// A small number for each of them.
+fn numbers_to(alloc: Global, last: u32) -> Result<ValueList, AllocError> {
+    let mut values = ValueList::new(alloc);
+    for row in 1..=last {
         values.push(CellValue::Int(i64::from(row % 10)))?;
     }
-    let id = name(alloc, column)?;
+    Ok(values)
+}
+
+// The column with these values, alone.
+fn one_column(alloc: Global, id: Name, values: ValueList) -> Result<ColumnList, AllocError> {
     let mut columns = ColumnList::new(alloc);
     columns.push(CellColumn { id, values })?;
+    Ok(columns)
+}
+
+// Rows up to the last one, with a small number in the column.
+fn add_rows(alloc: Global, table: &str, column: &str, last: u32) -> Result<DocAction, AllocError> {
+    let values = numbers_to(alloc, last)?;
+    let columns = one_column(alloc, name(alloc, column)?, values)?;
     let table = name(alloc, table)?;
-    let rows = RowList::from(rows);
+    let rows = rows_to(alloc, last)?;
     Ok(DocAction::BulkAdd {
         table,
         rows,

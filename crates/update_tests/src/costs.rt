@@ -15,6 +15,7 @@ use doc_model::laws::new_document_law;
 use doc_model::{CellColumn, ColumnList, DocAction, DocReader};
 use evaluated_doc::{Doc, Touched};
 use std::alloc::{AllocError, Global};
+use std::thread::Threads;
 
 const ROWS: u32 = 10_000;
 
@@ -114,7 +115,7 @@ fn is_taken_back(
 }
 
 // A document of all rows, with this formula in `C`, where a first change was made.
-fn loaded(rt: &HostRuntime, alloc: Global, formula: &str) -> Option<Doc<CountedTables>> {
+fn loaded<R: Threads + Sync>(rt: &R, alloc: Global, formula: &str) -> Option<Doc<CountedTables>> {
     new_document_law();
     let tables = CountedTables::new_document(alloc).ok()?;
     let mut doc = Doc::start(rt, alloc, tables).ok()?;
@@ -163,7 +164,7 @@ fn is_most(asked: Option<u64>, most: u64) -> bool {
 }
 
 // An edit of the last row but one changes two cells, one of the first row changes all.
-fn is_chain_cheap(rt: &HostRuntime, alloc: Global) -> bool {
+fn is_chain_cheap<R: Threads + Sync>(rt: &R, alloc: Global) -> bool {
     let Some(mut doc) = loaded(
         rt,
         alloc,
@@ -182,7 +183,7 @@ fn is_chain_cheap(rt: &HostRuntime, alloc: Global) -> bool {
 }
 
 // A summed value changes fifty sums of fifty values, a key a hundred.
-fn are_sums_cheap(rt: &HostRuntime, alloc: Global) -> bool {
+fn are_sums_cheap<R: Threads + Sync>(rt: &R, alloc: Global) -> bool {
     let Some(mut doc) = loaded(rt, alloc, "SUM(Table1.lookupRecords(A=$A).B)") else {
         return false;
     };
@@ -227,7 +228,7 @@ fn asked_anew(alloc: Global, doc: &mut Doc<CountedTables>, row: u32) -> Option<u
 }
 
 // Each of them reads a value of its row: the last one alone, the last two, and a hundred.
-fn are_touched_cells_cheap(rt: &HostRuntime, alloc: Global) -> bool {
+fn are_touched_cells_cheap<R: Threads + Sync>(rt: &R, alloc: Global) -> bool {
     let Some(mut doc) = loaded(
         rt,
         alloc,

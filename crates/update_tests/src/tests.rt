@@ -15,6 +15,7 @@ use doc_model::{ColDef, DocAction, DocReader};
 use evaluated_doc::{ChangeFault, Doc};
 use row_tables::RowTables;
 use std::alloc::{AllocError, Global};
+use std::thread::Threads;
 
 const CHANGES: u32 = 10_000;
 
@@ -78,8 +79,8 @@ fn are_same<L: DocReader, R: DocReader>(left: &L, right: &R) -> bool {
     })
 }
 
-fn started(
-    rt: &HostRuntime,
+fn started<R: Threads + Sync>(
+    rt: &R,
     alloc: Global,
     tables: &RowTables,
 ) -> Result<Doc<RowTables>, AllocError>
@@ -90,7 +91,7 @@ fn started(
 }
 
 // Whether the document tells what one tells that is started over its tables.
-fn is_as_started(rt: &HostRuntime, alloc: Global, doc: &Doc<RowTables>) -> bool {
+fn is_as_started<R: Threads + Sync>(rt: &R, alloc: Global, doc: &Doc<RowTables>) -> bool {
     match started(rt, alloc, doc.tables()) {
         Ok(fresh) => are_same(doc, &fresh),
         Err(_) => false,
@@ -99,8 +100,8 @@ fn is_as_started(rt: &HostRuntime, alloc: Global, doc: &Doc<RowTables>) -> bool 
 
 // Whether the action was done; nothing where memory is wanting, all cells were evaluated, or a cell
 // is not as it has to be, after the action, after it was taken back, and after it was done again.
-fn play(
-    rt: &HostRuntime,
+fn play<R: Threads + Sync>(
+    rt: &R,
     alloc: Global,
     doc: &mut Doc<RowTables>,
     action: &DocAction,
@@ -125,8 +126,8 @@ fn play(
 
 /// Whether the action was done, and the document is then as it has to be; also where it evaluated
 /// the whole document, if it may.
-pub(crate) fn is_done(
-    rt: &HostRuntime,
+pub(crate) fn is_done<R: Threads + Sync>(
+    rt: &R,
     alloc: Global,
     doc: &mut Doc<RowTables>,
     action: &DocAction,
@@ -142,8 +143,8 @@ pub(crate) fn is_done(
     }
 }
 
-fn play_next(
-    rt: &HostRuntime,
+fn play_next<R: Threads + Sync>(
+    rt: &R,
     alloc: Global,
     doc: &mut Doc<RowTables>,
     draws: &mut Draws,
@@ -154,7 +155,12 @@ fn play_next(
     }
 }
 
-fn is_opened_by(rt: &HostRuntime, alloc: Global, doc: &mut Doc<RowTables>, number: u32) -> bool {
+fn is_opened_by<R: Threads + Sync>(
+    rt: &R,
+    alloc: Global,
+    doc: &mut Doc<RowTables>,
+    number: u32,
+) -> bool {
     match opening(alloc, number) {
         // The first formula affects all.
         Ok(action) => is_done(rt, alloc, doc, &action, number < 2),
@@ -162,7 +168,7 @@ fn is_opened_by(rt: &HostRuntime, alloc: Global, doc: &mut Doc<RowTables>, numbe
     }
 }
 
-fn is_opened(rt: &HostRuntime, alloc: Global, doc: &mut Doc<RowTables>) -> bool {
+fn is_opened<R: Threads + Sync>(rt: &R, alloc: Global, doc: &mut Doc<RowTables>) -> bool {
     for number in 0..10 {
         if !is_opened_by(rt, alloc, doc, number) {
             return false;
@@ -173,7 +179,12 @@ fn is_opened(rt: &HostRuntime, alloc: Global, doc: &mut Doc<RowTables>) -> bool 
 
 // How many changes were done, of so many that were drawn, until there were enough; none where one
 // went wrong.
-fn played(rt: &HostRuntime, alloc: Global, doc: &mut Doc<RowTables>, drawn: u32) -> Option<u32> {
+fn played<R: Threads + Sync>(
+    rt: &R,
+    alloc: Global,
+    doc: &mut Doc<RowTables>,
+    drawn: u32,
+) -> Option<u32> {
     let mut draws = Draws::new(1);
     let mut done = 0u32;
     for _turn in 0..drawn {
@@ -185,14 +196,17 @@ fn played(rt: &HostRuntime, alloc: Global, doc: &mut Doc<RowTables>, drawn: u32)
 }
 
 /// The new document.
-pub(crate) fn new_doc(rt: &HostRuntime, alloc: Global) -> Result<Doc<RowTables>, AllocError> {
+pub(crate) fn new_doc<R: Threads + Sync>(
+    rt: &R,
+    alloc: Global,
+) -> Result<Doc<RowTables>, AllocError> {
     new_document_law();
     let tables = RowTables::new_document(alloc)?;
     Doc::start(rt, alloc, tables)
 }
 
 // How many changes were done; none where one went wrong.
-fn played_from_new(rt: &HostRuntime, alloc: Global) -> Option<u32> {
+fn played_from_new<R: Threads + Sync>(rt: &R, alloc: Global) -> Option<u32> {
     match new_doc(rt, alloc) {
         Ok(mut doc) => {
             if is_opened(rt, alloc, &mut doc) {

@@ -174,7 +174,7 @@ set_exact old new s reader given set same = (set_here old new s reader given set
 
 -- ---- what is dropped
 
-no_notes : (s : Sheet) (c : CellId) → s.formula c ≡ None → notes s c ≡ []
+pub no_notes : (s : Sheet) (c : CellId) → s.formula c ≡ None → notes s c ≡ []
 no_notes s c plain = ap (notes_by s (all_values s) c) plain
 
 -- of a cell without a formula there is nothing to have

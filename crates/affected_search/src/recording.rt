@@ -2,7 +2,7 @@
 
 ghost use Rattle.std.specs.Prelude.{◌≡◌, ◌+◌, ◌≤◌, IfOk, OnOk, OnErr};
 ghost use Rattle.std.specs.Option.{option_copied};
-ghost use Rattle.dep_graph.specs.Graph.{IsKept};
+ghost use Rattle.dep_graph.specs.Graph.{IsKept, IsSet};
 ghost use Rattle.formula_eval.specs.OfText.{evaluated_some};
 ghost use Rattle.recalc.specs.Sheet.{row_of};
 ghost use Rattle.affected_search.specs.NotedUpkeep.{RecordsNotes};
@@ -63,6 +63,7 @@ pub fn record_cell<R: CellReader, L: Ledger>(
         graph.old graph.new cell.now) }
     ensures notes { IfOk result (λ notes.
         (evaluated_some (R.told reader.now) at.now (option_copied tree.entry)).notes ≡ notes) }
+    ensures set { IfOk result (λ notes. IsSet graph.old graph.new cell.now notes) }
     ensures err { OnErr result (IsKept graph.old graph.new) }
     ensures steps { steps.new ≤ steps.old + 1 }
 {

@@ -2,8 +2,8 @@
 //! user writes tell no more than the user's view.
 //!
 //! Stands on `rule_audit` (audits), `rule_contexts` and `user_attrs` (what is in force for users),
-//! `evaluated_doc`, `row_tables` and `doc_opening` (the document that a keeper's records lead to),
-//! `users_alone` (the users of the input), `grist_run` (statuses, sending), `grist_json` and
+//! `evaluated_doc`, `column_store` and `doc_opening` (the document that a keeper's records lead
+//! to), `users_alone` (the users of the input), `grist_run` (statuses, sending), `grist_json` and
 //! `serde_json` (lines), `io_edges` and `doc_keeper`. Used by `grist_hosting`.
 //!
 //! Promises: `audit_users` writes one line for each user of the input, in their order, of the audit

@@ -7,18 +7,18 @@ ghost use Rattle.doc_model.specs.NewDocument.{new_document};
 ghost use Rattle.doc_opening.specs.Opening.{FirstBad, Opens};
 ghost use Rattle.doc_opening.specs.declared.opening.StartCause.TheVariants.{BadStore, StoreFault};
 
+use column_store::ColumnTables;
 use doc_keeper::{KeepFault, Keeper};
 use doc_model::laws::new_document_law;
 use doc_opening::{StartCause, open_records};
 use evaluated_doc::Doc;
-use row_tables::RowTables;
 use std::alloc::Global;
 use std::thread::Threads;
 
 /// A document that was made of so many records, evaluated.
 #[derive(Drop)]
 pub(crate) struct OpenedDocument {
-    pub doc: Doc<RowTables>,
+    pub doc: Doc<ColumnTables>,
     pub count: u32,
 }
 
@@ -41,7 +41,7 @@ fn make_ready<K: Keeper>(keeper: &mut K) -> Result<(), StartCause>
 fn take_records<K: Keeper>(
     alloc: Global,
     keeper: &mut K,
-    tables: &mut RowTables,
+    tables: &mut ColumnTables,
 ) -> Result<u32, StartCause>
     requires first { tables.old ≡ new_document }
     ensures same { K.records keeper.new ≡ K.records keeper.old }
@@ -80,7 +80,7 @@ pub(crate) fn open_document<R: Threads + Sync, K: Keeper>(
     if let Err(cause) = make_ready(keeper) {
         return Err(cause);
     }
-    let Ok(mut tables) = RowTables::new_document(alloc) else {
+    let Ok(mut tables) = ColumnTables::new_document(alloc) else {
         return Err(StartCause::NoMemory);
     };
     match take_records(alloc, keeper, &mut tables) {

@@ -24,12 +24,12 @@ use crate::session_index::index_of;
 use action_limits::Tally;
 use bundle_records::RecordLedger;
 use cell_types::{Name, Sequence};
+use column_store::ColumnTables;
 use doc_keeper::Keeper;
 use doc_model::{Entry, EntryList, Request, UserList};
 use doc_opening::StartCause;
 use evaluated_doc::Doc;
 use grist_json::Line;
-use row_tables::RowTables;
 use std::alloc::{AllocError, Global};
 use std::marker::Model;
 use std::thread::Threads;
@@ -74,7 +74,7 @@ pub struct Core<K: Keeper> {
     alloc: Global,
     users: UserList,
     opening: Opening,
-    doc: RuledDocument<RowTables>,
+    doc: RuledDocument<ColumnTables>,
     tally: Tally,
     sessions: Vec<OpenSession>,
     entries: Vec<Entry>,
@@ -253,7 +253,7 @@ impl<K: Keeper> Core<K> {
     /// The present document, with its cells evaluated.
     ///
     /// Memory: none.
-    pub fn document(&self) -> &Doc<RowTables>
+    pub fn document(&self) -> &Doc<ColumnTables>
         ensures { result.now ≡ (state_now self.now.state).document }
     {
         self.doc.evaluated()

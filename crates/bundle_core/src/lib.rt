@@ -1,8 +1,7 @@
 //! The core: a document, its open sessions, and what each entry of a history makes of them.
 //!
 //! Stands on `doc_model` (documents, changes, entries), `bundle_judge` (what bundles and undos come
-//! to), `row_tables` (the document in memory), `evaluated_doc` (its formula cells
-//! evaluated),
+//! to), `column_store` (the document in memory), `evaluated_doc` (its formula cells evaluated),
 //! `undo_bundles` (a session's bundles with their inverses), `rule_contexts`, `censored_view` and
 //! `context_changes` (what users see and are told), `grist_json` (the texts of lines), `doc_keeper`
 //! and `bundle_records` (the keeper of accepted bundles) and `doc_opening` (the document that its

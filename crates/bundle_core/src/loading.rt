@@ -11,11 +11,11 @@ ghost use Rattle.bundle_core.specs.Loading.{IsLoaded, IsLoadedAs};
 
 use crate::ruled_document::RuledDocument;
 use action_limits::Tally;
+use column_store::ColumnTables;
 use doc_keeper::{KeepFault, Keeper};
 use doc_model::laws::new_document_law;
 use doc_opening::{StartCause, open_records};
 use evaluated_doc::Doc;
-use row_tables::RowTables;
 use std::alloc::{AllocError, Global};
 use std::thread::Threads;
 
@@ -23,14 +23,14 @@ use std::thread::Threads;
 #[derive(Drop)]
 pub(crate) enum Opening {
     NewDocument,
-    Copied(RowTables),
+    Copied(ColumnTables),
 }
 
 /// A document that was made of so many records, evaluated, with its tally and the copy of it.
 #[derive(Drop)]
 pub(crate) struct Loaded {
     pub opening: Opening,
-    pub doc: RuledDocument<RowTables>,
+    pub doc: RuledDocument<ColumnTables>,
     pub tally: Tally,
     pub count: u32,
 }
@@ -51,7 +51,7 @@ fn make_ready<K: Keeper>(keeper: &mut K) -> Result<(), StartCause>
 }
 
 // What is kept of a document that was made of so many records: nothing of a new one.
-fn opening_of(alloc: Global, tables: &RowTables, count: u32) -> Result<Opening, AllocError>
+fn opening_of(alloc: Global, tables: &ColumnTables, count: u32) -> Result<Opening, AllocError>
     requires { count ≡ 0 → tables.now ≡ new_document }
     ensures { IfOk result (λ o. document_of o ≡ tables.now) }
 {
@@ -65,7 +65,7 @@ fn opening_of(alloc: Global, tables: &RowTables, count: u32) -> Result<Opening, 
 fn evaluated<R: Threads + Sync>(
     rt: &R,
     alloc: Global,
-    tables: RowTables,
+    tables: ColumnTables,
     count: u32,
 ) -> Result<Loaded, AllocError>
     requires whole { IsWhole tables }
@@ -90,7 +90,7 @@ fn evaluated<R: Threads + Sync>(
 fn take_records<K: Keeper>(
     alloc: Global,
     keeper: &mut K,
-    tables: &mut RowTables,
+    tables: &mut ColumnTables,
 ) -> Result<u32, StartCause>
     requires first { tables.old ≡ new_document }
     ensures same { K.records keeper.new ≡ K.records keeper.old }
@@ -129,7 +129,7 @@ pub(crate) fn load<R: Threads + Sync, K: Keeper>(
     if let Err(cause) = make_ready(keeper) {
         return Err(cause);
     }
-    let Ok(mut tables) = RowTables::new_document(alloc) else {
+    let Ok(mut tables) = ColumnTables::new_document(alloc) else {
         return Err(StartCause::NoMemory);
     };
     match take_records(alloc, keeper, &mut tables) {

@@ -2,8 +2,8 @@
 
 use crate::history_core::LineList;
 use cell_types::Name;
+use column_store::ColumnTables;
 use doc_model::{Request, UserList};
-use row_tables::RowTables;
 
 /// A request of a session, with the byte count of its line.
 #[derive(Drop)]
@@ -27,7 +27,7 @@ pub enum Given {
 /// told, and how often that had failed. It stands in contracts and proofs alone: nothing is made.
 pub struct CoreOpening {
     pub users: UserList,
-    pub document: RowTables,
+    pub document: ColumnTables,
     pub records: Option<LineList>,
     pub faults: u64,
 }

@@ -1,9 +1,11 @@
 //! Actions done one after another, and gone back over.
 
-ghost use Rattle.std.specs.Prelude.{◌≡◌, [], ◌∷◌, true, map, OnOk};
+ghost use Rattle.std.specs.Prelude.{◌≡◌, ◌<◌, [], ◌∷◌, true, map, IfOk, OnErr, OnOk};
 ghost use Rattle.doc_model.specs.Apply.{all_valid, apply, apply_all};
 ghost use Rattle.doc_model.specs.DocumentLaws.{IsWhole};
 ghost use Rattle.doc_model.specs.Valid.{valid};
+ghost use Rattle.recalc.specs.Lost.{lost};
+ghost use Rattle.evaluated_doc.specs.WayBack.{IsWayBack};
 ghost use Rattle.user_actions.specs.StepLaws.{action_of};
 ghost use Rattle.bundle_judge.specs.JudgedBundles.{after_steps};
 ghost use Rattle.bundle_judge.specs.Losses.{AreTold};
@@ -11,7 +13,10 @@ ghost use Rattle.bundle_judge.specs.Rollback.{AllLeadBack, gone_back};
 
 use doc_model::{DocAction, DocTables, Step};
 use evaluated_doc::{Doc, Trace};
+use formula_eval::Steps;
 use std::alloc::{AllocError, Global};
+use std::marker::Brand;
+use std::sync::ledger::{Blank, Ledger};
 use undo_bundles::BundleInverse;
 
 /// Steps that were done: the traces that lead back over them, and the steps that take them back.
@@ -36,6 +41,31 @@ impl<D: DocTables> Trail<D> {
     }
 }
 
+// Does a valid action, in a count of attempts of its own, within what it takes to evaluate what the
+// action may affect.
+fn put_alone<D: DocTables, L: Ledger>(
+    alloc: Global,
+    doc: &mut Doc<D>,
+    action: &DocAction,
+    blank: Blank,
+) -> Result<Trace<D>, AllocError>
+    requires name { blank.name ≡ L.name }
+    requires parts { blank.parts ≡ L.parts }
+    requires some { 0 < L.parts }
+    requires valid { valid (D.document doc.old) action.now ≡ true }
+    ensures ok { OnOk result (D.document doc.new ≡ apply (D.document doc.old) action.now) }
+    ensures cells { IfOk result (λ trace. trace.cells
+        ≡ lost (D.document doc.old) (D.document doc.new) action.now) }
+    ensures way { IfOk result (λ trace. IsWayBack D.fits D.undone trace (D.document doc.new)) }
+    ensures back { IfOk result
+        (λ trace. D.undone trace.back (D.document doc.new) ≡ D.document doc.old) }
+    ensures err { OnErr result (D.document doc.new ≡ D.document doc.old) }
+    ensures whole { IsWhole (D.document doc.new) }
+{
+    let mut steps = Steps::<L>::new(blank);
+    doc.put(alloc, action, &mut steps)
+}
+
 /// Does a valid step, and notes the trace that leads back behind what is there, and the inverse of
 /// the step.
 pub fn do_one<D: DocTables>(
@@ -58,7 +88,7 @@ pub fn do_one<D: DocTables>(
     trail.traces.reserve(1)?;
     let inverse = &mut trail.inverse;
     inverse.note(alloc, doc.tables(), &step.action, step.direct)?;
-    let trace = doc.put(alloc, &step.action)?;
+    let trace = put_alone::<D, Brand>(alloc, doc, &step.action, Blank::new(1))?;
     trail.traces.push_reserved(trace);
     Ok(())
 }
@@ -102,7 +132,7 @@ fn put_one<D: DocTables>(
         ≡ gone_back D.fits D.undone traces.old.items (D.document doc.old) }
 {
     traces.reserve(1)?;
-    let trace = doc.put(alloc, action)?;
+    let trace = put_alone::<D, Brand>(alloc, doc, action, Blank::new(1))?;
     traces.push_reserved(trace);
     Ok(())
 }

@@ -1,5 +1,6 @@
 pub mod Differing
 pub mod Graph
+pub mod Named
 pub mod Names
 pub mod NumberLaws
 pub mod Numbers
@@ -7,3 +8,4 @@ pub mod Readers
 pub mod Records
 pub mod Runs
 pub mod Sources
+pub mod Were

@@ -1,22 +1,25 @@
 //! The graph of reads.
 
 ghost use Rattle.std.specs.Prelude.{◌≡◌, [], ℕ, true, false, IfOk, IfSome, OnOk, OnErr, Some, slice_get};
-ghost use Rattle.std.specs.Option.{option_copied};
+ghost use Rattle.std.specs.Option.{is_some, option_copied};
 ghost use Rattle.doc_model.specs.Rows.{has, IsAscending};
 ghost use Rattle.std.specs.List.{list_any};
-ghost use Rattle.dep_graph.specs.Graph.{IsDropped, IsKept, IsSet, reads_count};
+ghost use Rattle.dep_graph.specs.Graph.{IsDropped, IsKept, IsSet, IsSetTo};
 ghost use Rattle.dep_graph.specs.Names.{number_in};
 ghost use Rattle.dep_graph.specs.Numbers.{is_column};
 ghost use Rattle.dep_graph.specs.Records.{holds, reads_under};
 ghost use Rattle.dep_graph.specs.Sources.{cell_in, column_in};
+ghost use Rattle.dep_graph.specs.Were.{IsLogged, IsNotedLast};
 ghost use Rattle.dep_graph.specs.declared.numbers.CellNumber.{CellNumber};
 
+use crate::named::named_numbers;
 use crate::names::NameNumbers;
 use crate::noting::{cell_number, note_numbers, run_numbers};
 use crate::numbers::{CellNumber, ColumnNumber, ReadNumber};
 use crate::readers::Readers;
 use crate::records::{Records, forget, record, recorded};
 use crate::runs::NoteRuns;
+use crate::were::{WereReads, forget_noting, note_reads, record_noting};
 use cell_types::{CellId, Name};
 use formula_eval::NoteList;
 use std::alloc::{AllocError, Global};
@@ -75,17 +78,95 @@ impl DepGraph {
         record(&mut self.reads, &mut self.readers, self.alloc, cell, new)
     }
 
-    /// The same, where notes stand together.
+    /// Records what a run noted as read, where notes stand together, in the place of what the cell
+    /// read before. Where that is something else, it is noted first.
     ///
     /// Errors: out of memory; each cell then reads what it read.
-    pub fn set_runs(&mut self, reader: &CellId, runs: &NoteRuns) -> Result<bool, AllocError>
+    pub fn set_noting(
+        &mut self,
+        reader: &CellId,
+        runs: &NoteRuns,
+        log: &mut Vec<WereReads>,
+    ) -> Result<(), AllocError>
         ensures ok { OnOk result (IsSet self.old self.new reader.now runs.now) }
-        ensures same { IfOk result (λ is_other. is_other ≡ false → IsKept self.old self.new) }
         ensures err { OnErr result (IsKept self.old self.new) }
+        ensures logged { IsLogged self.old self.new reader.now log.old.items log.new.items }
     {
         let cell = cell_number(&mut self.names, reader)?;
         let new = run_numbers(&mut self.names, self.alloc, runs.as_slice())?;
-        record(&mut self.reads, &mut self.readers, self.alloc, cell, new)
+        let names = &self.names;
+        let reads = &mut self.reads;
+        record_noting(
+            names,
+            reads,
+            &mut self.readers,
+            self.alloc,
+            reader,
+            cell,
+            new,
+            log,
+        )
+    }
+
+    /// Records again what a cell read.
+    ///
+    /// Errors: out of memory; each cell then reads what it read.
+    pub fn set_back(&mut self, were: &WereReads) -> Result<(), AllocError>
+        ensures ok { OnOk result (IsSetTo self.old self.new were.now.cell were.now.reads) }
+        ensures err { OnErr result (IsKept self.old self.new) }
+    {
+        let cell = cell_number(&mut self.names, &were.cell)?;
+        let new = named_numbers(&mut self.names, self.alloc, were.reads.as_slice())?;
+        let _are_others = record(&mut self.reads, &mut self.readers, self.alloc, cell, new)?;
+        Ok(())
+    }
+
+    /// Notes last what a cell reads.
+    ///
+    /// Errors: out of memory; nothing more is noted then.
+    pub fn note(&self, reader: &CellId, log: &mut Vec<WereReads>) -> Result<(), AllocError>
+        ensures ok { OnOk result
+            (IsNotedLast self.now reader.now log.old.items log.new.items) }
+        ensures err { OnErr result (log.new.items ≡ log.old.items) }
+    {
+        let Some(column) = self.column_number(&reader.table, &reader.column) else {
+            return note_reads(&self.names, self.alloc, reader, &[], log);
+        };
+        let row = reader.row;
+        let reads = recorded(&self.reads, CellNumber { column, row });
+        note_reads(&self.names, self.alloc, reader, reads, log)
+    }
+
+    /// Forgets what a cell reads. Where it has a number, what it read is noted first.
+    ///
+    /// Errors: out of memory; each cell then reads what it read.
+    pub fn drop_noting(
+        &mut self,
+        reader: &CellId,
+        log: &mut Vec<WereReads>,
+    ) -> Result<(), AllocError>
+        ensures ok { OnOk result (IsDropped self.old self.new reader.now) }
+        ensures err { OnErr result (IsKept self.old self.new) }
+        ensures logged { IsLogged self.old self.new reader.now log.old.items log.new.items }
+        ensures noted { OnOk result (is_some (cell_in self.old.names reader.now) ≡ true
+            → IsNotedLast self.old reader.now log.old.items log.new.items) }
+    {
+        let Some(column) = self.column_number(&reader.table, &reader.column) else {
+            return Ok(());
+        };
+        let row = reader.row;
+        let cell = CellNumber { column, row };
+        let names = &self.names;
+        let reads = &mut self.reads;
+        forget_noting(
+            names,
+            reads,
+            &mut self.readers,
+            self.alloc,
+            reader,
+            cell,
+            log,
+        )
     }
 
     /// Forgets what a cell reads.
@@ -163,24 +244,5 @@ impl DepGraph {
         ensures { result.now ≡ reads_under self.now.reads cell }
     {
         recorded(&self.reads, cell)
-    }
-
-    /// How many reads are recorded of a cell: none of one that has no number.
-    ///
-    /// Memory: none.
-    pub fn reads_count(&self, cell: &CellId) -> usize
-        ensures { result ≡ reads_count self.now cell.now }
-    {
-        match self.column_number(&cell.table, &cell.column) {
-            Some(column) => recorded(
-                &self.reads,
-                CellNumber {
-                    column,
-                    row: cell.row,
-                },
-            )
-            .len(),
-            None => 0,
-        }
     }
 }

@@ -14,7 +14,10 @@ use formula_eval::Note;
 use lookup_index::bucket_of;
 use std::alloc::{AllocError, Global};
 
-fn column_number(
+/// The number of a column, whose names are given numbers where they have none.
+///
+/// Errors: out of memory; what had a number keeps it.
+pub(crate) fn column_number(
     names: &mut NameNumbers,
     table: &Name,
     column: &Name,
@@ -41,7 +44,10 @@ pub(crate) fn cell_number(names: &mut NameNumbers, cell: &CellId) -> Result<Cell
     })
 }
 
-fn read_number(names: &mut NameNumbers, read: &Read) -> Result<ReadNumber, AllocError>
+/// The number of a read, whose names are given numbers where they have none.
+///
+/// Errors: out of memory; what had a number keeps it.
+pub(crate) fn read_number(names: &mut NameNumbers, read: &Read) -> Result<ReadNumber, AllocError>
     ensures ok { IfOk result (λ q. source_in names.new (read_source read.now) ≡ Some q) }
     ensures grown { IsGrown names.old names.new }
 {

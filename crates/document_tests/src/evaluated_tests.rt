@@ -8,6 +8,7 @@ ghost use Rattle.std.specs.Prelude.{IfOk};
 ghost use Rattle.doc_model.specs.DocumentLaws.{IsWhole};
 
 use crate::actions::{Change, Kind};
+use crate::counting::change_alone;
 use crate::reading::{is_text, reads_as, write_value};
 use crate::tests::{are_all_done, single};
 use Change::{
@@ -20,6 +21,8 @@ use doc_model::{DocAction, DocActionList};
 use evaluated_doc::Doc;
 use row_tables::RowTables;
 use std::alloc::{AllocError, Global};
+use std::marker::Brand;
+use std::sync::ledger::Blank;
 use std::thread::Threads;
 
 // The new document after these actions.
@@ -254,7 +257,7 @@ fn loses(
     lost: &str,
     after: &str,
 ) -> bool {
-    let Ok(trace) = doc.change(alloc, action) else {
+    let Ok(trace) = change_alone::<RowTables, Brand>(alloc, doc, action, Blank::new(1)) else {
         return false;
     };
     let told = is_text(&written(alloc, trace.cells()), lost) && reads_as(alloc, &*doc, after);

@@ -19,6 +19,8 @@ mod asked;
 #[cfg(test)]
 mod bounds;
 #[cfg(test)]
+mod counting;
+#[cfg(test)]
 mod evaluated_tests;
 #[cfg(test)]
 mod everything;

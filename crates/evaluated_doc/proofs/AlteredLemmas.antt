@@ -20,8 +20,7 @@ use Rattle.affected_values.specs.Taken.{IsRightBut}
 use Rattle.affected_values.proofs.HeldNone.{held_none}
 use Rattle.known_reads.specs.Beside.{Beside}
 use Rattle.known_reads.specs.Recorded.{KnowsBut}
-use Rattle.known_reads.proofs.BesideLemmas.{knows_others, read_same}
-use Rattle.evaluated_doc.specs.declared.altering.Altered.{Altered}
+use Rattle.known_reads.proofs.BesideLemmas.{read_same}
 use Rattle.evaluated_doc.specs.Altering.{HasFoundAltered, IsAltering}
 
 pub none_some : {X : Type 0} (x : X) → None ≡ Some x → ⊥
@@ -68,7 +67,7 @@ formula_same law s now a from cells before after c other = by (is_altered a c) r
 pub altered_more : (s : Document) (a : DocAction) (old new : List CellId) → HasAltered s a old → ((c : CellId) → on old c ≡ true → on new c ≡ true) → HasAltered s a new
 altered_more s a old new has more c h there = more c (has c h there)
 
-module _ (law : AlteredLaw) (s now : Document) (a : DocAction) (kept : List KeptTable) (known : Beside) (x : Altered) (is : IsAltering s now a kept known x)
+module _ (law : AlteredLaw) (s now : Document) (a : DocAction) (kept : List KeptTable) (known : Beside) (first : List CellId) (is : IsAltering s now a kept known first)
     (cells : List CellId) (found : HasFoundAltered s known.graph a cells) (after : HasAltered now a cells) where
   stays : (c : CellId) → on cells c ≡ false → formula_at now c ≡ formula_at s c
   stays = formula_same law s now a is.altered cells found.altered after
@@ -103,7 +102,7 @@ module _ (law : AlteredLaw) (s now : Document) (a : DocAction) (kept : List Kept
 
   -- the graph is right of each cell but these
   pub reads_but : KnowsBut now known cells
-  reads_but c fresh other = read_same s now known.graph c (ap is_some (sym (stays c other))) (λ there. same_notes c there other) (knows_others s known is.reads c fresh)
+  reads_but c fresh other = read_same s now known.graph c (ap is_some (sym (stays c other))) (λ there. same_notes c there other) (is.reads.each c)
 
   held_was : (new : List KeptTable) → IsCarried s now a kept new → (c : CellId) (f : List ℕ) → formula_at now c ≡ Some f → on cells c ≡ false → held_at now new c ≡ Some (evaluated (sheet_of now) c)
   held_was new carried c f e other =

@@ -6,3 +6,4 @@ pub mod StartLemmas
 pub mod TouchedLemmas
 pub mod UpdateLemmas
 mod ValueLemmas
+pub mod BackLemmas

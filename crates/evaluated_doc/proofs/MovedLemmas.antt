@@ -17,6 +17,7 @@ use Rattle.doc_model.specs.Schema.{no_grid}
 use Rattle.doc_readers.specs.Parts.{grid_at}
 use Rattle.doc_model.specs.Valid.{valid}
 use Rattle.dep_graph.specs.Graph.{Graph}
+use Rattle.dep_graph.specs.Named.{Were}
 use Rattle.recalc.specs.declared.kept.KeptTable.{KeptTable}
 use Rattle.recalc.specs.Current.{has_formula, has_formulas}
 use Rattle.recalc.specs.Evaluated.{formula_at}
@@ -31,12 +32,11 @@ use Rattle.affected_values.specs.RowsOver.{LeadsOverRowsLaw, RightLaidLaw}
 use Rattle.affected_values.specs.Taken.{IsRightBut, LeadsBack}
 use Rattle.affected_values.proofs.LaidLemmas.{moved_alike}
 use Rattle.affected_values.proofs.RelaidLemmas.{IsAlikeBut}
-use Rattle.known_reads.specs.declared.some_cells.SomeCells.{SomeCells}
-use Rattle.known_reads.specs.Beside.{Beside, KnowsOthers}
+use Rattle.known_reads.specs.Beside.{Beside, KnowsExact}
 use Rattle.known_reads.specs.Moved.{ReadsOverLaw, ReadsSameAfter, RowsStayLaw}
 use Rattle.known_reads.specs.Recorded.{KnowsBut}
-use Rattle.known_reads.specs.Watched.{AreRenewed}
-use Rattle.known_reads.proofs.BesideLemmas.{knows_others, none_stale, read_same}
+use Rattle.known_reads.specs.Watched.{AreBefore}
+use Rattle.known_reads.proofs.BesideLemmas.{read_same}
 use Rattle.evaluated_doc.specs.declared.moving.Moved.{Moved}
 use Rattle.evaluated_doc.specs.Moved.{IsMoved, IsMoving, LeadsFromRows}
 
@@ -122,30 +122,29 @@ rows_removed s u rows t ok h =
     part_moved (λ (g : Grid ColDef). g.rows) [] s (BulkRemove u rows) t (remove_rows column_id rows) (without rows) (λ g. refl) refl refl
     (ap (λ b. cond b (with_table u (on_grid (remove_rows column_id rows)) s) s) ok ∙ ap (λ n. with_table n (on_grid (remove_rows column_id rows)) s) (some_same u t h))
 
-module _ (s next : Document) (a : DocAction) (t rows : List ℕ) (x : Moved) (ok : valid s a ≡ true) (moved : moved_table a ≡ Some t) (done : next ≡ apply s a) where
+module _ (s next : Document) (a : DocAction) (t : List ℕ) (x : Moved) (ok : valid s a ≡ true) (moved : moved_table a ≡ Some t) (done : next ≡ apply s a) where
   columns_same : (grid_at s t).columns ≡ (grid_at next t).columns
   columns_same = sym (ap (λ d. (grid_at d t).columns) done ∙ columns_moved s a t ok moved)
 
   -- the graph is right of each cell but the found ones and those of the rows
-  pub known_but : ReadsOverLaw → (known : Beside) (cells : List CellId) → IsMoved known.graph a s t rows x
-      → ((c : CellId) → on x.noted.items c ≡ true → on cells c ≡ true) → HasCellsWith (grid_at next t).columns t (moved_rows a) cells → KnowsOthers s known → KnowsBut next known cells
-  known_but over known cells is stays has others c fresh other =
+  pub known_but : ReadsOverLaw → (known : Beside) (cells : List CellId) → IsMoved known.graph a s t x
+      → ((c : CellId) → on x.noted.items c ≡ true → on cells c ≡ true) → HasCellsWith (grid_at next t).columns t (moved_rows a) cells → KnowsExact s known → KnowsBut next known cells
+  known_but over known cells is stays has exact c fresh other =
       let same = subst (λ d. ReadsSameAfter s d cells) (sym done)
       (over s a t known.graph x.found cells moved ok is.keeps (λ c h. stays c (is.noted c h)) (has s columns_same) (subst (λ d. HasCellsOf d t (moved_rows a) cells) done (has next refl))) in
-      read_same s next known.graph c (same.there c other) (λ there. same.same c there other) (others c fresh)
+      read_same s next known.graph c (same.there c other) (λ there. same.same c there other) (exact.each c)
 
   -- but for the cells of the rows formula cells stay
-  pub formulas_stay : RowsStayLaw → (graph : Graph) → moved_rows a ≡ rows → IsMoved graph a s t rows x → (c : CellId) → on x.moved.items c ≡ false → is_some (formula_at next c) ≡ is_some (formula_at s c)
-  formulas_stay law graph these is c other =
-      let has : HasCellsWith (grid_at s t).columns t (moved_rows a) x.moved.items = subst (λ rs. HasCellsWith (grid_at s t).columns t rs x.moved.items) (sym these) is.moved in
-      ap (λ d. is_some (formula_at d c)) done ∙ ap is_some (law s a t x.moved.items moved ok (has s refl) (has (apply s a) (columns_moved s a t ok moved)) c other)
+  pub formulas_stay : RowsStayLaw → (cells : List CellId) → HasCellsWith (grid_at next t).columns t (moved_rows a) cells → (c : CellId) → on cells c ≡ false → is_some (formula_at next c) ≡ is_some (formula_at s c)
+  formulas_stay law cells has c other =
+      ap (λ d. is_some (formula_at d c)) done ∙ ap is_some (law s a t cells moved ok (has s columns_same) (subst (λ d. HasCellsOf d t (moved_rows a) cells) done (has next refl)) c other)
 
 -- ---- rows that were put
 
 module _ (s now : Document) (t rows : List ℕ) (kept : List KeptTable) (known : Beside) (x : Moved) (is : IsMoving s now t rows kept known x) where
   pub reads_but : ReadsOverLaw → (cells : List CellId) → ((c : CellId) → on x.noted.items c ≡ true → on cells c ≡ true) → HasCellsWith (grid_at now t).columns t rows cells → KnowsBut now known cells
   reads_but law cells stays has =
-      known_but s now is.moved.action t rows x is.moved.ok is.moved.moved is.moved.done law known cells is.found stays (subst (λ rs. HasCellsWith (grid_at now t).columns t rs cells) (sym is.these) has) (knows_others s known is.reads)
+      known_but s now is.moved.action t x is.moved.ok is.moved.moved is.moved.done law known cells is.found stays (subst (λ rs. HasCellsWith (grid_at now t).columns t rs cells) (sym is.these) has) is.reads
 
   pub right_but : RightLaidLaw → (new : List KeptTable) (aside : LaidAside) (cells : List CellId) → IsLaidAnew s now t kept new aside → ((c : CellId) → on x.noted.items c ≡ true → on cells c ≡ true) → HasCellsWith (grid_at now t).columns t rows cells
       → IsRightBut now new cells
@@ -153,13 +152,13 @@ module _ (s now : Document) (t rows : List ℕ) (kept : List KeptTable) (known :
       law s now t known.graph x.found cells kept new aside is.moved is.found.keeps (λ c h. stays c (is.found.noted c h)) (subst (λ rs. HasCellsOf now t rs cells) (sym is.these) (has now refl)) is.right laid
 
   -- what leads back
-  pub leads_from : LeadsOverRowsLaw → RowsStayLaw → (laid new : List KeptTable) (aside : LaidAside) (taken : List HeldValue) (stale : SomeCells) → AreRenewed now known x.moved.items stale → IsLaidAnew s now t kept laid aside → IsEvaluated now new
-      → LeadsBack now taken new laid → LeadsFromRows s now taken aside stale
-  leads_from law stay laid new aside taken stale renewed at right leads = record {
+  pub leads_from : LeadsOverRowsLaw → RowsStayLaw → (laid new : List KeptTable) (aside : LaidAside) (taken : List HeldValue) (cells : List CellId) (log : List Were) → AreBefore now known cells log → HasCellsWith (grid_at now t).columns t rows cells
+      → IsLaidAnew s now t kept laid aside → IsEvaluated now new → LeadsBack now taken new laid → LeadsFromRows s now taken aside log
+  leads_from law stay laid new aside taken cells log leads_back has at right leads = record {
     moved = subst (IsMovedFrom s now) (sym at.table) is.moved;
     has_aside = at.has_aside;
     leads = law s now t taken kept laid new aside is.moved is.right at right leads;
-    reads = renewed s (knows_others s known is.reads) (none_stale known is.reads.none is.recorded) (formulas_stay s now is.moved.action t rows x is.moved.ok is.moved.moved is.moved.done stay known.graph is.these is.found);
+    reads = leads_back s is.reads.each (formulas_stay s now is.moved.action t x is.moved.ok is.moved.moved is.moved.done stay cells (subst (λ rs. HasCellsWith (grid_at now t).columns t rs cells) (sym is.these) has));
   }
 
 -- ---- the way back

@@ -1,5 +1,5 @@
 -- How many attempts a change makes to evaluate what it affects.
-use Rattle.std.proofs.Common.{ℕ, ◌+◌, ◌≤◌, Bool, true, false, cond, not, nat_eq, ◌||◌, ◌&&◌, List, [], ◌∷◌, length, filter, ◌≡◌, inl, inr, refl, sym, ap, ◌∙◌, subst, Option, Some, None, arith}
+use Rattle.std.proofs.Common.{ℕ, ◌+◌, ◌≤◌, Bool, true, false, cond, not, nat_eq, ◌||◌, ◌&&◌, List, [], ◌∷◌, filter, ◌≡◌, inl, inr, refl, sym, ap, ◌∙◌, subst, Option, Some, None}
 use Rattle.std.proofs.lemmas.Bool.{false≢true, true≢false, eqb-true, or_left, or_right, and_from, and_parts}
 use Rattle.std.specs.List.{list_any}
 use Rattle.std.specs.Option.{is_some}
@@ -38,13 +38,9 @@ use Rattle.affected_search.specs.Sheets.{is_found}
 use Rattle.affected_values.specs.Altered.{AlteredLaw, IsAlteredFrom, is_altered}
 use Rattle.affected_values.specs.Carried.{moved_rows, moved_table}
 use Rattle.affected_values.proofs.LaidLemmas.{not_beyond}
-use Rattle.known_reads.specs.Attempts.{HasFormulas, due}
-use Rattle.known_reads.specs.Beside.{Beside, KnowsReads}
+use Rattle.known_reads.specs.Attempts.{HasFormulas}
 use Rattle.evaluated_doc.proofs.MovedLemmas.{rows_removed}
-use Rattle.evaluated_doc.specs.declared.trace.Before.{Before}
-use Rattle.evaluated_doc.specs.declared.trace.Before.TheVariants.{Altered, Rows, Update, Whole}
-use Rattle.evaluated_doc.specs.Spent.{AreAffected, HasSpent}
-use Rattle.evaluated_doc.specs.WayBack.{is_whole}
+use Rattle.evaluated_doc.specs.Spent.{AreAffected}
 
 none_some : (x : List ℕ) → None ≡ Some x → ⊥
 none_some x e = cc
@@ -189,15 +185,3 @@ spent_within s now a cells old new ok done are within =
         by : (o : Option (List ℕ)) → formula_at now c ≡ o → is_some o ≡ true → IsIn c (filter (affected s a) (sheet_of now).cells)
         by None e h = absurd (false≢true h)
         by (Some f) e h = in_filter (affected s a) c (sheet_of now).cells ((is_sheet now).listed c f e) (are ok c here (ap (λ d. is_some (formula_at d c)) (sym done) ∙ there))
-
--- so it is where no cell was stale
-pub spent : (s now : Document) (a : DocAction) (known : Beside) → KnowsReads s known → (cells : List CellId) (old new : ℕ) → valid s a ≡ true → now ≡ apply s a → AreAffected s a cells
-    → ((all : List CellId) → HasFormulas now cells all → new ≤ due old known + attempt_bound (sheet_of now) all) → new ≤ old + bound s a
-spent s now a known knows cells old new ok done are within =
-    spent_within s now a cells old new ok done are (λ all has. let most = within all has in let none = ap length knows.none in omega (arith, most, none))
-
-pub spent_any : (s : Document) (a : DocAction) (before : Before) (old new : ℕ) → is_whole before ≡ false → new ≤ old + bound s a → HasSpent s a before old new
-spent_any s a (Whole kept) old new part h = absurd (true≢false part)
-spent_any s a (Update taken stale) old new part h = h
-spent_any s a (Rows taken aside stale) old new part h = h
-spent_any s a (Altered kept stale) old new part h = h

@@ -13,6 +13,7 @@ use Rattle.doc_model.specs.DocumentLaws.{IsWhole}
 use Rattle.doc_model.specs.Valid.{valid}
 use Rattle.dep_graph.specs.declared.numbers.CellNumber.{CellNumber}
 use Rattle.dep_graph.specs.Graph.{Graph}
+use Rattle.dep_graph.specs.Named.{Were}
 use Rattle.recalc.specs.declared.kept.KeptTable.{KeptTable}
 use Rattle.recalc.specs.Current.{has_formula, has_formulas}
 use Rattle.recalc.specs.Evaluated.{filled, formula_at}
@@ -27,10 +28,9 @@ use Rattle.affected_values.specs.SamePlaces.{HasSamePlaces}
 use Rattle.affected_values.specs.Taken.{IsRightBut, LeadsBack, taken_of}
 use Rattle.affected_values.specs.WaysBack.{LeadsOver, LeadsOverLaw, WayBackLaw}
 use Rattle.affected_values.proofs.SamePlaces.{left_right, same_places}
-use Rattle.known_reads.specs.declared.some_cells.SomeCells.{SomeCells}
-use Rattle.known_reads.specs.Beside.{Beside, KnowsOthers, ReadsSameBut, is_stale}
+use Rattle.known_reads.specs.Beside.{Beside, KnowsExact, ReadsSameBut}
 use Rattle.known_reads.specs.Recorded.{KnowsBut}
-use Rattle.known_reads.specs.Watched.{AreRenewed}
+use Rattle.known_reads.specs.Watched.{AreBefore}
 use Rattle.known_reads.proofs.BesideLemmas.{read_same, reads_same}
 use Rattle.evaluated_doc.specs.Update.{HasFound, LeadsFrom, is_update}
 
@@ -95,22 +95,22 @@ module _ (s next : Document) (a : DocAction) (ok : valid s a ≡ true) (update :
   formula_stays : (c : CellId) → formula_at next c ≡ formula_at s c
   formula_stays c = ap (λ d. formula_at d c) next_so ∙ ap (λ b. formula_at (cond b (after t rows ks s) s) c) valid_so ∙ same_formula t rows ks s c
 
-  pub leads : LeadsOverLaw → (known : Beside) (noted : List CellId) (stale : SomeCells) (taken : List HeldValue) (new old : List KeptTable) → AreRenewed next known noted stale → KnowsOthers s known → ((c : CellId) → is_stale known c ≡ false)
-      → IsEvaluated s old → IsEvaluated next new → LeadsBack next taken new old → LeadsFrom s next taken stale
-  leads law known noted stale taken new old renewed others none before now back = record {
+  pub leads : LeadsOverLaw → (known : Beside) (cells : List CellId) (log : List Were) (taken : List HeldValue) (new old : List KeptTable) → AreBefore next known cells log → KnowsExact s known
+      → IsEvaluated s old → IsEvaluated next new → LeadsBack next taken new old → LeadsFrom s next taken log
+  leads law known cells log taken new old leads_back exact before now back = record {
     table = t;
     rows = rows;
     columns = ks;
     after = next_so;
     leads = subst (λ d. LeadsOver s d taken) (sym next_so) (law s t rows ks taken new old valid_so before (subst (λ d. IsEvaluated d new) next_so now) (subst (λ d. LeadsBack d taken new old) next_so back));
-    reads = renewed s others none (λ c other. ap is_some (formula_stays c));
+    reads = leads_back s exact.each (λ c other. ap is_some (formula_stays c));
   }
 
   -- the graph is right of each cell but the found ones after the update
-  pub known_but : (known : Beside) (cells : List CellId) → HasFound s known.graph a cells → KnowsOthers s known → KnowsBut next known cells
-  known_but known cells found others c fresh other =
+  pub known_but : (known : Beside) (cells : List CellId) → HasFound s known.graph a cells → KnowsExact s known → KnowsBut next known cells
+  known_but known cells found exact c fresh other =
       let same = same_reads known.graph cells found in
-      read_same s next known.graph c (same.there c) (λ there. same.same c (same.there c ∙ there) other) (others c fresh)
+      read_same s next known.graph c (same.there c) (λ there. same.same c (same.there c ∙ there) other) (exact.each c)
 
   there : (c : CellId) → is_some (formula_at s c) ≡ true → is_some (formula_at next c) ≡ true
   there c h = ap is_some (formula_stays c) ∙ h
@@ -124,7 +124,7 @@ module _ (s next : Document) (a : DocAction) (ok : valid s a ≡ true) (update :
 
 -- ---- the way back
 
-module _ (s now : Document) (taken : List HeldValue) (stale : SomeCells) (ks : List KeptTable) (led : LeadsFrom s now taken stale) where
+module _ (s now : Document) (taken : List HeldValue) (log : List Were) (ks : List KeptTable) (led : LeadsFrom s now taken log) where
   pub kept_before : IsEvaluated now ks → IsKeptOf s ks
   kept_before known = (same_places s led.table led.rows led.columns ks).back (subst (λ d. IsKeptOf d ks) led.after known.of_document)
 
@@ -138,8 +138,8 @@ has_same : (id ids : List ℕ) (cs : List CellColumn) (s : Document) → has_for
 has_same id ids cs [] = refl
 has_same id ids cs (u ∷ s) = λ i. has_formula (same_columns id ids cs u i) || has_same id ids cs s i
 
-pub plain_before : (s now : Document) (taken : List HeldValue) (stale : SomeCells) → LeadsFrom s now taken stale → has_formulas now ≡ false → has_formulas s ≡ false
-plain_before s now taken stale led plain =
+pub plain_before : (s now : Document) (taken : List HeldValue) (log : List Were) → LeadsFrom s now taken log → has_formulas now ≡ false → has_formulas s ≡ false
+plain_before s now taken log led plain =
     elim (valid s (BulkUpdate led.table led.rows led.columns)) as (λ b. has_formulas (cond b (after led.table led.rows led.columns s) s) ≡ false → has_formulas s ≡ false) [
       | true ↦ λ h. sym (has_same led.table led.rows led.columns s) ∙ h
       | false ↦ λ h. h

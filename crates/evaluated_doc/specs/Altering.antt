@@ -1,5 +1,5 @@
 -- An action on no records in a document of which values are kept.
-use Rattle.std.specs.Prelude.{false, List, ◌≡◌}
+use Rattle.std.specs.Prelude.{List}
 use Rattle.cell_types.specs.declared.cell.CellId.{CellId}
 use Rattle.doc_model.specs.declared.action.DocAction.{DocAction}
 use Rattle.doc_model.specs.Document.{Document}
@@ -7,8 +7,7 @@ use Rattle.dep_graph.specs.Graph.{Graph}
 use Rattle.recalc.specs.declared.kept.KeptTable.{KeptTable}
 use Rattle.recalc.specs.Kept.{IsEvaluated}
 use Rattle.affected_values.specs.Altered.{HasAltered, IsAlteredFrom}
-use Rattle.known_reads.specs.Beside.{Beside, KnowsReads}
-use Rattle.evaluated_doc.specs.declared.altering.Altered.{Altered}
+use Rattle.known_reads.specs.Beside.{Beside, KnowsExact}
 use Rattle.evaluated_doc.specs.Spent.{AreAffected}
 use Rattle.evaluated_doc.specs.Update.{HasFound}
 
@@ -19,19 +18,17 @@ pub record HasFoundAltered (s : Document) (graph : Graph) (a : DocAction) (cells
   pub found : HasFound s graph a cells
   pub altered : HasAltered s a cells
 
--- so it is of the cells, with no others but those that the action may affect; and the formula cells
--- that it alters alone
-pub record IsAltered (s : Document) (graph : Graph) (a : DocAction) (x : Altered) : Type 0 where
-  pub cells : HasFoundAltered s graph a x.cells.items
-  pub only : AreAffected s a x.cells.items
-  pub altered : HasAltered s a x.altered.items
+-- so it is of the cells, with no others but those that the action may affect
+pub record IsAltered (s : Document) (graph : Graph) (a : DocAction) (found : List CellId) :
+    Type 0 where
+  pub cells : HasFoundAltered s graph a found
+  pub only : AreAffected s a found
 
 -- the second document is the first one after the action; of the first these values are kept beside
 -- a graph that is right of each cell, and of it this was found
 pub record IsAltering (s now : Document) (a : DocAction) (kept : List KeptTable) (known : Beside)
-    (x : Altered) : Type 0 where
+    (cells : List CellId) : Type 0 where
   pub altered : IsAlteredFrom s now a
-  pub found : IsAltered s known.graph a x
+  pub found : IsAltered s known.graph a cells
   pub right : IsEvaluated s kept
-  pub reads : KnowsReads s known
-  pub recorded : known.are_all_stale ≡ false
+  pub reads : KnowsExact s known

@@ -9,6 +9,7 @@ use Rattle.doc_model.specs.Document.{Document}
 use Rattle.doc_model.specs.Valid.{valid}
 use Rattle.dep_graph.specs.declared.numbers.CellNumber.{CellNumber}
 use Rattle.dep_graph.specs.Graph.{Graph}
+use Rattle.dep_graph.specs.Named.{Were}
 use Rattle.recalc.specs.declared.kept.KeptTable.{KeptTable}
 use Rattle.recalc.specs.Kept.{IsEvaluated}
 use Rattle.recalc.specs.Stack.{on}
@@ -16,8 +17,7 @@ use Rattle.affected_search.specs.Actions.{KeepsOthers}
 use Rattle.affected_search.specs.Sheets.{is_found}
 use Rattle.affected_values.specs.declared.taking.HeldValue.{HeldValue}
 use Rattle.affected_values.specs.WaysBack.{LeadsOver}
-use Rattle.known_reads.specs.declared.some_cells.SomeCells.{SomeCells}
-use Rattle.known_reads.specs.Beside.{Beside, KnowsReads, SameSourcesBut}
+use Rattle.known_reads.specs.Beside.{Beside, KnowsExact, LeadsReads}
 use Rattle.evaluated_doc.specs.declared.updating.Affected.{Affected}
 use Rattle.evaluated_doc.specs.Spent.{AreAffected}
 
@@ -49,16 +49,15 @@ pub record IsUpdating (s now : Document) (a : DocAction) (kept : List KeptTable)
   pub found : HasFound s known.graph a cells
   pub only : AreAffected s a cells
   pub right : IsEvaluated s kept
-  pub reads : KnowsReads s known
-  pub recorded : known.are_all_stale ≡ false
+  pub reads : KnowsExact s known
 
--- an update led from the first document to the second; what was taken leads back over it, and each
--- cell but the stale ones reads the same in both
-pub record LeadsFrom (s now : Document) (taken : List HeldValue) (stale : SomeCells) :
+-- an update led from the first document to the second; what was taken leads back over it, and so
+-- does what was noted of what cells read
+pub record LeadsFrom (s now : Document) (taken : List HeldValue) (log : List Were) :
     Type 0 where
   pub table : List ℕ
   pub rows : List ℕ
   pub columns : List CellColumn
   pub after : now ≡ apply s (BulkUpdate table rows columns)
   pub leads : LeadsOver s now taken
-  pub reads : SameSourcesBut now s stale
+  pub reads : LeadsReads now s log

@@ -6,7 +6,7 @@ use Rattle.doc_model.specs.Document.{Document}
 use Rattle.doc_model.specs.DocumentLaws.{IsWhole}
 use Rattle.recalc.specs.Current.{IsCurrent}
 use Rattle.recalc.specs.Kept.{IsEvaluated}
-use Rattle.known_reads.specs.Beside.{SameSourcesBut}
+use Rattle.known_reads.specs.Beside.{KnowsReads, LeadsReads}
 use Rattle.evaluated_doc.specs.declared.indexing.GoneRows.{GoneRows}
 use Rattle.evaluated_doc.specs.declared.trace.Before.{Before}
 use Rattle.evaluated_doc.specs.declared.trace.Before.TheVariants.{Altered, Rows, Update, Whole}
@@ -22,18 +22,18 @@ pub record Changed (Back : Type 0) : Type 0 where
   pub before : Before
   pub gone : Option GoneRows
 
--- all values before are right of the document before; or what was taken leads to its values, with
--- what was laid aside of rows that came or went, and each cell but the stale ones reads in it what
--- it reads now
+-- of the document before: all values, and what cells read; or what was taken leads to its values,
+-- with what was laid aside of rows that came or went, and what was noted to what cells read there
 abbrev pub HasBefore : Document → Document → Before → Type 0
-HasBefore s now (Whole kept) = IsCurrent s (option_map (λ v. v.items) kept)
-HasBefore s now (Update taken stale) = LeadsFrom s now taken.items stale
-HasBefore s now (Rows taken aside stale) = LeadsFromRows s now taken.items aside stale
-HasBefore s now (Altered kept stale) = IsEvaluated s kept.items × SameSourcesBut now s stale
+HasBefore s now (Whole kept reads) =
+    IsCurrent s (option_map (λ v. v.items) kept) × KnowsReads s reads
+HasBefore s now (Update taken log) = LeadsFrom s now taken.items log.were.items
+HasBefore s now (Rows taken aside log) = LeadsFromRows s now taken.items aside log.were.items
+HasBefore s now (Altered kept log) = IsEvaluated s kept.items × LeadsReads now s log.were.items
 
 -- whether all values before are kept, since all cells were evaluated
 abbrev pub is_whole : Before → Bool
-is_whole (Whole kept) = true
+is_whole (Whole kept reads) = true
 is_whole _ = false
 
 module _ {Back : Type 0} (fits : Back → Document → Type 0)

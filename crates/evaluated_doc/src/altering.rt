@@ -12,9 +12,9 @@ ghost use Rattle.recalc.specs.Stack.{on};
 ghost use Rattle.affected_cells.specs.Bound.{bound};
 ghost use Rattle.affected_search.specs.Sheets.{is_found};
 ghost use Rattle.affected_values.specs.Altered.{HasAltered, is_altered};
-ghost use Rattle.known_reads.specs.Beside.{KnowsReads};
+ghost use Rattle.known_reads.specs.Beside.{KnowsExact, KnowsReads};
 ghost use Rattle.evaluated_doc.specs.Altering.{IsAltered, IsAltering};
-ghost use Rattle.evaluated_doc.specs.WayBack.{HasBefore, is_whole};
+ghost use Rattle.evaluated_doc.specs.WayBack.{HasBefore};
 
 use crate::trace::Before;
 use affected_search::{AffectedCells, affected_by_action};
@@ -23,19 +23,11 @@ use cell_types::CellId;
 use dep_graph::DepGraph;
 use doc_model::{DocAction, DocTables};
 use formula_eval::Steps;
-use known_reads::{KnownReads, ReadsFault, Refreshed, refresh_recording};
+use known_reads::{KnownReads, Refreshed, refresh_recording};
 use recalc::{ColumnIndex, KeptTable};
 use std::alloc::{AllocError, Global};
 use std::mem;
 use std::sync::ledger::Ledger;
-
-/// What is found before an action on no records: the cells that it affects and those that it
-/// alters, by name, to be evaluated anew; and those that it alters alone.
-#[derive(Drop)]
-pub(crate) struct Altered {
-    pub(crate) cells: Vec<CellId>,
-    pub(crate) altered: Vec<CellId>,
-}
 
 // The found cells by name, and those that the action alters.
 fn named_with<D: DocTables>(
@@ -57,51 +49,32 @@ fn named_with<D: DocTables>(
     Ok(cells)
 }
 
-// The cells that an action alters.
-fn altered_cells<D: DocTables>(
-    alloc: Global,
-    tables: &D,
-    action: &DocAction,
-) -> Result<Vec<CellId>, AllocError>
-    ensures { IfOk result (λ v. HasAltered (D.document tables.now) action.now v.items) }
-{
-    let mut cells = Vec::new(alloc);
-    push_altered_cells(tables, action, &mut cells)?;
-    Ok(cells)
-}
-
 /// Finds by the graph what an action affects that is on no records, and what it alters.
 ///
-/// Errors: it is not known what cells read, or out of memory.
+/// Errors: out of memory.
 /// Memory and cost: a look at each read that is recorded, and what is found.
 pub(crate) fn find_altered<D: DocTables>(
     alloc: Global,
     tables: &D,
     reads: &KnownReads,
     action: &DocAction,
-) -> Result<Altered, ReadsFault>
+) -> Result<Vec<CellId>, AllocError>
     requires whole { IsWhole (D.document tables.now) }
-    requires known { KnowsReads (D.document tables.now) reads.now }
+    requires known { KnowsExact (D.document tables.now) reads.now }
     requires schema { is_record action.now ≡ false }
-    ensures each { OnOk result (reads.now.are_all_stale ≡ false) }
     ensures found { IfOk result
-        (λ x. IsAltered (D.document tables.now) reads.now.graph action.now x) }
+        (λ cells. IsAltered (D.document tables.now) reads.now.graph action.now cells.items) }
 {
     altered_law();
-    if !reads.is_known() {
-        return Err(ReadsFault::NotRecorded);
-    }
     let found = affected_by_action(alloc, reads.graph(), tables, action)?;
-    let cells = named_with(alloc, tables, reads.graph(), &found, action)?;
-    let altered = altered_cells(alloc, tables, action)?;
-    Ok(Altered { cells, altered })
+    named_with(alloc, tables, reads.graph(), &found, action)
 }
 
 /// Carries the values over an action on no records, and evaluates the found cells and those that it
 /// alters. What was kept before is handed out.
 ///
-/// Errors: out of memory; the values are then those before, it may not be known what cells read,
-/// and the indexes are as they were.
+/// Errors: out of memory; the values are then those before, what cells read is laid aside, and the
+/// indexes are as they were.
 /// Memory and cost: a copy of the values, the formulas anew, and those of the cells that are
 /// evaluated.
 pub(crate) fn refresh_altered<D: DocTables, L: Ledger>(
@@ -110,46 +83,39 @@ pub(crate) fn refresh_altered<D: DocTables, L: Ledger>(
     kept: &mut Vec<KeptTable>,
     indexes: &mut Vec<ColumnIndex>,
     reads: &mut KnownReads,
-    altered: Altered,
+    cells: Vec<CellId>,
     action: &DocAction,
     steps: &mut Steps<L>,
 ) -> Result<Before, AllocError>
     requires whole { IsWhole (D.document tables.now) }
     requires altering { (s : Document) × IsAltering s (D.document tables.now) action.now
-        kept.old.items reads.old altered }
+        kept.old.items reads.old cells.items }
     ensures ok { OnOk result (IsEvaluated (D.document tables.now) kept.new.items) }
     ensures reads { OnOk result (KnowsReads (D.document tables.now) reads.new) }
     ensures indexed { OnOk result
         (AreIndexes (sheet_of (D.document tables.now)) indexes.new.items) }
     ensures left { OnErr result (indexes.new ≡ indexes.old) }
     ensures way { IfOk result (λ before. (s : Document)
-        → IsAltering s (D.document tables.now) action.now kept.old.items reads.old altered
+        → IsAltering s (D.document tables.now) action.now kept.old.items reads.old cells.items
         → HasBefore s (D.document tables.now) before) }
-    ensures part { IfOk result (λ before. is_whole before ≡ false) }
     ensures err { OnErr result ((s : Document)
-        → IsAltering s (D.document tables.now) action.now kept.old.items reads.old altered
+        → IsAltering s (D.document tables.now) action.now kept.old.items reads.old cells.items
         → IsEvaluated s kept.new.items × KnowsReads s reads.new) }
     ensures spent { (s : Document)
-        → IsAltering s (D.document tables.now) action.now kept.old.items reads.old altered
+        → IsAltering s (D.document tables.now) action.now kept.old.items reads.old cells.items
         → steps.new ≤ steps.old + bound s action.now }
 {
     altered_law();
-    let Altered { cells, altered } = altered;
     let mut cells = cells;
-    let mut altered = altered;
     push_altered_cells(tables, action, &mut cells)?;
-    push_altered_cells(tables, action, &mut altered)?;
     let mut carried = carry_values(alloc, tables, kept, action)?;
     let mut made = Vec::new(alloc);
     let known = &mut made;
     let values = &mut carried;
-    let done = refresh_recording(alloc, tables, values, known, reads, cells, altered, steps)?;
-    let Refreshed { taken, renewed } = done;
+    let done = refresh_recording(alloc, tables, values, known, reads, cells, steps)?;
+    let Refreshed { taken, before: log } = done;
     drop(taken);
     *indexes = made;
     let before = mem::replace(kept, carried);
-    Ok(Before::Altered {
-        kept: before,
-        stale: renewed,
-    })
+    Ok(Before::Altered { kept: before, log })
 }

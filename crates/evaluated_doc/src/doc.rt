@@ -1,20 +1,20 @@
 //! A document with its formula cells evaluated.
 
-ghost use Rattle.std.specs.Prelude.{true, ◌≡◌, ◌<◌, ◌↔◌, false, Err, None, Some, IfOk, OnOk, OnErr, MatchOption, map};
+ghost use Rattle.std.specs.Prelude.{true, ◌≡◌, ◌+◌, ◌≤◌, ◌↔◌, false, Err, None, Some, IfOk, OnOk, OnErr, MatchOption, map};
 ghost use Rattle.std.specs.Option.{option_copied, option_map};
 ghost use Rattle.doc_model.specs.Apply.{apply};
 ghost use Rattle.doc_model.specs.DocumentLaws.{IsWhole};
 ghost use Rattle.doc_model.specs.Readers.{cell_at};
 ghost use Rattle.doc_model.specs.Valid.{valid};
 ghost use Rattle.formula_eval.specs.Asked.{told_of};
-ghost use Rattle.recalc.specs.Current.{IsCurrent};
+ghost use Rattle.recalc.specs.Current.{IsCurrent, has_formulas};
 ghost use Rattle.recalc.specs.Evaluated.{filled};
 ghost use Rattle.recalc.specs.Kept.{IsEvaluated};
 ghost use Rattle.recalc.specs.Lost.{lost};
 ghost use Rattle.recalc.specs.MayLose.{is_record};
 ghost use Rattle.recalc.specs.Seen.{value_told};
+ghost use Rattle.affected_cells.specs.Bound.{bound};
 ghost use Rattle.affected_values.specs.Carried.{moved_rows, moved_table};
-ghost use Rattle.evaluated_doc.specs.Spent.{HasSpent};
 ghost use Rattle.evaluated_doc.specs.Update.{is_update};
 ghost use Rattle.evaluated_doc.specs.WayBack.{IsWayBack};
 ghost use Rattle.evaluated_doc.specs.declared.doc.ChangeFault.TheVariants.{Invalid};
@@ -23,10 +23,10 @@ use crate::altering::{find_altered, refresh_altered};
 use crate::going_back::go_back_to;
 use crate::indexing::{enter_behind, gone_rows, leave_behind, take_indexes};
 use crate::moving::{find_moved, moved_by, refresh_moved};
-use crate::starting::{Start, start_alone, start_in_levels, start_of};
+use crate::starting::{Start, start_in_levels, start_of};
 use crate::touching::{Touched, refresh_cells, touched_cells};
 use crate::trace::{Before, Trace};
-use crate::updating::{find_affected, is_of_schema, is_update, refresh_updated};
+use crate::updating::{find_affected, is_update, refresh_updated};
 use affected_search::{narrow_cells, narrow_law};
 use affected_values::{enter_indexes, left_over_law};
 use cell_types::{CellValue, Name};
@@ -34,7 +34,7 @@ use doc_actions::is_valid;
 use doc_model::laws::kept_law;
 use doc_model::{ColDef, DocAction, DocReader, DocTables};
 use formula_eval::{Reading, Steps};
-use known_reads::{KnownReads, ReadsFault};
+use known_reads::KnownReads;
 use recalc::laws::{may_lose_law, stays_plain_law};
 use recalc::{
     ColumnIndex, KeptTable, brings_formula, cell_told, column_at, keep_lost, watched_cells,
@@ -145,14 +145,16 @@ impl<D: DocTables> Doc<D> {
         &self.tables
     }
 
-    // Does a valid action, and evaluates the whole document after it, in a count of attempts.
+    // Does a valid action on a document without formulas, and evaluates the whole document after
+    // it, in a count of attempts.
     fn put_whole<L: Ledger>(
         &mut self,
         alloc: Global,
         action: &DocAction,
         steps: &mut Steps<L>,
     ) -> Result<Trace<D>, AllocError>
-        requires { valid (D.document self.old) action.now ≡ true }
+        requires valid { valid (D.document self.old) action.now ≡ true }
+        requires plain { has_formulas (D.document self.old) ≡ false }
         ensures ok { OnOk result
             (D.document self.new ≡ apply (D.document self.old) action.now) }
         ensures cells { IfOk result (λ trace. trace.cells
@@ -163,36 +165,31 @@ impl<D: DocTables> Doc<D> {
             (λ trace. D.undone trace.back (D.document self.new) ≡ D.document self.old) }
         ensures err { OnErr result (D.document self.new ≡ D.document self.old) }
         ensures whole { IsWhole (D.document self.new) }
-        ensures spent { IfOk result (λ trace. HasSpent (D.document self.old) action.now trace.before
-            steps.old steps.new) }
+        ensures spent { steps.new ≤ steps.old + bound (D.document self.old) action.now }
     {
         kept_law();
         stays_plain_law();
         may_lose_law();
-        let is_plain = self.kept.is_none();
-        let stays_plain = is_plain && !brings_formula(action);
-        // Reads that were too many may be fewer where formulas changed.
-        let is_wide = self.reads.is_wide() && !is_of_schema(action);
-        let mut cells = watched_cells(alloc, self, action, is_plain)?;
+        let stays_plain = !brings_formula(action);
+        let mut cells = watched_cells(alloc, self, action, true)?;
         let back = self.tables.put(action)?;
-        let Ok(start) = start_of(alloc, &self.tables, stays_plain, is_wide, steps) else {
+        let Ok(start) = start_of(alloc, &self.tables, stays_plain, steps) else {
             self.tables.take_back(back);
             return Err(AllocError);
         };
         let kept = mem::replace(&mut self.kept, start.kept);
-        self.reads = start.reads;
+        let reads = mem::replace(&mut self.reads, start.reads);
         self.indexes = start.indexes;
         keep_lost(self, action, &mut cells);
         Ok(Trace {
             cells,
             back,
-            before: Before::Whole(kept),
+            before: Before::Whole { kept, reads },
             gone: None,
         })
     }
 
-    // Does a valid update where values are kept, and evaluates what it affects, in a count of
-    // attempts of its own; the whole document, where too much is read for this to be found.
+    // Does a valid update, and evaluates what it affects, in a count of attempts.
     fn put_update<L: Ledger>(
         &mut self,
         alloc: Global,
@@ -211,8 +208,7 @@ impl<D: DocTables> Doc<D> {
             (λ trace. D.undone trace.back (D.document self.new) ≡ D.document self.old) }
         ensures err { OnErr result (D.document self.new ≡ D.document self.old) }
         ensures whole { IsWhole (D.document self.new) }
-        ensures spent { IfOk result (λ trace. HasSpent (D.document self.old) action.now trace.before
-            steps.old steps.new) }
+        ensures spent { steps.new ≤ steps.old + bound (D.document self.old) action.now }
     {
         kept_law();
         narrow_law();
@@ -220,14 +216,10 @@ impl<D: DocTables> Doc<D> {
         if self.kept.is_none() {
             return self.put_whole(alloc, action, steps);
         }
+        self.reads.put_owed()?;
         let mut indexes = take_indexes(alloc, &mut self.indexes);
         let known = &mut indexes;
-        let found = find_affected(alloc, &mut self.tables, &self.reads, known, action);
-        let affected = match found {
-            Ok(affected) => affected,
-            Err(ReadsFault::NotRecorded) => return self.put_whole(alloc, action, steps),
-            Err(ReadsFault::NoMemory) => return Err(AllocError),
-        };
+        let affected = find_affected(alloc, &mut self.tables, &self.reads, known, action)?;
         let mut cells = narrow_cells(alloc, self, self.reads.graph(), &affected.found, action)?;
         let undo = self.tables.put(action)?;
         let mut indexes = enter_indexes(alloc, &self.tables, indexes, action);
@@ -276,8 +268,7 @@ impl<D: DocTables> Doc<D> {
             (λ trace. D.undone trace.back (D.document self.new) ≡ D.document self.old) }
         ensures err { OnErr result (D.document self.new ≡ D.document self.old) }
         ensures whole { IsWhole (D.document self.new) }
-        ensures spent { IfOk result (λ trace. HasSpent (D.document self.old) action.now trace.before
-            steps.old steps.new) }
+        ensures spent { steps.new ≤ steps.old + bound (D.document self.old) action.now }
     {
         kept_law();
         narrow_law();
@@ -285,15 +276,11 @@ impl<D: DocTables> Doc<D> {
         if self.kept.is_none() {
             return self.put_whole(alloc, action, steps);
         }
+        self.reads.put_owed()?;
         let mut indexes = take_indexes(alloc, &mut self.indexes);
         let tables = &mut self.tables;
         let known = &mut indexes;
-        let found = find_moved(alloc, tables, &self.reads, known, action, table, rows);
-        let moved = match found {
-            Ok(moved) => moved,
-            Err(ReadsFault::NotRecorded) => return self.put_whole(alloc, action, steps),
-            Err(ReadsFault::NoMemory) => return Err(AllocError),
-        };
+        let moved = find_moved(alloc, tables, &self.reads, known, action, table)?;
         let mut cells = narrow_cells(alloc, self, self.reads.graph(), &moved.found, action)?;
         let undo = self.tables.put(action)?;
         let mut indexes = enter_indexes(alloc, &self.tables, indexes, action);
@@ -318,9 +305,8 @@ impl<D: DocTables> Doc<D> {
         })
     }
 
-    // Does a valid action on no records where values are kept, and evaluates what it affects and
-    // alters, in a count of attempts of its own; the whole document, where too much is read for
-    // this to be found.
+    // Does a valid action on no records, and evaluates what it affects and alters, in a count of
+    // attempts.
     fn put_altered<L: Ledger>(
         &mut self,
         alloc: Global,
@@ -339,20 +325,15 @@ impl<D: DocTables> Doc<D> {
             (λ trace. D.undone trace.back (D.document self.new) ≡ D.document self.old) }
         ensures err { OnErr result (D.document self.new ≡ D.document self.old) }
         ensures whole { IsWhole (D.document self.new) }
-        ensures spent { IfOk result (λ trace. HasSpent (D.document self.old) action.now trace.before
-            steps.old steps.new) }
+        ensures spent { steps.new ≤ steps.old + bound (D.document self.old) action.now }
     {
         kept_law();
         may_lose_law();
         if self.kept.is_none() {
             return self.put_whole(alloc, action, steps);
         }
-        let found = find_altered(alloc, &self.tables, &self.reads, action);
-        let altered = match found {
-            Ok(altered) => altered,
-            Err(ReadsFault::NotRecorded) => return self.put_whole(alloc, action, steps),
-            Err(ReadsFault::NoMemory) => return Err(AllocError),
-        };
+        self.reads.put_owed()?;
+        let altered = find_altered(alloc, &self.tables, &self.reads, action)?;
         let mut cells = watched_cells(alloc, self, action, false)?;
         let undo = self.tables.put(action)?;
         let Some(kept) = &mut self.kept else {
@@ -375,24 +356,23 @@ impl<D: DocTables> Doc<D> {
         })
     }
 
-    /// Does an action that is valid, and evaluates the document after it. It counts its attempts at
-    /// formula cells: they are at most as many as it takes to evaluate what the action may affect,
-    /// or all cells, where it evaluates a whole document that had formulas (`Trace::is_whole`), for
-    /// it is not known what these read.
+    /// Does an action that is valid, and evaluates what it may affect. It counts its attempts at
+    /// formula cells: whatever it answers, they are at most as many as it takes to evaluate that.
     ///
-    /// Errors: out of memory; the document is then as it was.
+    /// Errors: out of memory; the document is then as it was, and so are the values and what is
+    /// known of what cells read.
     /// Memory: the store's, and a copy of the cells that may be lost: those of formula columns, and
     /// of data columns those that a record action writes or removes, or all of the table of a
     /// schema action. Where a column has a formula, a change takes that of what it affects and
-    /// writes, what the graph of reads takes of that, and an index of each data column by which
-    /// these look rows up, where it has none; rows that come or go take a place for each formula
-    /// cell of their table, a schema action a copy of all values. A schema action gives the indexes
-    /// up.
+    /// writes, what the graph of reads takes of that, what cells read that read something else, and
+    /// an index of each data column by which these look rows up, where it has none; rows that come
+    /// or go take a place for each formula cell of their table, a schema action a copy of all
+    /// values. A schema action gives the indexes up. What ways back laid aside is put in first.
     /// Cost: where no column has a formula, a record action looks at its own table and rows alone.
-    /// Else an update looks at each column, and at the rows that it affects and writes, unless
-    /// formulas read more than is recorded; rows that come or go look also at each row of their
-    /// table, a schema action at each formula cell and each read that is recorded.
-    pub fn put_counted<L: Ledger>(
+    /// Else an update looks at each column, and at the rows that it affects and writes; rows that
+    /// come or go look also at each row of their table, a schema action at each formula cell and
+    /// each read that is recorded.
+    pub fn put<L: Ledger>(
         &mut self,
         alloc: Global,
         action: &DocAction,
@@ -409,8 +389,7 @@ impl<D: DocTables> Doc<D> {
             (λ trace. D.undone trace.back (D.document self.new) ≡ D.document self.old) }
         ensures err { OnErr result (D.document self.new ≡ D.document self.old) }
         ensures whole { IsWhole (D.document self.new) }
-        ensures spent { IfOk result (λ trace. HasSpent (D.document self.old) action.now trace.before
-            steps.old steps.new) }
+        ensures spent { steps.new ≤ steps.old + bound (D.document self.old) action.now }
     {
         if is_update(action) {
             return self.put_update(alloc, action, steps);
@@ -421,57 +400,17 @@ impl<D: DocTables> Doc<D> {
         }
     }
 
-    // The same, in a count of its own.
-    fn put_alone<L: Ledger>(
-        &mut self,
-        alloc: Global,
-        action: &DocAction,
-        blank: Blank,
-    ) -> Result<Trace<D>, AllocError>
-        requires name { blank.name ≡ L.name }
-        requires parts { blank.parts ≡ L.parts }
-        requires some { 0 < L.parts }
-        requires valid { valid (D.document self.old) action.now ≡ true }
-        ensures ok { OnOk result
-            (D.document self.new ≡ apply (D.document self.old) action.now) }
-        ensures cells { IfOk result (λ trace. trace.cells
-            ≡ lost (D.document self.old) (D.document self.new) action.now) }
-        ensures way { IfOk result
-            (λ trace. IsWayBack D.fits D.undone trace (D.document self.new)) }
-        ensures back { IfOk result
-            (λ trace. D.undone trace.back (D.document self.new) ≡ D.document self.old) }
-        ensures err { OnErr result (D.document self.new ≡ D.document self.old) }
-        ensures whole { IsWhole (D.document self.new) }
-    {
-        let mut steps = Steps::<L>::new(blank);
-        self.put_counted(alloc, action, &mut steps)
-    }
-
-    /// Does an action that is valid, and evaluates the document after it.
-    ///
-    /// Errors, memory and cost: as to `put_counted`.
-    pub fn put(&mut self, alloc: Global, action: &DocAction) -> Result<Trace<D>, AllocError>
-        requires { valid (D.document self.old) action.now ≡ true }
-        ensures ok { OnOk result
-            (D.document self.new ≡ apply (D.document self.old) action.now) }
-        ensures cells { IfOk result (λ trace. trace.cells
-            ≡ lost (D.document self.old) (D.document self.new) action.now) }
-        ensures way { IfOk result
-            (λ trace. IsWayBack D.fits D.undone trace (D.document self.new)) }
-        ensures back { IfOk result
-            (λ trace. D.undone trace.back (D.document self.new) ≡ D.document self.old) }
-        ensures err { OnErr result (D.document self.new ≡ D.document self.old) }
-        ensures whole { IsWhole (D.document self.new) }
-    {
-        self.put_alone::<Brand>(alloc, action, Blank::new(1))
-    }
-
-    /// Does a valid action, and evaluates the document after it.
+    /// Does a valid action, and evaluates what it may affect, in a count as `put` does.
     ///
     /// Errors: `Invalid`, exactly where the action is not valid, whatever memory there is; and out
     /// of memory. The document is then as it was.
     /// Memory and cost: as to put, and those of the test.
-    pub fn change(&mut self, alloc: Global, action: &DocAction) -> Result<Trace<D>, ChangeFault>
+    pub fn change<L: Ledger>(
+        &mut self,
+        alloc: Global,
+        action: &DocAction,
+        steps: &mut Steps<L>,
+    ) -> Result<Trace<D>, ChangeFault>
         ensures ok { OnOk result
             (D.document self.new ≡ apply (D.document self.old) action.now) }
         ensures cells { IfOk result (λ trace. trace.cells
@@ -484,43 +423,27 @@ impl<D: DocTables> Doc<D> {
             ↔ (valid (D.document self.old) action.now ≡ false) }
         ensures err { OnErr result (D.document self.new ≡ D.document self.old) }
         ensures whole { IsWhole (D.document self.new) }
+        ensures spent { steps.new ≤ steps.old + bound (D.document self.old) action.now }
     {
         if !is_valid(alloc, &self.tables, action) {
             return Err(ChangeFault::Invalid);
         }
-        match self.put(alloc, action) {
+        match self.put(alloc, action, steps) {
             Ok(trace) => Ok(trace),
             Err(_) => Err(ChangeFault::NoMemory),
         }
     }
 
-    // Evaluates all cells again, in one thread.
-    fn evaluate_anew(&mut self, alloc: Global) -> Result<(), AllocError>
-        ensures { D.document self.new ≡ D.document self.old }
-    {
-        let Start {
-            kept,
-            reads,
-            indexes,
-        } = start_alone::<D, Brand>(alloc, &self.tables, Blank::new(1))?;
-        self.kept = kept;
-        self.reads = reads;
-        self.indexes = indexes;
-        Ok(())
-    }
-
     /// Evaluates anew the cells that reads and cells which may have changed affect: the touched
-    /// cells, those that read one of these, or a touched read, and so on; all cells, where it is
-    /// not known what they read. They are as they were: no call leaves other values behind.
+    /// cells, those that read one of these, or a touched read, and so on. They are as they were: no
+    /// call leaves other values behind.
     ///
     /// Errors: out of memory.
     /// Memory and cost: those of the cells that are evaluated.
     pub fn refresh(&mut self, alloc: Global, touched: &Touched) -> Result<(), AllocError>
         ensures { D.document self.new ≡ D.document self.old }
     {
-        if !self.reads.is_known() {
-            return self.evaluate_anew(alloc);
-        }
+        self.reads.put_owed()?;
         let cells = touched_cells(alloc, self.reads.graph(), touched)?;
         let Some(kept) = &mut self.kept else {
             return Ok(());
@@ -532,13 +455,12 @@ impl<D: DocTables> Doc<D> {
         refresh_cells::<D, Brand>(alloc, tables, kept, known, reads, cells, blank)
     }
 
-    /// Goes back to the document before the change that left the present one. What cells read that
-    /// read something else after the change is recorded again.
+    /// Goes back to the document before the change that left the present one. No cell is attempted:
+    /// what cells read that read something else after the change is laid aside, and recorded again
+    /// by the next change.
     ///
-    /// Memory: none that is needed: an index is given up where it takes memory to keep it up, and
-    /// so is what is known of reads.
-    /// Cost: after an action on records, that of the cells which it evaluated and of its rows, and
-    /// an attempt at each cell that reads something else.
+    /// Memory: none that is needed: an index is given up where it takes memory to keep it up.
+    /// Cost: after an action on records, that of the cells which it evaluated and of its rows.
     pub fn go_back(&mut self, trace: Trace<D>)
         requires { IsWayBack D.fits D.undone trace (D.document self.old) }
         ensures { D.document self.new ≡ D.undone trace.back (D.document self.old) }
@@ -560,11 +482,6 @@ impl<D: DocTables> Doc<D> {
             before,
         );
         self.indexes = enter_behind(alloc, &self.tables, left, &gone);
-        let Some(kept) = &self.kept else {
-            return self.reads.note_all();
-        };
-        let known = &mut self.indexes;
-        self.reads.record_noted(alloc, &self.tables, kept, known);
     }
 }
 

@@ -1,12 +1,12 @@
 //! A change taken back, with what is kept beside the tables.
 
-ghost use Rattle.std.specs.Prelude.{◌≡◌};
+ghost use Rattle.std.specs.Prelude.{◌≡◌, List};
 ghost use Rattle.std.specs.Option.{option_map};
+ghost use Rattle.dep_graph.specs.Named.{Were};
 ghost use Rattle.doc_model.specs.Document.{Document};
 ghost use Rattle.doc_model.specs.DocumentLaws.{IsWhole};
 ghost use Rattle.recalc.specs.Current.{IsCurrent};
-ghost use Rattle.known_reads.specs.declared.some_cells.SomeCells.{SomeCells};
-ghost use Rattle.known_reads.specs.Beside.{KnowsOthers};
+ghost use Rattle.known_reads.specs.Beside.{KnowsReads};
 ghost use Rattle.evaluated_doc.specs.Update.{LeadsFrom};
 ghost use Rattle.evaluated_doc.specs.WayBack.{HasBefore};
 
@@ -14,15 +14,15 @@ use crate::moving::go_back_over;
 use crate::trace::Before;
 use affected_values::{HeldValue, put_values_back, way_back_law};
 use doc_model::DocTables;
-use known_reads::{KnownReads, noted_law};
+use known_reads::{KnownReads, laid_law};
 use recalc::KeptTable;
 
 // Puts back the values of cells that a change evaluated anew.
 fn put_back<D: DocTables>(tables: &D, kept: &mut Option<Vec<KeptTable>>, taken: Vec<HeldValue>)
     requires whole { IsWhole (D.document tables.now) }
-    requires before { (now : Document) × (stale : SomeCells)
+    requires before { (now : Document) × (log : List Were)
         × IsCurrent now (option_map (λ v. v.items) kept.old)
-        × LeadsFrom (D.document tables.now) now taken.items stale }
+        × LeadsFrom (D.document tables.now) now taken.items log }
     ensures { IsCurrent (D.document tables.now) (option_map (λ v. v.items) kept.new) }
 {
     way_back_law();
@@ -32,7 +32,7 @@ fn put_back<D: DocTables>(tables: &D, kept: &mut Option<Vec<KeptTable>>, taken: 
 }
 
 /// Takes a change back on the tables, puts back the values that were kept beside them before it,
-/// and notes the cells of which the graph is not right there as stale.
+/// and lays aside what cells read then.
 ///
 /// Memory: none.
 pub(crate) fn go_back_to<D: DocTables>(
@@ -46,43 +46,37 @@ pub(crate) fn go_back_to<D: DocTables>(
     requires whole { IsWhole (D.document tables.old) }
     requires was { IsWhole (D.undone undo (D.document tables.old)) }
     requires current { IsCurrent (D.document tables.old) (option_map (λ v. v.items) kept.old) }
-    requires others { KnowsOthers (D.document tables.old) reads.old }
+    requires known { KnowsReads (D.document tables.old) reads.old }
     requires before { HasBefore (D.undone undo (D.document tables.old)) (D.document tables.old)
         before }
     ensures back { D.document tables.new ≡ D.undone undo (D.document tables.old) }
     ensures current { IsCurrent (D.document tables.new) (option_map (λ v. v.items) kept.new) }
-    ensures others { KnowsOthers (D.document tables.new) reads.new }
+    ensures known { KnowsReads (D.document tables.new) reads.new }
 {
-    noted_law();
+    laid_law();
     match before {
-        Before::Whole(all) => {
+        Before::Whole {
+            kept: all,
+            reads: were,
+        } => {
             tables.take_back(undo);
             *kept = all;
-            reads.note_all();
-            // The change may have been of the schema.
-            reads.try_again();
+            *reads = were;
         }
-        Before::Update { taken, stale } => {
+        Before::Update { taken, log } => {
             tables.take_back(undo);
             put_back(&*tables, kept, taken);
-            reads.note_some(stale);
+            reads.lay(log);
         }
-        Before::Rows {
-            taken,
-            aside,
-            stale: changed,
-        } => {
+        Before::Rows { taken, aside, log } => {
             go_back_over(&*tables, kept, taken, aside);
             tables.take_back(undo);
-            reads.note_some(changed);
+            reads.lay(log);
         }
-        Before::Altered {
-            kept: all,
-            stale: changed,
-        } => {
+        Before::Altered { kept: all, log } => {
             tables.take_back(undo);
             *kept = Some(all);
-            reads.note_some(changed);
+            reads.lay(log);
         }
     }
 }

@@ -1,23 +1,21 @@
 //! What rows that come or go affect.
 
-ghost use Rattle.std.specs.Prelude.{◌≡◌, ◌+◌, ◌≤◌, true, false, None, Some, IfOk, MatchOption, OnErr, OnOk};
+ghost use Rattle.std.specs.Prelude.{◌≡◌, ◌+◌, ◌≤◌, true, false, List, None, Some, IfOk, MatchOption, OnErr, OnOk};
 ghost use Rattle.std.specs.Option.{option_map};
-ghost use Rattle.cell_types.specs.declared.cell.CellId.{CellId};
+ghost use Rattle.dep_graph.specs.Named.{Were};
 ghost use Rattle.doc_model.specs.Document.{Document};
 ghost use Rattle.doc_model.specs.DocumentLaws.{IsWhole};
 ghost use Rattle.doc_model.specs.Valid.{valid};
-ghost use Rattle.doc_readers.specs.Parts.{grid_at};
 ghost use Rattle.recalc.specs.Current.{IsCurrent};
 ghost use Rattle.recalc.specs.Evaluated.{sheet_of};
 ghost use Rattle.recalc.specs.Indexes.{AreIndexes};
 ghost use Rattle.recalc.specs.Kept.{IsEvaluated};
 ghost use Rattle.affected_cells.specs.Bound.{bound};
-ghost use Rattle.affected_values.specs.Carried.{HasCellsWith, moved_rows, moved_table};
+ghost use Rattle.affected_values.specs.Carried.{moved_rows, moved_table};
 ghost use Rattle.affected_values.specs.Indexing.{AreLeft};
-ghost use Rattle.known_reads.specs.declared.some_cells.SomeCells.{SomeCells};
-ghost use Rattle.known_reads.specs.Beside.{KnowsReads};
+ghost use Rattle.known_reads.specs.Beside.{KnowsExact, KnowsReads};
 ghost use Rattle.evaluated_doc.specs.Moved.{IsMoved, IsMoving, LeadsFromRows};
-ghost use Rattle.evaluated_doc.specs.WayBack.{HasBefore, is_whole};
+ghost use Rattle.evaluated_doc.specs.WayBack.{HasBefore};
 
 use crate::finding::found_by_records;
 use crate::indexing::leave;
@@ -31,20 +29,17 @@ use cell_types::{CellId, Name};
 use doc_model::{DocAction, DocTables};
 use doc_readers::rows_in;
 use formula_eval::Steps;
-use known_reads::{
-    KnownReads, ReadsFault, Refreshed, reads_over_law, refresh_recording, rows_stay_law,
-};
+use known_reads::{KnownReads, Refreshed, reads_over_law, refresh_recording, rows_stay_law};
 use recalc::{ColumnIndex, KeptTable};
 use std::alloc::{AllocError, Global};
 use std::sync::ledger::Ledger;
 
 /// What is found before rows of a table come or go: the cells that this affects, also by name, to
-/// be evaluated anew; the formula cells of these rows; and the rows that the table has.
+/// be evaluated anew; and the rows that the table has.
 #[derive(Drop)]
 pub(crate) struct Moved {
     pub(crate) found: AffectedCells,
     pub(crate) noted: Vec<CellId>,
-    pub(crate) moved: Vec<CellId>,
     pub(crate) rows: Vec<u32>,
 }
 
@@ -63,27 +58,12 @@ pub(crate) fn moved_by(action: &DocAction) -> Option<(&Name, &[u32])>
     }
 }
 
-// The cells of the formula columns of a table in these rows.
-fn row_cells<D: DocTables>(
-    alloc: Global,
-    tables: &D,
-    table: &Name,
-    rows: &[u32],
-) -> Result<Vec<CellId>, AllocError>
-    ensures { IfOk result (λ v. HasCellsWith (grid_at (D.document tables.now) table.now).columns
-        table.now rows.now v.items) }
-{
-    let mut cells = Vec::new(alloc);
-    push_row_cells(tables, table, rows, &mut cells)?;
-    Ok(cells)
-}
-
 /// Finds by the graph what rows that come or go affect: of lookups those that find these rows.
 /// Leaves all indexes but for these rows. The document is as it was.
 ///
-/// Errors: it is not known what cells read, or out of memory; the indexes are then to be given up.
-/// Memory and cost: those of what is found; each column of the table in these rows; a copy of the
-/// rows of the table. The action is done once, and taken back.
+/// Errors: out of memory; the indexes are then to be given up.
+/// Memory and cost: those of what is found; a copy of the rows of the table. The action is done
+/// once, and taken back.
 pub(crate) fn find_moved<D: DocTables>(
     alloc: Global,
     tables: &mut D,
@@ -91,41 +71,29 @@ pub(crate) fn find_moved<D: DocTables>(
     indexes: &mut Vec<ColumnIndex>,
     action: &DocAction,
     table: &Name,
-    rows: &[u32],
-) -> Result<Moved, ReadsFault>
+) -> Result<Moved, AllocError>
     requires whole { IsWhole (D.document tables.old) }
     requires indexed { AreIndexes (sheet_of (D.document tables.old)) indexes.old.items }
-    requires known { KnowsReads (D.document tables.old) reads.now }
+    requires known { KnowsExact (D.document tables.old) reads.now }
     requires valid { valid (D.document tables.old) action.now ≡ true }
     requires moved { moved_table action.now ≡ Some table.now }
-    requires rows { moved_rows action.now ≡ rows.now }
     ensures same { D.document tables.new ≡ D.document tables.old }
-    ensures each { OnOk result (reads.now.are_all_stale ≡ false) }
     ensures found { IfOk result (λ x. IsMoved reads.now.graph action.now (D.document tables.old)
-        table.now rows.now x) }
+        table.now x) }
     ensures left { OnOk result (AreLeft (D.document tables.old) action.now indexes.new.items) }
 {
-    if !reads.is_known() {
-        return Err(ReadsFault::NotRecorded);
-    }
     leave(alloc, &*tables, indexes, action);
     let found = found_by_records(alloc, tables, reads.graph(), action)?;
     let noted = named_cells(alloc, reads.graph(), &found)?;
-    let moved = row_cells(alloc, &*tables, table, rows)?;
     let rows = Vec::from_slice(alloc, rows_in(&*tables, table))?;
-    Ok(Moved {
-        found,
-        noted,
-        moved,
-        rows,
-    })
+    Ok(Moved { found, noted, rows })
 }
 
 /// Lays the values of a table anew after rows of it came or went, and evaluates the found cells and
 /// the formula cells of these rows.
 ///
-/// Errors: out of memory; the values are then those before, it is not known what cells read, and
-/// the indexes are to be given up.
+/// Errors: out of memory; the values are then those before, what cells read is laid aside, and the
+/// indexes are to be given up.
 /// Memory and cost: a place for each formula cell of the table and a walk over its rows, and those
 /// of the cells that are evaluated.
 pub(crate) fn refresh_moved<D: DocTables, L: Ledger>(
@@ -150,7 +118,6 @@ pub(crate) fn refresh_moved<D: DocTables, L: Ledger>(
     ensures way { IfOk result (λ before. (s : Document)
         → IsMoving s (D.document tables.now) table.now rows.now kept.old.items reads.old moved
         → HasBefore s (D.document tables.now) before) }
-    ensures part { IfOk result (λ before. is_whole before ≡ false) }
     ensures err { OnErr result ((s : Document)
         → IsMoving s (D.document tables.now) table.now rows.now kept.old.items reads.old moved
         → IsEvaluated s kept.new.items × KnowsReads s reads.new) }
@@ -166,20 +133,19 @@ pub(crate) fn refresh_moved<D: DocTables, L: Ledger>(
     rows_stay_law();
     let Moved {
         noted,
-        moved,
         rows: were,
         ..
     } = moved;
     let mut cells = noted;
     push_row_cells(tables, table, rows, &mut cells)?;
     let aside = lay_anew(alloc, tables, kept, table, were)?;
-    match refresh_recording(alloc, tables, kept, indexes, reads, cells, moved, steps) {
+    match refresh_recording(alloc, tables, kept, indexes, reads, cells, steps) {
         Ok(done) => {
-            let Refreshed { taken, renewed } = done;
+            let Refreshed { taken, before } = done;
             Ok(Before::Rows {
                 taken,
                 aside,
-                stale: renewed,
+                log: before,
             })
         }
         Err(_) => {
@@ -200,11 +166,11 @@ pub(crate) fn go_back_over<D: DocTables>(
     aside: LaidAside,
 )
     requires whole { IsWhole (D.document tables.now) }
-    requires before { (s : Document) × (stale : SomeCells)
+    requires before { (s : Document) × (log : List Were)
         × IsCurrent (D.document tables.now) (option_map (λ v. v.items) kept.old)
-        × LeadsFromRows s (D.document tables.now) taken.items aside stale }
-    ensures { (s : Document) (stale : SomeCells)
-        → LeadsFromRows s (D.document tables.now) taken.items aside stale
+        × LeadsFromRows s (D.document tables.now) taken.items aside log }
+    ensures { (s : Document) (log : List Were)
+        → LeadsFromRows s (D.document tables.now) taken.items aside log
         → IsCurrent s (option_map (λ v. v.items) kept.new) }
 {
     rows_back_law();

@@ -1,9 +1,8 @@
 //! What is kept of a document, from an evaluation of all of it.
 
-ghost use Rattle.std.specs.Prelude.{◌≡◌, ◌+◌, ◌≤◌, ◌<◌, List, [], None, true, false, IfOk, OnOk};
+ghost use Rattle.std.specs.Prelude.{◌≡◌, ◌+◌, ◌≤◌, ◌<◌, List, [], None, true, false, IfOk};
 ghost use Rattle.std.specs.Option.{option_map};
 ghost use Rattle.cell_types.specs.declared.cell.CellId.{CellId};
-ghost use Rattle.doc_model.specs.Document.{Document};
 ghost use Rattle.doc_model.specs.DocumentLaws.{IsWhole};
 ghost use Rattle.recalc.specs.Current.{IsCurrent, has_formulas};
 ghost use Rattle.recalc.specs.Evaluated.{formula_cells, sheet_of};
@@ -30,9 +29,10 @@ pub(crate) struct Start {
 }
 
 // What is kept of a document without formulas.
-fn plain_start(alloc: Global) -> Start
+fn plain_start<D: DocTables>(alloc: Global, _tables: &D) -> Start
+    requires { has_formulas (D.document _tables.now) ≡ false }
     ensures none { result.kept ≡ None }
-    ensures reads { (s : Document) → KnowsReads s result.reads }
+    ensures reads { KnowsReads (D.document _tables.now) result.reads }
     ensures empty { result.indexes.items ≡ [] }
 {
     Start {
@@ -42,9 +42,8 @@ fn plain_start(alloc: Global) -> Start
     }
 }
 
-/// Evaluates a document, of which the caller may know that no column has a formula, or that its
-/// reads are too many to be recorded. Makes no more attempts than it takes at most for all formula
-/// cells.
+/// Evaluates a document, of which the caller may know that no column has a formula. Makes no more
+/// attempts than it takes at most for all formula cells, whatever comes of them.
 ///
 /// Errors: out of memory. Memory and cost: none without formula columns but for a look at each
 /// column, else as to `evaluate_recording`.
@@ -52,7 +51,6 @@ pub(crate) fn start_of<D: DocTables, L: Ledger>(
     alloc: Global,
     tables: &D,
     is_plain: bool,
-    is_wide: bool,
     steps: &mut Steps<L>,
 ) -> Result<Start, AllocError>
     requires whole { IsWhole (D.document tables.now) }
@@ -62,18 +60,18 @@ pub(crate) fn start_of<D: DocTables, L: Ledger>(
     ensures reads { IfOk result (λ x. KnowsReads (D.document tables.now) x.reads) }
     ensures indexed { IfOk result
         (λ x. AreIndexes (sheet_of (D.document tables.now)) x.indexes.items) }
-    ensures named { OnOk result ((all : List CellId)
+    ensures named { (all : List CellId)
         → HasFormulas (D.document tables.now) (formula_cells (D.document tables.now)) all
-        → steps.new ≤ steps.old + attempt_bound (sheet_of (D.document tables.now)) all) }
+        → steps.new ≤ steps.old + attempt_bound (sheet_of (D.document tables.now)) all }
 {
     if is_plain || !has_formulas(tables) {
-        return Ok(plain_start(alloc));
+        return Ok(plain_start(alloc, tables));
     }
     let Evaluated {
         kept,
         reads,
         indexes,
-    } = evaluate_recording(alloc, tables, is_wide, steps)?;
+    } = evaluate_recording(alloc, tables, steps)?;
     Ok(Start {
         kept: Some(kept),
         reads,
@@ -81,29 +79,7 @@ pub(crate) fn start_of<D: DocTables, L: Ledger>(
     })
 }
 
-/// Evaluates a document in one thread, in a count of its own.
-///
-/// Errors, memory and cost: as to `start_of`.
-pub(crate) fn start_alone<D: DocTables, L: Ledger>(
-    alloc: Global,
-    tables: &D,
-    blank: Blank,
-) -> Result<Start, AllocError>
-    requires name { blank.name ≡ L.name }
-    requires parts { blank.parts ≡ L.parts }
-    requires some { 0 < L.parts }
-    requires whole { IsWhole (D.document tables.now) }
-    ensures current { IfOk result
-        (λ x. IsCurrent (D.document tables.now) (option_map (λ v. v.items) x.kept)) }
-    ensures reads { IfOk result (λ x. KnowsReads (D.document tables.now) x.reads) }
-    ensures indexed { IfOk result
-        (λ x. AreIndexes (sheet_of (D.document tables.now)) x.indexes.items) }
-{
-    let mut steps = Steps::<L>::new(blank);
-    start_of(alloc, tables, false, false, &mut steps)
-}
-
-/// The same by levels, in as many threads as serve.
+/// Evaluates a document by levels, in as many threads as serve, in a count of its own.
 ///
 /// Errors: out of memory. Memory and cost: none without formula columns but for a look at each
 /// column, else as to `evaluate_in_levels`.
@@ -124,7 +100,7 @@ pub(crate) fn start_in_levels<T: Threads + Sync, D: DocTables<Back: Send> + Sync
         (λ x. AreIndexes (sheet_of (D.document tables.now)) x.indexes.items) }
 {
     if !has_formulas(tables) {
-        return Ok(plain_start(alloc));
+        return Ok(plain_start(alloc, tables));
     }
     let mut steps = Steps::<L>::new(blank);
     let Evaluated {

@@ -5,7 +5,7 @@ ghost use Rattle.doc_model.specs.DocumentLaws.{IsWhole};
 ghost use Rattle.recalc.specs.Evaluated.{sheet_of};
 ghost use Rattle.recalc.specs.Indexes.{AreIndexes};
 ghost use Rattle.recalc.specs.Kept.{IsEvaluated};
-ghost use Rattle.known_reads.specs.Beside.{KnowsReads};
+ghost use Rattle.known_reads.specs.Beside.{KnowsExact, KnowsReads};
 
 use affected_search::affected_by;
 use affected_values::named_cells;
@@ -84,8 +84,8 @@ pub(crate) fn touched_cells(
 
 /// Evaluates cells of an evaluated document anew, in a count of attempts of its own.
 ///
-/// Errors: out of memory; the values are then those before, it is not known what cells read, and
-/// no index is left.
+/// Errors: out of memory; the values are then those before, what cells read is laid aside, and no
+/// index is left.
 /// Memory and cost: as to `refresh_recording`.
 pub(crate) fn refresh_cells<D: DocTables, L: Ledger>(
     alloc: Global,
@@ -102,16 +102,13 @@ pub(crate) fn refresh_cells<D: DocTables, L: Ledger>(
     requires whole { IsWhole (D.document tables.now) }
     requires indexed { AreIndexes (sheet_of (D.document tables.now)) indexes.old.items }
     requires evaluated { IsEvaluated (D.document tables.now) kept.old.items }
-    requires known { KnowsReads (D.document tables.now) reads.old }
+    requires known { KnowsExact (D.document tables.now) reads.old }
     ensures evaluated { IsEvaluated (D.document tables.now) kept.new.items }
     ensures known { KnowsReads (D.document tables.now) reads.new }
     ensures indexed { AreIndexes (sheet_of (D.document tables.now)) indexes.new.items }
 {
     let mut steps = Steps::<L>::new(blank);
-    let noted = Vec::new(alloc);
-    match refresh_recording(
-        alloc, tables, kept, indexes, reads, cells, noted, &mut steps,
-    ) {
+    match refresh_recording(alloc, tables, kept, indexes, reads, cells, &mut steps) {
         Ok(done) => {
             drop(done);
             Ok(())

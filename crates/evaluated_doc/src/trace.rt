@@ -7,31 +7,35 @@ use crate::indexing::GoneRows;
 use affected_values::{HeldValue, LaidAside};
 use cell_types::CellOld;
 use doc_model::DocTables;
-use known_reads::SomeCells;
+use known_reads::{KnownReads, ReadsBefore};
 use recalc::KeptTable;
 use std::marker::Model;
 
 /// What leads back to the values before a change.
 #[derive(Drop)]
 pub enum Before {
-    /// All values before a change after which all cells were evaluated, and noted as stale.
-    Whole(Option<Vec<KeptTable>>),
-    /// The values before an update of those cells that it evaluated anew, and the cells that read
-    /// something else before it.
+    /// All that was kept before a change after which all cells were evaluated.
+    Whole {
+        kept: Option<Vec<KeptTable>>,
+        reads: KnownReads,
+    },
+    /// The values before an update of those cells that it evaluated anew, and what cells read that
+    /// read something else since.
     Update {
         taken: Vec<HeldValue>,
-        stale: SomeCells,
+        log: ReadsBefore,
     },
     /// The same of rows that came or went, and the values that were laid aside.
     Rows {
         taken: Vec<HeldValue>,
         aside: LaidAside,
-        stale: SomeCells,
+        log: ReadsBefore,
     },
-    /// All values before an action on no records, and the cells that read something else before it.
+    /// All values before an action on no records, and what cells read that read something else
+    /// since.
     Altered {
         kept: Vec<KeptTable>,
-        stale: SomeCells,
+        log: ReadsBefore,
     },
 }
 
@@ -79,6 +83,6 @@ impl<D: DocTables> Trace<D> {
     pub fn is_whole(&self) -> bool
         ensures { result ≡ is_whole self.now.before }
     {
-        matches!(&self.before, Before::Whole(_))
+        matches!(&self.before, Before::Whole { .. })
     }
 }

@@ -11,9 +11,9 @@ ghost use Rattle.recalc.specs.Indexes.{AreIndexes};
 ghost use Rattle.recalc.specs.Kept.{IsEvaluated};
 ghost use Rattle.affected_cells.specs.Bound.{bound};
 ghost use Rattle.affected_values.specs.Indexing.{AreLeft};
-ghost use Rattle.known_reads.specs.Beside.{KnowsReads};
+ghost use Rattle.known_reads.specs.Beside.{KnowsExact, KnowsReads};
 ghost use Rattle.evaluated_doc.specs.Update.{IsAffected, IsUpdating, is_update};
-ghost use Rattle.evaluated_doc.specs.WayBack.{HasBefore, is_whole};
+ghost use Rattle.evaluated_doc.specs.WayBack.{HasBefore};
 
 use crate::finding::found_by_records;
 use crate::indexing::leave;
@@ -23,7 +23,7 @@ use affected_values::{leads_over_law, named_cells};
 use cell_types::CellId;
 use doc_model::{DocAction, DocTables};
 use formula_eval::Steps;
-use known_reads::{KnownReads, ReadsFault, Refreshed, refresh_recording};
+use known_reads::{KnownReads, Refreshed, refresh_recording};
 use recalc::{ColumnIndex, KeptTable};
 use std::alloc::{AllocError, Global};
 use std::sync::ledger::Ledger;
@@ -44,20 +44,10 @@ pub(crate) fn is_update(action: &DocAction) -> bool
     matches!(action, DocAction::BulkUpdate { .. })
 }
 
-/// Whether an action may change which formulas there are: it is on no records.
-///
-/// Memory: none.
-pub(crate) fn is_of_schema(action: &DocAction) -> bool {
-    !matches!(
-        action,
-        DocAction::BulkAdd { .. } | DocAction::BulkUpdate { .. } | DocAction::BulkRemove { .. }
-    )
-}
-
 /// Finds by the graph what an update affects: of lookups those by values that it writes, or writes
 /// over. Leaves all indexes but for the rows that the update writes. The document is as it was.
 ///
-/// Errors: it is not known what cells read, or out of memory; the indexes are then to be given up.
+/// Errors: out of memory; the indexes are then to be given up.
 /// Memory and cost: those of what is found. The update is put once, and taken back.
 pub(crate) fn find_affected<D: DocTables>(
     alloc: Global,
@@ -65,21 +55,17 @@ pub(crate) fn find_affected<D: DocTables>(
     reads: &KnownReads,
     indexes: &mut Vec<ColumnIndex>,
     action: &DocAction,
-) -> Result<Affected, ReadsFault>
+) -> Result<Affected, AllocError>
     requires whole { IsWhole (D.document tables.old) }
     requires indexed { AreIndexes (sheet_of (D.document tables.old)) indexes.old.items }
-    requires known { KnowsReads (D.document tables.old) reads.now }
+    requires known { KnowsExact (D.document tables.old) reads.now }
     requires valid { valid (D.document tables.old) action.now ≡ true }
     requires update { is_update action.now ≡ true }
     ensures same { D.document tables.new ≡ D.document tables.old }
-    ensures each { OnOk result (reads.now.are_all_stale ≡ false) }
     ensures found { IfOk result
         (λ x. IsAffected (D.document tables.old) reads.now.graph action.now x) }
     ensures left { OnOk result (AreLeft (D.document tables.old) action.now indexes.new.items) }
 {
-    if !reads.is_known() {
-        return Err(ReadsFault::NotRecorded);
-    }
     leave(alloc, &*tables, indexes, action);
     let found = found_by_records(alloc, tables, reads.graph(), action)?;
     let cells = named_cells(alloc, reads.graph(), &found)?;
@@ -88,8 +74,8 @@ pub(crate) fn find_affected<D: DocTables>(
 
 /// Evaluates what an update affects, where the values of all other cells are right.
 ///
-/// Errors: out of memory; the values are then those before, it is not known what cells read, and
-/// the indexes are to be given up.
+/// Errors: out of memory; the values are then those before, what cells read is laid aside, and the
+/// indexes are to be given up.
 /// Memory and cost: as to `refresh_recording`.
 pub(crate) fn refresh_updated<D: DocTables, L: Ledger>(
     alloc: Global,
@@ -111,7 +97,6 @@ pub(crate) fn refresh_updated<D: DocTables, L: Ledger>(
     ensures way { IfOk result (λ before. (s : Document) (a : DocAction)
         → IsUpdating s (D.document tables.now) a kept.old.items reads.old cells.items
         → HasBefore s (D.document tables.now) before) }
-    ensures part { IfOk result (λ before. is_whole before ≡ false) }
     ensures err { OnErr result ((s : Document) (a : DocAction)
         → IsUpdating s (D.document tables.now) a kept.old.items reads.old cells.items
         → IsEvaluated s kept.new.items × KnowsReads s reads.new) }
@@ -120,11 +105,7 @@ pub(crate) fn refresh_updated<D: DocTables, L: Ledger>(
         → steps.new ≤ steps.old + bound s a }
 {
     leads_over_law();
-    let noted = Vec::new(alloc);
-    let done = refresh_recording(alloc, tables, kept, indexes, reads, cells, noted, steps)?;
-    let Refreshed { taken, renewed } = done;
-    Ok(Before::Update {
-        taken,
-        stale: renewed,
-    })
+    let done = refresh_recording(alloc, tables, kept, indexes, reads, cells, steps)?;
+    let Refreshed { taken, before } = done;
+    Ok(Before::Update { taken, log: before })
 }

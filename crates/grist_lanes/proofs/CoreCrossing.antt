@@ -15,6 +15,7 @@ use Rattle.action_limits.proofs.tally.Tally.TheSendSync.{the_send as tally-send}
 use Rattle.bundle_core.proofs.loading.Opening.TheSendSync.{the_send as opening-send}
 use Rattle.bundle_core.proofs.session.OpenSession.TheSendSync.{the_send as openSession-send}
 use Rattle.bundle_records.proofs.ledger.RecordLedger.TheSendSync.{the_send as recordLedger-send}
+use Rattle.cell_types.proofs.cell.CellId.TheSendSync.{the_send as cellId-send}
 use Rattle.cell_types.proofs.column_type.ColType.TheSendSync.{the_send as colType-send}
 use Rattle.cell_types.proofs.name.Name.TheSendSync.{the_send as name-send}
 use Rattle.cell_types.proofs.sequence.Sequence.TheSendSync.{the_send as sequence-send}
@@ -25,6 +26,8 @@ use Rattle.cell_types.proofs.value.ErrKind.TheSendSync.{the_send as errKind-send
 use Rattle.cell_types.proofs.value.RowRef.TheSendSync.{the_send as rowRef-send}
 use Rattle.cell_types.proofs.value.RowSet.TheSendSync.{the_send as rowSet-send}
 use Rattle.std.proofs.option.Option.TheSendSync.{the_send as option-send}
+use Rattle.dep_graph.proofs.graph.DepGraph.TheSendSync.{the_send as graph-send}
+use Rattle.dep_graph.proofs.were.WereReads.TheSendSync.{the_send as were-send}
 use Rattle.doc_model.proofs.column.ColDef.TheSendSync.{the_send as colDef-send}
 use Rattle.doc_model.proofs.column.ColInfo.TheSendSync.{the_send as colInfo-send}
 use Rattle.doc_model.proofs.entry.Entry.TheSendSync.{the_send as entry-send}
@@ -34,15 +37,15 @@ use Rattle.formula_parse.proofs.operator.Constant.TheSendSync.{the_send as const
 use Rattle.formula_parse.proofs.operator.LookupKind.TheSendSync.{the_send as lookupKind-send}
 use Rattle.formula_parse.proofs.operator.PrefixOp.TheSendSync.{the_send as prefixOp-send}
 use Rattle.formula_parse.proofs.rule.RuleAtom.TheSendSync.{the_send as ruleAtom-send}
-use Rattle.known_reads.proofs.beside.KnownReads.TheSendSync.{the_send as knownReads-send}
 use Rattle.recalc.proofs.indexes.ColumnIndex.TheSendSync.{the_send as columnIndex-send}
-use Rattle.row_tables.proofs.tables.RowTables.TheSendSync.{the_send as rowTables-send}
+use Rattle.column_store.proofs.tables.ColumnTables.TheSendSync.{the_send as columnTables-send}
 use Rattle.undo_bundles.proofs.log.BundleLog.TheSendSync.{the_send as bundleLog-send}
 use Rattle.user_attrs.proofs.attribute_rule.AttributeRule.TheSendSync.{the_send as attributeRule-send}
 use Rattle.watch_box.proofs.watch_list.WatchList.TheSendSync.{the_send as watchList-send}
 use Rattle.std.proofs.Crossing.{crosses}
 use Rattle.std.proofs.MapsCrossing.{crosses as maps}
 use Rattle.formula_parse.proofs.tree.ArgumentList.TheLaws.TheKnot.{crosses as knot}
+use Rattle.known_reads.proofs.laid.LaidReads.TheLaws.TheKnot.{crosses as laid}
 use denote.RattleType.{RattleType}
 use mathlib.Core.List.{[], ◌∷◌}
 use mir.Syntax.{Lifetime, Sym}
@@ -62,10 +65,11 @@ use Rattle.acl_rules.specs.contracts.decision.Ctx as ctx
 use Rattle.agreeing_contexts.specs.contracts.field.UserField as field
 use Rattle.context_changes.specs.contracts.known.KnownContexts as known
 use Rattle.doc_keeper.specs.declared.keeper.Keeper as keeper
-use Rattle.row_tables.specs.contracts.tables.RowTables as tables
-use Rattle.row_tables.specs.contracts.tables.RowTablesDocTables as doc-tables
-use Rattle.row_tables.specs.contracts.tables.RowBack as back
-use Rattle.row_tables.specs.contracts.tables.RowTablesDocReader as doc-reader
+use Rattle.column_store.specs.contracts.tables.ColumnTables as tables
+use Rattle.column_store.specs.contracts.tables.ColumnTablesDocTables as doc-tables
+use Rattle.column_store.specs.contracts.tables.ColumnBack as back
+use Rattle.column_store.specs.contracts.tables.ColumnTablesDocReader as doc-reader
+use Rattle.known_reads.specs.contracts.beside.KnownReads as known-reads
 use Rattle.evaluated_doc.specs.contracts.doc.Doc as doc
 use Rattle.bundle_core.specs.contracts.ruled_document.RuledDocument as ruled
 use Rattle.bundle_core.specs.contracts.ruled_document.RuledDocument.TheInside as ruled-inside
@@ -77,6 +81,10 @@ use Rattle.bundle_core.specs.contracts.history_core.Core.TheInside as inside
 use Rattle.watch_box.specs.declared.watcher.Watcher as watcher
 use Rattle.watched_core.specs.contracts.watched.WatchedCore as watched
 use Rattle.watched_core.specs.contracts.watched.WatchedCore.TheInside as watched-inside
+
+-- what is kept of reads beside a document, in which what is laid aside is a chain
+knownReads-send : IsSend known-reads.the_row
+knownReads-send = search (sendable, name-send, cellId-send, graph-send, were-send, laid, crosses, maps) depth 60
 
 -- the parts that have a fact of their own
 ruleset parts = (
@@ -113,7 +121,7 @@ ruleset parts = (
   lookupKind-send,
   prefixOp-send,
   ruleAtom-send,
-  rowTables-send,
+  columnTables-send,
   knownReads-send,
   columnIndex-send,
   bundleLog-send,

@@ -7,8 +7,6 @@ use Rattle.doc_model.specs.declared.action.DocAction.TheVariants.{BulkUpdate}
 use Rattle.doc_model.specs.Apply.{apply}
 use Rattle.doc_model.specs.Document.{Document}
 use Rattle.dep_graph.specs.Graph.{Graph}
-use Rattle.dep_graph.specs.Records.{reads_under}
-use Rattle.dep_graph.specs.Sources.{AreNumbers, sources}
 use Rattle.recalc.specs.Evaluated.{formula_at, sheet_of}
 use Rattle.recalc.specs.Stack.{on}
 use Rattle.affected_cells.specs.Noted.{notes, notes_by}
@@ -17,26 +15,30 @@ use Rattle.affected_cells.proofs.UpdateTouches.{after, same_formula}
 use Rattle.affected_search.specs.ExactNotes.{HasNotes, HasNotesOf}
 use Rattle.affected_search.proofs.ExactNotes.{same_exact}
 use Rattle.affected_search.specs.Sheets.{is_found}
-use Rattle.known_reads.specs.Beside.{Beside, KnowsOthers, KnowsReads, NotedLaw, ReadsSameLaw, is_stale}
+use Rattle.known_reads.specs.Beside.{Beside, KnowsExact, KnowsOthers, KnowsReads, KnowsWith, ReadsSameLaw, is_stale}
 use Rattle.known_reads.specs.Known.{AreRead, IsRead}
-use Rattle.known_reads.specs.SomeCells.{is_one_of}
-
--- ---- stale cells
+use Rattle.known_reads.specs.Laid.{all_laid}
+use Rattle.known_reads.proofs.WereLemmas.{known_exact}
 
 -- ---- what is known
 
-pub knows_others : (s : Document) (known : Beside) → KnowsReads s known → KnowsOthers s known
-knows_others s known knows c fresh = knows.each (by known.are_all_stale fresh) c
-  where
-    by : (b : Bool) → (b || on known.stale c) ≡ false → b ≡ false
-    by true h = absurd (true≢false h)
-    by false h = refl
+pub exact_others : (s : Document) (known : Beside) → KnowsExact s known → KnowsOthers s known
+exact_others s known exact c fresh = exact.each c
 
-pub none_stale : (known : Beside) → known.stale ≡ [] → known.are_all_stale ≡ false → (c : CellId) → is_stale known c ≡ false
-none_stale known none each c = ap (λ b. b || on known.stale c) each ∙ ap (λ l. on l c) none
+-- nothing is laid aside
+pub exact_reads : (s : Document) (known : Beside) → known.stale ≡ [] → known.owed ≡ [] → HasNotes known.graph (sheet_of s) → KnowsReads s known
+exact_reads s known none owed each = record { none = none; each = subst (λ l. KnowsWith s known.graph (all_laid l)) (sym owed) each }
 
-pub knows_nothing : (s : Document) (known : Beside) → known.stale ≡ [] → known.are_all_stale ≡ true → KnowsReads s known
-knows_nothing s known none all = record { none = none; each = λ h. absurd (true≢false (sym all ∙ h)) }
+pub reads_exact : (s : Document) (known : Beside) → known.owed ≡ [] → KnowsReads s known → KnowsExact s known
+reads_exact s known owed knows = record { none = knows.none; owed = owed; each = known_exact s known.graph (all_laid known.owed) (ap all_laid owed) knows.each }
+
+-- where the graph and what is laid aside stay
+pub exact_stays : (s : Document) (old new : Beside) → new.graph ≡ old.graph → new.stale ≡ old.stale → new.owed ≡ old.owed → KnowsExact s old → KnowsExact s new
+exact_stays s old new graph stale owed exact = record {
+  none = stale ∙ exact.none;
+  owed = owed ∙ exact.owed;
+  each = subst (λ (g : Graph). HasNotes g (sheet_of s)) (sym graph) exact.each;
+}
 
 -- ---- all notes
 
@@ -61,23 +63,6 @@ same_notes s t c there same = by (formula_at s c) (formula_at t c) refl refl
 
 pub read_same : (s t : Document) (graph : Graph) (c : CellId) → is_some (formula_at s c) ≡ is_some (formula_at t c) → (is_some (formula_at t c) ≡ true → notes (sheet_of s) c ≡ notes (sheet_of t) c) → IsRead s graph c → IsRead t graph c
 read_same s t graph c there same read = same_exact graph (sheet_of s) (sheet_of t) c there (same_notes s t c there same) read
-
-fresh_parts : (a b n : Bool) → ((a || b) ≡ true → n ≡ true) → n ≡ false → (a ≡ false) × (b ≡ false)
-fresh_parts true b n more h = absurd (true≢false (sym (more refl) ∙ h))
-fresh_parts false true n more h = absurd (true≢false (sym (more refl) ∙ h))
-fresh_parts false false n more h = (refl, refl)
-
--- what reads the same is known of the one document where it is of the other
-same_sources_read : (s t : Document) (graph : Graph) (c : CellId) → is_some (formula_at s c) ≡ is_some (formula_at t c) → sources (notes (sheet_of s) c) ≡ sources (notes (sheet_of t) c) → IsRead s graph c → IsRead t graph c
-same_sources_read s t graph c there same has = record {
-  number = λ h. has.number (there ∙ h);
-  reads = λ names k grown at. subst (λ xs. AreNumbers names xs (reads_under graph.reads k)) same (has.reads names k grown at);
-}
-
-pub noted : NotedLaw
-noted s t some old new same is known c fresh =
-    let parts = fresh_parts (is_stale old c) (is_one_of some c) (is_stale new c) (is.stale c) fresh in
-    subst (λ (g : Graph). IsRead t g c) (sym is.graph) (same_sources_read s t old.graph c (same.there c parts.1) (same.same c parts.1) (known c parts.0))
 
 -- ---- over an update
 

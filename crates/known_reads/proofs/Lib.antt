@@ -6,6 +6,7 @@ pub mod RecordedLemmas
 pub mod CountLemmas
 pub mod BoundLemmas
 pub mod StartedLemmas
-pub mod SourceLemmas
 pub mod WatchedLemmas
+pub mod WereLemmas
+pub mod PuttingLemmas
 pub mod ListedLemmas

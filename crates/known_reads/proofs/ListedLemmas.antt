@@ -141,8 +141,8 @@ were_tried s ty f listed k right (r ∷ rows) (x ∷ xs) a =
 
 module _ (s : Document) (ks ls : List KeptTable) (settled : IsSettled s ks) (cell : CellId) (opened : IsOpen (sheet_of s) (held_at s ks) cell) (v : CellValue) (value : evaluated (sheet_of s) cell ≡ v)
     (kept : IsKeptOf s ls) (puts : (c : CellId) → held_at s ls c ≡ cond (same_cell cell c) (Some v) (held_at s ks c)) where
-  pub walked_put : (old new : Beside) → IsNotedOf old new (sheet_of s) cell → new.stale ≡ old.stale → (n m : ℕ) → m ≤ n + 1 → IsWalked s ks old n ls new m
-  walked_put old new noted list n m step =
+  pub walked_put : (old new : Beside) → IsNotedOf old new (sheet_of s) cell → new.stale ≡ old.stale → new.owed ≡ old.owed → (n m : ℕ) → m ≤ n + 1 → IsWalked s ks old n ls new m
+  walked_put old new noted list owed n m step =
       let turn = turn_value (sheet_of s) (is_sheet s) (held_at s ks) (cell ∷ []) [] cell refl (record { sound = settled.sound; each_open = (opened, refl, tt); chain = tt }) v (held_at s ls) value puts in
       let same = ap length list in
       let spent = put_spent (sheet_of s) (held_at s ks) (held_at s ls) cell v puts opened [] (cell ∷ []) refl (opened, refl, tt) tt (due n old) (due m new) (omega (arith, step, same)) in
@@ -150,4 +150,5 @@ module _ (s : Document) (ks ls : List KeptTable) (settled : IsSettled s ks) (cel
         further = record { settled = record { of_document = kept; sound = turn.working.sound }; stays = put_stays (held_at s ks) (held_at s ls) cell v puts };
         recording = recording_put s (held_at s ks) (held_at s ls) old new cell v puts noted;
         attempts = record { twice = spent.twice; named = spent.named };
+        owed = owed;
       }

@@ -33,14 +33,12 @@ use Rattle.affected_search.specs.ExactNotes.{HasNotesOf}
 use Rattle.affected_search.proofs.NotedLaws.{set_notes_law}
 use Rattle.affected_values.specs.declared.taking.HeldValue.{HeldValue}
 use Rattle.affected_values.specs.Taken.{IsHeldWhere, IsTaken, taken_of}
-use Rattle.known_reads.specs.declared.attempting.Found.{Found}
-use Rattle.known_reads.specs.declared.attempting.Found.TheVariants.{Value, Need}
+use Rattle.par_recalc.specs.declared.running.Found.{Found}
+use Rattle.par_recalc.specs.declared.running.Found.TheVariants.{Value, Need}
 use Rattle.known_reads.specs.Beside.{Beside, KnowsOthers, is_stale}
 use Rattle.known_reads.specs.Known.{KeepsReads}
 use Rattle.known_reads.specs.Recorded.{IsFitted, IsNotedOf, IsRecording, IsTold, KnowsBut, KnowsButFormulas}
-use Rattle.known_reads.specs.Watched.{IsWatched}
 use Rattle.known_reads.proofs.KnownLemmas.{reads_kept}
-use Rattle.known_reads.proofs.WatchedLemmas.{watched_next, watched_none}
 
 -- ---- what an attempt tells
 
@@ -111,38 +109,17 @@ or_first true b e = refl
 or_first false b e = absurd (false≢true e)
 
 -- a cell that is set to what its run noted
-pub noted_set : (old new : Beside) (was : Graph) → was ≡ old.graph → (cell : CellId) (given : List Note) → IsSet was new.graph cell given → ((c : CellId) → is_stale new c ≡ is_stale old c)
-    → ((s : Sheet) → IsWatched s old new) → (s : Sheet) → notes s cell ≡ given → IsNotedOf old new s cell
-noted_set old new was is cell given set stale watched s same =
-    let recorded = set_notes_law was new.graph s cell given set same in
-    record { here = λ h. recorded.exact; others = subst (λ (g : Graph). KeepsReads s g new.graph) is recorded.keeps; stale = λ d h. stale d ∙ h; watched = watched s }
+pub noted_set : (old new : Beside) (cell : CellId) (given : List Note) → IsSet old.graph new.graph cell given → new.stale ≡ old.stale → (s : Sheet) → notes s cell ≡ given → IsNotedOf old new s cell
+noted_set old new cell given set stale s same =
+    let recorded = set_notes_law old.graph new.graph s cell given set same in
+    record { here = λ h. recorded.exact; others = recorded.keeps; stale = λ d h. ap (λ l. on l d) stale ∙ h }
 
--- a cell of which the graph is stale, and has what it had
-pub noted_stale : (old new : Beside) (was mid : Graph) → was ≡ old.graph → new.graph ≡ mid → (cell : CellId) → IsKept was mid → ((c : CellId) → (is_stale old c || on (cell ∷ []) c) ≡ true → is_stale new c ≡ true)
-    → ((s : Sheet) → IsWatched s old new) → (s : Sheet) → IsNotedOf old new s cell
-noted_stale old new was mid is to cell kept stale watched s = record {
-  here = λ h. absurd (true≢false (sym (stale_cell new cell (λ c h. stale c (or_second (is_stale old c) (on (cell ∷ []) c) h))) ∙ h));
-  others = subst (λ (g : Graph). KeepsReads s g new.graph) is (subst (λ (g : Graph). KeepsReads s was g) (sym to) (reads_kept s was mid kept));
-  stale = λ d h. stale d (or_first (is_stale old d) (on (cell ∷ []) d) h);
-  watched = watched s;
-}
-
--- so where it is stale of all
-pub noted_all : (old new : Beside) (was mid : Graph) → was ≡ old.graph → new.graph ≡ mid → (cell : CellId) → IsKept was mid → new.are_all_stale ≡ true → ((s : Sheet) → IsWatched s old new) → (s : Sheet) → IsNotedOf old new s cell
-noted_all old new was mid is to cell kept all watched s = record {
-  here = λ h. absurd (true≢false (sym (ap (λ b. b || on new.stale cell) all) ∙ h));
-  others = subst (λ (g : Graph). KeepsReads s g new.graph) is (subst (λ (g : Graph). KeepsReads s was g) (sym to) (reads_kept s was mid kept));
-  stale = λ d h. ap (λ b. b || on new.stale d) all;
-  watched = watched s;
-}
-
--- so where the graph is the same
-pub noted_same : (old new : Beside) (cell : CellId) → new.graph ≡ old.graph → ((c : CellId) → (is_stale old c || on (cell ∷ []) c) ≡ true → is_stale new c ≡ true) → ((s : Sheet) → IsWatched s old new) → (s : Sheet) → IsNotedOf old new s cell
-noted_same old new cell same stale watched s = record {
+-- so where the cell became stale, and the graph is the same
+pub noted_same : (old new : Beside) (cell : CellId) → new.graph ≡ old.graph → ((c : CellId) → (is_stale old c || on (cell ∷ []) c) ≡ true → is_stale new c ≡ true) → (s : Sheet) → IsNotedOf old new s cell
+noted_same old new cell same stale s = record {
   here = λ h. absurd (true≢false (sym (stale_cell new cell (λ c h. stale c (or_second (is_stale old c) (on (cell ∷ []) c) h))) ∙ h));
   others = subst (λ (g : Graph). KeepsReads s old.graph g) (sym same) (λ c h. h);
   stale = λ d h. stale d (or_first (is_stale old d) (on (cell ∷ []) d) h);
-  watched = watched s;
 }
 
 -- ---- one after the other
@@ -163,7 +140,6 @@ recording_none s k old = record {
   read = λ c none some fresh. absurd (true≢false (sym some ∙ none));
   others = λ c h. h;
   stale = λ c h. h;
-  watched = watched_none (sheet_of s) old;
 }
 
 pub recording_next : (s : Document) (k j i : Values) (old mid new : Beside) → IsRecording s k old j mid → IsRecording s j mid i new → IsRecording s k old i new
@@ -171,7 +147,6 @@ recording_next s k j i old mid new a b = record {
   read = λ c none some fresh. by c (is_some (j c)) refl none some fresh;
   others = λ c h. b.others c (a.others c h);
   stale = λ c h. b.stale c (a.stale c h);
-  watched = watched_next (sheet_of s) old mid new a.watched b.watched;
 }
   where
     by : (c : CellId) (p : Bool) → is_some (j c) ≡ p → is_some (k c) ≡ false → is_some (i c) ≡ true → is_stale new c ≡ false → HasNotesOf new.graph (sheet_of s) c
@@ -184,12 +159,25 @@ recording_put s k j old new cell v puts noted = record {
   read = λ c none some fresh. by c (same_cell cell c) refl none some fresh;
   others = noted.others;
   stale = noted.stale;
-  watched = noted.watched;
 }
   where
     by : (c : CellId) (p : Bool) → same_cell cell c ≡ p → is_some (k c) ≡ false → is_some (j c) ≡ true → is_stale new c ≡ false → HasNotesOf new.graph (sheet_of s) c
     by c true e none some fresh = subst (HasNotesOf new.graph (sheet_of s)) (same_true cell c e) (noted.here (ap (is_stale new) (same_true cell c e) ∙ fresh))
     by c false e none some fresh = absurd (true≢false (sym some ∙ ap is_some (puts c ∙ ap (λ b. cond b (Some v) (k c)) e) ∙ none))
+
+-- no value more, and the graph has what it had
+pub recording_left : (s : Document) (k : Values) (old new : Beside) → KeepsReads (sheet_of s) old.graph new.graph → new.stale ≡ old.stale → IsRecording s k old k new
+recording_left s k old new keeps stale = record {
+  read = λ c none some fresh. absurd (true≢false (sym some ∙ none));
+  others = keeps;
+  stale = λ c h. ap (λ l. on l c) stale ∙ h;
+}
+
+pub recording_kept : (s : Document) (k : Values) (old new : Beside) → IsKept old.graph new.graph → new.stale ≡ old.stale → IsRecording s k old k new
+recording_kept s k old new kept stale = recording_left s k old new (reads_kept (sheet_of s) old.graph new.graph kept) stale
+
+pub recording_same : (s : Document) (k : Values) (old new : Beside) → new.graph ≡ old.graph → new.stale ≡ old.stale → IsRecording s k old k new
+recording_same s k old new same stale = recording_left s k old new (subst (λ (g : Graph). KeepsReads (sheet_of s) old.graph g) (sym same) (λ c h. h)) stale
 
 -- ---- cells that are evaluated anew
 
@@ -227,9 +215,9 @@ no_formula (Some f) h = absurd (true≢false h)
 
 -- what is forgotten is known
 pub forgot_plain : (s : Document) (old new : Beside) (cells : List CellId) → ((c : CellId) → on cells c ≡ true → formula_at s c ≡ None → HasNotesOf new.graph (sheet_of s) c) → KeepsReads (sheet_of s) old.graph new.graph
-    → ((c : CellId) → is_stale new c ≡ is_stale old c) → KnowsBut s old cells → KnowsButFormulas s new cells
+    → new.stale ≡ old.stale → KnowsBut s old cells → KnowsButFormulas s new cells
 forgot_plain s old new cells plain keeps stale but c fresh other = by (on cells c) refl
   where
     by : (b : Bool) → on cells c ≡ b → HasNotesOf new.graph (sheet_of s) c
     by true e = plain c e (no_formula (formula_at s c) (ap (λ b. b && is_some (formula_at s c)) (sym e) ∙ other))
-    by false e = keeps c (but c (sym (stale c) ∙ fresh) e)
+    by false e = keeps c (but c (sym (ap (λ l. on l c) stale) ∙ fresh) e)

@@ -8,6 +8,7 @@ use Rattle.doc_model.specs.declared.column.ColDef.{ColDef}
 use Rattle.doc_model.specs.Document.{Document}
 use Rattle.doc_model.specs.Grid.{Grid}
 use Rattle.doc_model.proofs.Choices.{each_weaker}
+use Rattle.dep_graph.specs.Graph.{Graph}
 use Rattle.recalc.specs.declared.kept.KeptTable.{KeptTable}
 use Rattle.recalc.specs.Cells.{cell_of, same_cell}
 use Rattle.recalc.specs.Evaluated.{cells_of_column, formula_at, formula_cells, sheet_of}
@@ -22,10 +23,11 @@ use Rattle.affected_cells.specs.Bound.{attempt_bound}
 use Rattle.affected_search.specs.ExactNotes.{HasNoReads, HasNotesOf}
 use Rattle.affected_search.proofs.ExactNotes.{none_exact}
 use Rattle.affected_values.specs.Taken.{IsHeldWhere}
-use Rattle.known_reads.specs.Attempts.{HasFormulas, due, most_attempts}
+use Rattle.known_reads.specs.Attempts.{HasFormulas, IsSpent, IsWithin, due, most_attempts}
 use Rattle.known_reads.specs.Beside.{Beside, KnowsOthers}
+use Rattle.known_reads.specs.Known.{KeepsReads}
 use Rattle.known_reads.specs.Walked.{AreHeld, IsWalked}
-use Rattle.known_reads.proofs.BoundLemmas.{bound_all, most_all, spent_next, spent_none, spent_within}
+use Rattle.known_reads.proofs.BoundLemmas.{bound_all, due_within, most_all, spent_next, spent_none, spent_within, within_next}
 use Rattle.known_reads.proofs.RecordedLemmas.{recording_next, recording_none}
 
 pub walked_start : (s : Document) (ks : List KeptTable) (known : Beside) (n : ℕ) → IsSettled s ks → IsWalked s ks known n ks known n
@@ -33,6 +35,7 @@ walked_start s ks known n settled = record {
   further = further_start s ks settled;
   recording = recording_none s (held_at s ks) known;
   attempts = spent_none (sheet_of s) (held_at s ks) [] (due n known) refl;
+  owed = refl;
 }
 
 pub walked_next : (s : Document) (ks ls ms : List KeptTable) (old mid new : Beside) (n m p : ℕ) → IsWalked s ks old n ls mid m → IsWalked s ls mid m ms new p → IsWalked s ks old n ms new p
@@ -40,7 +43,28 @@ walked_next s ks ls ms old mid new n m p a b = record {
   further = further_next s ks ls ms a.further b.further;
   recording = recording_next s (held_at s ks) (held_at s ls) (held_at s ms) old mid new a.recording b.recording;
   attempts = spent_next (sheet_of s) (held_at s ks) (held_at s ls) (held_at s ms) [] [] [] (due n old) (due m mid) (due p new) a.further.stays a.attempts b.attempts;
+  owed = b.owed ∙ a.owed;
 }
+
+-- where the graph and the stale cells stay
+pub walked_same : (s : Document) (ks ls : List KeptTable) (old mid new : Beside) (n m : ℕ) → new.graph ≡ mid.graph → new.stale ≡ mid.stale → new.owed ≡ mid.owed → IsWalked s ks old n ls mid m → IsWalked s ks old n ls new m
+walked_same s ks ls old mid new n m graph stale owed a = record {
+  further = a.further;
+  recording = record {
+    read = λ c none some fresh. subst (λ (g : Graph). HasNotesOf g (sheet_of s) c) (sym graph) (a.recording.read c none some (sym (ap (λ l. on l c) stale) ∙ fresh));
+    others = subst (λ (g : Graph). KeepsReads (sheet_of s) old.graph g) (sym graph) a.recording.others;
+    stale = λ c h. ap (λ l. on l c) stale ∙ a.recording.stale c h;
+  };
+  attempts = subst (λ (l : List CellId). IsSpent (sheet_of s) (held_at s ks) [] (due n old) (held_at s ls) [] (m + length l)) (sym stale) a.attempts;
+  owed = owed ∙ a.owed;
+}
+
+-- no more attempts than it takes, whether or not the last step could be done
+pub walked_within : (s : Document) (ks ls : List KeptTable) (old mid : Beside) (n m p : ℕ) → IsWalked s ks old n ls mid m → IsWithin (sheet_of s) (held_at s ls) (due m mid) p → IsWithin (sheet_of s) (held_at s ks) (due n old) p
+walked_within s ks ls old mid n m p walked last = within_next (sheet_of s) (held_at s ks) (held_at s ls) (due n old) (due m mid) p walked.further.stays walked.attempts last
+
+pub walked_done : (s : Document) (ks ls : List KeptTable) (old new : Beside) (n m : ℕ) → IsWalked s ks old n ls new m → IsWithin (sheet_of s) (held_at s ks) (due n old) m
+walked_done s ks ls old new n m walked = due_within (sheet_of s) (held_at s ks) (due n old) m new (spent_within (sheet_of s) (held_at s ks) (held_at s ls) [] (due n old) (due m new) refl walked.attempts)
 
 -- what is known stays known
 pub held_later : (s : Document) (ls ms : List KeptTable) → IsFurther s ls ms → (c : CellId) → IsHeldWhere s ls c → IsHeldWhere s ms c
@@ -67,6 +91,22 @@ in_on : (c : CellId) (cs : List CellId) → IsIn c cs → on cs c ≡ true
 in_on c [] i = absurd i
 in_on c (d ∷ ds) (inl e) = ap (λ b. b || on ds c) (ap (same_cell d) (sym e) ∙ same_itself d)
 in_on c (d ∷ ds) (inr i) = or_right (same_cell d c) (on ds c) (in_on c ds i)
+
+-- within what it takes to evaluate all
+module _ (s : Document) (ks : List KeptTable) (old : Beside) (n last : ℕ) (none : old.stale ≡ []) (within : IsWithin (sheet_of s) (held_at s ks) (due n old) last) where
+  pub few_within : last ≤ n + most_attempts (sheet_of s) (formula_cells s)
+  few_within =
+      let spent = within.twice (formula_cells s) (λ c opened. (is_sheet s).listed c opened.0.0 opened.0.1) in
+      let few = most_all (sheet_of s) (formula_cells s) (is_open (held_at s ks)) in
+      let first = ap length none in
+      omega (arith, spent, few, first)
+
+  pub named_within : (all : List CellId) → HasFormulas s (formula_cells s) all → last ≤ n + attempt_bound (sheet_of s) all
+  named_within all has =
+      let spent = within.named all (λ c opened. has c (in_on c (formula_cells s) ((is_sheet s).listed c opened.0.0 opened.0.1)) (ap is_some opened.0.1)) in
+      let few = bound_all (sheet_of s) all (is_open (held_at s ks)) in
+      let first = ap length none in
+      omega (arith, spent, few, first)
 
 -- from no values and no reads
 module _ (s : Document) (ks ls : List KeptTable) (old new : Beside) (n m : ℕ) (walked : IsWalked s ks old n ls new m) where

@@ -1,9 +1,9 @@
 pub mod Attempts
 pub mod Beside
 pub mod Known
+pub mod Laid
 pub mod Listed
 pub mod Moved
 pub mod Recorded
-pub mod SomeCells
 pub mod Walked
 pub mod Watched

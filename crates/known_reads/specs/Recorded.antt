@@ -13,11 +13,10 @@ use Rattle.recalc.specs.Stack.{IsOpen, Waits, count, is_open, on}
 use Rattle.affected_cells.specs.Bound.{names}
 use Rattle.affected_cells.specs.Noted.{notes}
 use Rattle.affected_search.specs.ExactNotes.{HasNotesOf}
-use Rattle.known_reads.specs.declared.attempting.Found.{Found}
-use Rattle.known_reads.specs.declared.attempting.Found.TheVariants.{Value, Need}
+use Rattle.par_recalc.specs.declared.running.Found.{Found}
+use Rattle.par_recalc.specs.declared.running.Found.TheVariants.{Value, Need}
 use Rattle.known_reads.specs.Beside.{Beside, is_stale}
 use Rattle.known_reads.specs.Known.{IsRead, KeepsReads}
-use Rattle.known_reads.specs.Watched.{IsWatched}
 
 -- what an attempt leads to, its value fitted to the column's type
 abbrev pub IsFitted : Found → ColType → Tried → List Note → Type 0
@@ -33,12 +32,11 @@ IsTold s k c (Value v noted) = (evaluated s c ≡ v) × (notes s c ≡ noted)
 IsTold s k c (Need d) = Waits s c d × IsOpen s k d × (names s c d ≡ true)
 
 -- the graph has just what the cell notes, or is stale of it; what it had it has, and it is stale of
--- what it was stale of; where it came to have something else, or stale, that is noted
+-- what it was stale of
 pub record IsNotedOf (old new : Beside) (s : Sheet) (c : CellId) : Type 0 where
   pub here : is_stale new c ≡ false → HasNotesOf new.graph s c
   pub others : KeepsReads s old.graph new.graph
   pub stale : (d : CellId) → is_stale old d ≡ true → is_stale new d ≡ true
-  pub watched : IsWatched s old new
 
 -- from the first values to the second the graph came to have the notes of each cell whose value
 -- became known, but of those of which it is stale
@@ -48,7 +46,6 @@ pub record IsRecording (s : Document) (k : Values) (old : Beside) (j : Values) (
       → is_stale new c ≡ false → HasNotesOf new.graph (sheet_of s) c
   pub others : KeepsReads (sheet_of s) old.graph new.graph
   pub stale : (c : CellId) → is_stale old c ≡ true → is_stale new c ≡ true
-  pub watched : IsWatched (sheet_of s) old new
 
 -- the formula cells without a value are among these
 abbrev pub HasOpen : Sheet → Values → List CellId → Type 0

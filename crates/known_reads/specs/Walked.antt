@@ -1,5 +1,5 @@
 -- Cells evaluated one after the other.
-use Rattle.std.specs.Prelude.{ℕ, List, []}
+use Rattle.std.specs.Prelude.{ℕ, List, [], ◌≡◌}
 use Rattle.std.specs.List.{AllByRecursion}
 use Rattle.cell_types.specs.declared.cell.CellId.{CellId}
 use Rattle.doc_model.specs.Document.{Document}
@@ -19,6 +19,7 @@ pub record IsWalked (s : Document) (ks : List KeptTable) (old : Beside) (n : ℕ
   pub further : IsFurther s ks ls
   pub recording : IsRecording s (held_at s ks) old (held_at s ls) new
   pub attempts : IsSpent (sheet_of s) (held_at s ks) [] (due n old) (held_at s ls) [] (due m new)
+  pub owed : new.owed ≡ old.owed
 
 -- the values of those of the cells that are formula cells are known
 abbrev pub AreHeld : Document → List KeptTable → List CellId → Type 0

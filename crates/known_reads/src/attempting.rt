@@ -17,18 +17,12 @@ use dep_graph::{NoteRun, NoteRuns};
 use doc_model::DocTables;
 use formula_eval::{CellReader, Steps, Tried, attempt_noting};
 use formula_parse::Formula;
+use par_recalc::Found;
 use recalc::{
     ColumnIndex, KeptTable, KnownReader, LastLookup, column_at, index_lookup, remember, row_of,
 };
 use std::alloc::{AllocError, Global};
 use std::sync::ledger::Ledger;
-
-/// What is found of a cell: its value with what its run noted, or a cell that is needed first.
-#[derive(Drop)]
-pub(crate) enum Found {
-    Value { value: CellValue, notes: NoteRuns },
-    Need(CellId),
-}
 
 // One attempt at a formula; without one the value is a syntax error.
 fn attempt_tree<R: CellReader, L: Ledger>(

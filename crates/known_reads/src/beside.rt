@@ -1,53 +1,49 @@
 //! A graph of reads that is kept beside the values of a document.
 
-ghost use Rattle.std.specs.Prelude.{◌≡◌, ◌≤◌, ◌+◌, ◌<◌, ◌||◌, [], ◌∷◌, true, false, not, length};
+ghost use Rattle.std.specs.Prelude.{◌≡◌, ◌≤◌, ◌+◌, ◌||◌, [], ◌∷◌, true, None, length, OnErr, OnOk};
+ghost use Rattle.std.specs.Option.{is_some};
 ghost use Rattle.cell_types.specs.declared.cell.CellId.{CellId};
+ghost use Rattle.dep_graph.specs.Graph.{IsKept};
+ghost use Rattle.dep_graph.specs.Sources.{cell_in};
 ghost use Rattle.doc_model.specs.Document.{Document};
 ghost use Rattle.doc_model.specs.DocumentLaws.{IsWhole};
-ghost use Rattle.recalc.specs.Evaluated.{sheet_of};
+ghost use Rattle.recalc.specs.Evaluated.{formula_at, sheet_of};
 ghost use Rattle.recalc.specs.Indexes.{AreIndexes};
 ghost use Rattle.recalc.specs.Kept.{IsEvaluated};
 ghost use Rattle.recalc.specs.Sheet.{Sheet};
 ghost use Rattle.recalc.specs.Stack.{on};
 ghost use Rattle.affected_cells.specs.Noted.{notes};
-ghost use Rattle.affected_search.specs.ExactNotes.{HasNoReads};
-ghost use Rattle.known_reads.specs.Beside.{IsNoted, KnowsOthers, KnowsReads, is_stale};
+ghost use Rattle.affected_search.specs.ExactNotes.{HasNoReads, HasNotes};
+ghost use Rattle.known_reads.specs.Beside.{KnowsExact, KnowsOthers, KnowsReads, is_stale, were};
+ghost use Rattle.known_reads.specs.Known.{IsRead, KeepsReads};
 ghost use Rattle.known_reads.specs.Recorded.{IsNotedOf, KnowsBut, KnowsButFormulas};
-ghost use Rattle.known_reads.specs.SomeCells.{is_one_of};
-ghost use Rattle.known_reads.specs.Watched.{IsWatched};
+ghost use Rattle.known_reads.specs.Watched.{IsGoneNoted, IsWatched};
 
-use crate::bounded::BoundedGraph;
-use crate::recording::{forget_plain, record_cells};
-use crate::some_cells::SomeCells;
+use crate::laid::{LaidReads, ReadsBefore, turn_over};
+use crate::putting_back::put_all_back;
+use crate::recording::record_cells;
+use affected_values::is_formula_cell;
 use cell_types::CellId;
-use dep_graph::{DepGraph, NoteRuns};
+use dep_graph::{DepGraph, NoteRuns, WereReads};
 use doc_model::DocTables;
 use formula_eval::Steps;
 use recalc::{ColumnIndex, KeptTable, cell_id};
-use std::alloc::Global;
-use std::marker::{Brand, Model};
+use std::alloc::{AllocError, Global};
+use std::marker::Model;
 use std::mem;
-use std::sync::ledger::{Blank, Ledger};
+use std::sync::ledger::Ledger;
 
-/// How many reads are recorded before the graph is given up. A read takes some 30 bytes there,
-/// where many cells of a column read the same, to 130, where one cell does: so all take 0.3 to 1.3
-/// gigabytes.
-const MAX_READS: usize = 10_000_000;
-
-/// What formula cells read: all of it, or nothing where reads are too many or memory was wanting.
+/// What formula cells read, all of it. What a way back of changes must restore is laid aside by it,
+/// without memory, and recorded again before the next change.
 ///
-/// While cells are evaluated, and on the way back of a change, some are stale: what they read is
-/// recorded once all values are known.
+/// While cells are evaluated, some are stale: what they read is recorded once all values are known;
+/// and of each that comes to read something else it is noted what it read.
 #[derive(Drop)]
 pub struct KnownReads {
-    graph: BoundedGraph,
+    graph: DepGraph,
     stale: Vec<CellId>,
-    // Of no cell it is known that it is right.
-    are_all_stale: bool,
-    // An empty graph had no room for all reads.
-    is_wide: bool,
-    // Since they are watched, the cells that came to read something else, or stale.
-    renewed: SomeCells,
+    log: Vec<WereReads>,
+    owed: LaidReads,
 }
 
 impl Model for KnownReads {
@@ -58,92 +54,108 @@ impl Model for KnownReads {
     ghost view = { λ k. record {
       graph = k.graph;
       stale = k.stale.items;
-      are_all_stale = k.are_all_stale;
-      renewed = k.renewed;
+      log = k.log.items;
+      owed = k.owed;
     } };
 }
 
 impl KnownReads {
-    /// Nothing is known.
+    /// No cell reads anything.
     ///
     /// Memory: none.
     pub fn new(alloc: Global) -> Self
-        ensures { (s : Document) → KnowsReads s result }
-    {
-        KnownReads {
-            graph: BoundedGraph::new(alloc, MAX_READS),
-            stale: Vec::new(alloc),
-            are_all_stale: true,
-            is_wide: false,
-            renewed: SomeCells::all(alloc),
-        }
-    }
-
-    /// Nothing is recorded, and no cell is stale, so that cells can be recorded as they get their
-    /// values; all are stale where their reads are known to be too many, and none is recorded.
-    ///
-    /// Memory: none.
-    pub(crate) fn blank(alloc: Global, is_wide: bool) -> Self
         ensures none { HasNoReads result.graph }
         ensures stale { result.stale ≡ [] }
+        ensures owed { result.owed ≡ [] }
     {
         KnownReads {
-            graph: BoundedGraph::new(alloc, MAX_READS),
+            graph: DepGraph::new(alloc),
             stale: Vec::new(alloc),
-            are_all_stale: is_wide,
-            is_wide,
-            renewed: SomeCells::all(alloc),
+            log: Vec::new(alloc),
+            owed: LaidReads::none(),
         }
     }
 
-    /// What is recorded: where it is known, what each cell reads, and the values by which it looks
-    /// rows up, and nothing else.
+    /// What is recorded: once nothing is laid aside, what each cell reads, and the values by which
+    /// it looks rows up, and nothing else.
     ///
     /// Memory: none.
     pub fn graph(&self) -> &DepGraph
         ensures { result.now ≡ self.now.graph }
     {
-        self.graph.graph()
+        &self.graph
     }
 
-    /// Whether it is known what cells read.
+    /// Records again what ways back laid aside.
+    ///
+    /// Errors: out of memory; what is not recorded yet is still laid aside.
+    /// Memory and cost: what the graph takes of it; none where nothing was laid aside.
+    pub fn put_owed(&mut self) -> Result<(), AllocError>
+        ensures known { (s : Document) → KnowsReads s self.old → KnowsReads s self.new }
+        ensures exact { OnOk result
+            ((s : Document) → KnowsReads s self.old → KnowsExact s self.new) }
+    {
+        let mut turned = LaidReads::none();
+        turn_over(&mut self.owed, &mut turned);
+        let done = put_all_back(&mut self.graph, &mut turned);
+        turn_over(&mut turned, &mut self.owed);
+        done
+    }
+
+    /// Lays aside what a way back must restore.
     ///
     /// Memory: none.
-    pub fn is_known(&self) -> bool
-        ensures { result ≡ not self.now.are_all_stale }
+    pub fn lay(&mut self, before: ReadsBefore)
+        ensures graph { self.new.graph ≡ self.old.graph }
+        ensures stale { self.new.stale ≡ self.old.stale }
+        ensures owed { self.new.owed ≡ before.were.items ∷ self.old.owed }
     {
-        !self.are_all_stale
+        self.owed.lay(before);
     }
 
-    /// Whether it was found that all reads are too many to be recorded.
+    /// Begins to note what cells read that come to read something else.
     ///
     /// Memory: none.
-    pub fn is_wide(&self) -> bool {
-        self.is_wide
+    pub(crate) fn watch(&mut self, alloc: Global)
+        ensures graph { self.new.graph ≡ self.old.graph }
+        ensures stale { self.new.stale ≡ self.old.stale }
+        ensures log { self.new.log ≡ [] }
+        ensures owed { self.new.owed ≡ self.old.owed }
+    {
+        self.log = Vec::new(alloc);
     }
 
-    /// Lets reads be recorded again where they were too many: formulas may have changed.
+    /// Hands out what was noted.
     ///
     /// Memory: none.
-    pub fn try_again(&mut self)
-        ensures { self.new ≡ self.old }
+    pub(crate) fn take_before(&mut self, alloc: Global, room: Box<LaidReads>) -> ReadsBefore
+        ensures graph { self.new.graph ≡ self.old.graph }
+        ensures stale { self.new.stale ≡ self.old.stale }
+        ensures owed { self.new.owed ≡ self.old.owed }
+        ensures were { result.were.items ≡ self.old.log }
     {
-        self.is_wide = false;
+        let were = mem::replace(&mut self.log, Vec::new(alloc));
+        ReadsBefore { were, room }
     }
 
-    // Gives the graph up, so that its memory is free.
-    fn give_up(&mut self, alloc: Global)
-        ensures { (s : Document) → KnowsReads s self.new }
+    /// Lays aside what was noted, where cells could not be evaluated.
+    ///
+    /// Memory: none.
+    pub(crate) fn lay_noted(&mut self, alloc: Global, room: Box<LaidReads>)
+        ensures graph { self.new.graph ≡ self.old.graph }
+        ensures stale { self.new.stale ≡ [] }
+        ensures owed { self.new.owed ≡ self.old.log ∷ self.old.owed }
     {
-        self.graph = BoundedGraph::new(alloc, MAX_READS);
-        self.note_all();
+        let were = mem::replace(&mut self.log, Vec::new(alloc));
+        self.owed.lay(ReadsBefore { were, room });
+        self.stale = Vec::new(alloc);
     }
 
     /// Records what the stale cells read, of an evaluated document. Makes the indexes of the data
-    /// columns by which these look rows up, where they have none. Where memory is wanting, or the
-    /// graph has no room, nothing is known, and the indexes are given up.
+    /// columns by which these look rows up, where they have none.
     ///
-    /// Memory: notes, what the graph takes of them, and the indexes; none that is needed.
+    /// Errors: out of memory; the indexes are then to be given up.
+    /// Memory: notes, what the graph takes of them, and the indexes.
     /// Cost: one attempt a stale cell, and the making of the indexes.
     pub(crate) fn record_stale<D: DocTables, L: Ledger>(
         &mut self,
@@ -152,207 +164,96 @@ impl KnownReads {
         kept: &[KeptTable],
         indexes: &mut Vec<ColumnIndex>,
         steps: &mut Steps<L>,
-    )
+    ) -> Result<(), AllocError>
         requires whole { IsWhole (D.document tables.now) }
         requires indexed { AreIndexes (sheet_of (D.document tables.now)) indexes.old.items }
         requires evaluated { IsEvaluated (D.document tables.now) kept.now }
         requires others { KnowsOthers (D.document tables.now) self.old }
-        ensures reads { KnowsReads (D.document tables.now) self.new }
-        ensures indexed { AreIndexes (sheet_of (D.document tables.now)) indexes.new.items }
+        ensures reads { OnOk result (HasNotes self.new.graph (sheet_of (D.document tables.now))) }
+        ensures stale { self.new.stale ≡ [] }
+        ensures owed { self.new.owed ≡ self.old.owed }
+        ensures indexed { OnOk result
+            (AreIndexes (sheet_of (D.document tables.now)) indexes.new.items) }
         ensures steps { steps.new ≤ steps.old + length self.old.stale }
+        ensures watched { ((c : CellId) → is_stale self.old c ≡ true
+            → is_some (were self.old.log c) ≡ true) → IsWatched self.old self.new }
     {
-        if self.are_all_stale {
-            self.note_all();
-            return;
-        }
         let cells = mem::replace(&mut self.stale, Vec::new(alloc));
         let graph = &mut self.graph;
         let stale = cells.as_slice();
-        if record_cells(alloc, tables, kept, indexes, graph, stale, steps).is_err() {
-            *indexes = Vec::new(alloc);
-            self.note_all();
-        }
+        record_cells(alloc, tables, kept, indexes, graph, stale, steps)
     }
 
-    // The same, in a count of its own.
-    fn record_alone<D: DocTables, L: Ledger>(
-        &mut self,
-        alloc: Global,
-        tables: &D,
-        kept: &[KeptTable],
-        indexes: &mut Vec<ColumnIndex>,
-        blank: Blank,
-    )
-        requires name { blank.name ≡ L.name }
-        requires parts { blank.parts ≡ L.parts }
-        requires some { 0 < L.parts }
-        requires whole { IsWhole (D.document tables.now) }
-        requires indexed { AreIndexes (sheet_of (D.document tables.now)) indexes.old.items }
-        requires evaluated { IsEvaluated (D.document tables.now) kept.now }
-        requires others { KnowsOthers (D.document tables.now) self.old }
-        ensures reads { KnowsReads (D.document tables.now) self.new }
-        ensures indexed { AreIndexes (sheet_of (D.document tables.now)) indexes.new.items }
-    {
-        let mut steps = Steps::<L>::new(blank);
-        self.record_stale(alloc, tables, kept, indexes, &mut steps);
-    }
-
-    /// Records what the noted cells read, of an evaluated document: then the graph has the reads of
-    /// each formula cell, and no others. Makes the indexes of the data columns by which these look
-    /// rows up, where they have none. Where memory is wanting, or the graph has no room, nothing is
-    /// known, and the indexes are given up.
+    /// Notes a cell as stale, and what it read.
     ///
-    /// Memory: notes, what the graph takes of them, and the indexes; none that is needed.
-    /// Cost: one attempt a noted cell, and the making of the indexes.
-    pub fn record_noted<D: DocTables>(
-        &mut self,
-        alloc: Global,
-        tables: &D,
-        kept: &[KeptTable],
-        indexes: &mut Vec<ColumnIndex>,
-    )
-        requires whole { IsWhole (D.document tables.now) }
-        requires indexed { AreIndexes (sheet_of (D.document tables.now)) indexes.old.items }
-        requires evaluated { IsEvaluated (D.document tables.now) kept.now }
-        requires others { KnowsOthers (D.document tables.now) self.old }
-        ensures reads { KnowsReads (D.document tables.now) self.new }
-        ensures indexed { AreIndexes (sheet_of (D.document tables.now)) indexes.new.items }
-    {
-        self.record_alone::<D, Brand>(alloc, tables, kept, indexes, Blank::new(1));
-    }
-
-    /// Begins to note which cells come to read something else, or stale; these cells are noted.
-    ///
-    /// Memory: none.
-    pub(crate) fn watch(&mut self, cells: Vec<CellId>)
+    /// Errors: out of memory; it is not stale then.
+    pub(crate) fn add_stale(&mut self, cell: &CellId) -> Result<(), AllocError>
         ensures graph { self.new.graph ≡ self.old.graph }
-        ensures stale { (c : CellId) → is_stale self.new c ≡ is_stale self.old c }
-        ensures list { self.new.stale ≡ self.old.stale }
-        ensures renewed { (c : CellId) → is_one_of self.new.renewed c ≡ on cells.items c }
-    {
-        self.renewed = SomeCells::of(cells);
-    }
-
-    /// Hands out the cells that were noted, and notes no more.
-    ///
-    /// Memory: none.
-    pub(crate) fn take_renewed(&mut self, alloc: Global) -> SomeCells
-        ensures graph { self.new.graph ≡ self.old.graph }
-        ensures stale { (c : CellId) → is_stale self.new c ≡ is_stale self.old c }
-        ensures list { self.new.stale ≡ self.old.stale }
-        ensures renewed { result ≡ self.old.renewed }
-    {
-        mem::replace(&mut self.renewed, SomeCells::all(alloc))
-    }
-
-    // Notes a cell that may be stale from now on.
-    fn note_renewed(&mut self, cell: &CellId)
-        ensures graph { self.new.graph ≡ self.old.graph }
-        ensures stale { (c : CellId) → is_stale self.new c ≡ is_stale self.old c }
-        ensures list { self.new.stale ≡ self.old.stale }
-        ensures renewed { (c : CellId)
-            → (is_one_of self.old.renewed c || on (cell.now ∷ []) c) ≡ true
-            → is_one_of self.new.renewed c ≡ true }
-    {
-        match cell_id(&cell.table, &cell.column, cell.row) {
-            Ok(copy) => self.renewed.note(copy),
-            Err(_) => self.renewed.are_all = true,
-        }
-    }
-
-    /// Notes a cell as stale; all cells, where there is no memory for it.
-    pub(crate) fn add_stale(&mut self, cell: CellId)
-        ensures graph { self.new.graph ≡ self.old.graph }
-        ensures stale { (c : CellId) → (is_stale self.old c || on (cell ∷ []) c) ≡ true
-            → is_stale self.new c ≡ true }
+        ensures stale { OnOk result ((c : CellId)
+            → (is_stale self.old c || on (cell.now ∷ []) c) ≡ true → is_stale self.new c ≡ true) }
+        ensures left { OnErr result (self.new.stale ≡ self.old.stale) }
         ensures list { length self.new.stale ≤ length self.old.stale + 1 }
-        ensures watched { (s : Sheet) → IsWatched s self.old self.new }
+        ensures watched { IsWatched self.old self.new }
     {
-        if self.are_all_stale {
-            drop(cell);
-            return;
-        }
-        self.note_renewed(&cell);
-        if self.stale.push(cell).is_err() {
-            self.are_all_stale = true;
-            self.renewed.are_all = true;
-        }
+        let copy = cell_id(&cell.table, &cell.column, cell.row)?;
+        self.stale.reserve(1)?;
+        self.graph.note(cell, &mut self.log)?;
+        self.stale.push_reserved(copy);
+        Ok(())
     }
 
-    /// Records what the run that gave a cell its value noted, unless all cells are stale. Notes all
-    /// as stale, where the graph has no room for it, or there is no memory.
+    /// Records what the run that gave a cell its value noted. Where that is something else than
+    /// before, it is noted what the cell read.
     ///
-    /// Memory: what the graph takes, and a cell that reads something else.
-    pub(crate) fn keep_notes(&mut self, cell: CellId, given: &NoteRuns)
-        ensures noted { (s : Sheet) → notes s cell ≡ given.now
-            → IsNotedOf self.old self.new s cell }
+    /// Errors: out of memory; the cell then reads what it read.
+    /// Memory: what the graph takes, and what a cell read that reads something else.
+    pub(crate) fn keep_notes(&mut self, cell: &CellId, given: &NoteRuns) -> Result<(), AllocError>
+        ensures noted { OnOk result ((s : Sheet) → notes s cell.now ≡ given.now
+            → IsNotedOf self.old self.new s cell.now) }
+        ensures left { OnErr result (IsKept self.old.graph self.new.graph) }
         ensures list { self.new.stale ≡ self.old.stale }
+        ensures watched { IsWatched self.old self.new }
     {
-        if self.are_all_stale {
-            drop(cell);
-            return;
-        }
-        match self.graph.set(&cell, given) {
-            Ok(false) => drop(cell),
-            Ok(true) => self.renewed.note(cell),
-            Err(_) => {
-                drop(cell);
-                self.are_all_stale = true;
-                self.renewed.are_all = true;
-            }
-        }
+        self.graph.set_noting(cell, given, &mut self.log)
     }
 
-    /// Gives the graph up where it has no room for the reads of all cells: they are too many until
-    /// formulas change.
-    ///
-    /// Memory: none.
-    pub(crate) fn give_up_where_full(&mut self, alloc: Global)
-        ensures { (s : Document) → KnowsReads s self.old → KnowsReads s self.new }
-    {
-        if self.are_all_stale && self.graph.is_full() {
-            self.give_up(alloc);
-            self.is_wide = true;
-        }
-    }
-
-    /// Forgets what is recorded of those of these cells that are no formula cells.
-    ///
-    /// Memory: none. Cost: each of the cells is looked up.
-    pub fn forget_plain<D: DocTables>(&mut self, tables: &D, cells: &[CellId])
-        ensures knows { KnowsBut (D.document tables.now) self.old cells.now
-            → KnowsButFormulas (D.document tables.now) self.new cells.now }
-        ensures stale { (c : CellId) → is_stale self.new c ≡ is_stale self.old c }
+    // Forgets what a cell reads, where it is no formula cell. It is noted what it read.
+    fn forget_where<D: DocTables>(&mut self, tables: &D, cell: &CellId) -> Result<(), AllocError>
+        ensures plain { OnOk result (formula_at (D.document tables.now) cell.now ≡ None
+            → IsRead (D.document tables.now) self.new.graph cell.now) }
+        ensures keeps { KeepsReads (sheet_of (D.document tables.now)) self.old.graph
+            self.new.graph }
         ensures list { self.new.stale ≡ self.old.stale }
-        ensures watched { IsWatched (sheet_of (D.document tables.now)) self.old self.new }
+        ensures watched { IsWatched self.old self.new }
+        ensures gone { OnOk result
+            (IsGoneNoted (D.document tables.now) self.old self.new cell.now) }
     {
-        forget_plain(tables, &mut self.graph, cells);
-    }
-
-    /// Notes some cells as stale.
-    ///
-    /// Memory: none.
-    pub fn note_some(&mut self, some: SomeCells)
-        ensures { IsNoted self.old self.new some }
-    {
-        let SomeCells { cells, are_all } = some;
-        if are_all || !self.stale.is_empty() {
-            drop(cells);
-            self.note_all();
-        } else {
-            self.stale = cells;
+        if is_formula_cell(tables, cell) {
+            return Ok(());
         }
+        self.graph.drop_noting(cell, &mut self.log)
     }
 
-    /// Nothing is known from now on.
+    /// Forgets what is recorded of those of these cells that are no formula cells. It is noted what
+    /// they read.
     ///
-    /// Memory: none.
-    pub fn note_all(&mut self)
-        ensures all { self.new.are_all_stale ≡ true }
-        ensures graph { self.new.graph ≡ self.old.graph }
-        ensures known { (s : Document) → KnowsReads s self.new }
+    /// Errors: out of memory; it is noted of each that was forgotten.
+    /// Memory: what is noted. Cost: each of the cells is looked up.
+    pub(crate) fn forget_plain<D: DocTables>(
+        &mut self,
+        tables: &D,
+        cells: &[CellId],
+    ) -> Result<(), AllocError>
+        ensures knows { OnOk result (KnowsBut (D.document tables.now) self.old cells.now
+            → KnowsButFormulas (D.document tables.now) self.new cells.now) }
+        ensures list { self.new.stale ≡ self.old.stale }
+        ensures watched { IsWatched self.old self.new }
+        ensures gone { OnOk result ((c : CellId) → on cells.now c ≡ true
+            → IsGoneNoted (D.document tables.now) self.old self.new c) }
     {
-        self.stale.clear();
-        self.are_all_stale = true;
+        for cell in cells {
+            self.forget_where(tables, cell)?;
+        }
+        Ok(())
     }
 }

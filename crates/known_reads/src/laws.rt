@@ -1,6 +1,6 @@
 //! Laws of a graph beside the values, over changes of the document.
 
-ghost use Rattle.known_reads.specs.Beside.{NotedLaw, ReadsSameLaw};
+ghost use Rattle.known_reads.specs.Beside.{LaidLaw, ReadsSameLaw};
 ghost use Rattle.known_reads.specs.Moved.{ReadsOverLaw, RowsStayLaw};
 
 /// Over an update each formula cell but the found ones reads the same.
@@ -19,8 +19,8 @@ pub fn rows_stay_law()
     ensures { RowsStayLaw }
 {}
 
-/// Where cells are noted as stale that are new or may read something else in another document, the
-/// graph is right of the others there.
-pub fn noted_law()
-    ensures { NotedLaw }
+/// Where notes lead from what cells read to what they read in another document, it is known what
+/// they read there, once the notes are laid aside.
+pub fn laid_law()
+    ensures { LaidLaw }
 {}

@@ -80,8 +80,11 @@ fn keep_attempt<D: DocTables, L: Ledger>(
         return Ok(());
     }
     let value = convert(alloc, ty, &value)?;
+    // What cells read before is not asked for: there was nothing.
+    let done = reads.keep_notes(&cell, &notes);
+    reads.watch(alloc);
+    done?;
     put_value(tables, kept, &cell, value);
-    reads.keep_notes(cell, &notes);
     steps.tick();
     Ok(())
 }

@@ -9,16 +9,18 @@ ghost use Rattle.recalc.specs.Evaluated.{sheet_of};
 ghost use Rattle.recalc.specs.Indexes.{AreIndexes};
 ghost use Rattle.recalc.specs.Kept.{IsEvaluated, IsFurther, IsKeptOf, IsSettled, held_at};
 ghost use Rattle.recalc.specs.Remembered.{IsRemembered};
+ghost use Rattle.recalc.specs.Stack.{on};
 ghost use Rattle.affected_cells.specs.Bound.{attempt_bound};
+ghost use Rattle.affected_search.specs.ExactNotes.{HasNotes};
 ghost use Rattle.affected_values.specs.Taken.{IsHeldWhere, IsRightBut, LeadsBack, taken_of};
 ghost use Rattle.known_reads.specs.Attempts.{HasFormulas, IsWithin, due, most_attempts};
-ghost use Rattle.known_reads.specs.Beside.{KnowsReads};
+ghost use Rattle.known_reads.specs.Beside.{KnowsExact, KnowsReads};
 ghost use Rattle.known_reads.specs.Recorded.{IsRecording, KnowsBut};
-ghost use Rattle.known_reads.specs.Watched.{AreRenewed};
+ghost use Rattle.known_reads.specs.Watched.{AreBefore, IsGoneNoted, IsWatched};
 
 use crate::beside::KnownReads;
+use crate::laid::{LaidReads, ReadsBefore};
 use crate::settling::settle_cell;
-use crate::some_cells::SomeCells;
 use affected_values::{HeldValue, put_values_back, take_values};
 use cell_types::CellId;
 use doc_model::DocTables;
@@ -49,6 +51,7 @@ fn settle_each<D: DocTables, L: Ledger>(
     ensures recording { IsRecording (D.document tables.now)
         (held_at (D.document tables.now) kept.old.items) reads.old
         (held_at (D.document tables.now) kept.new.items) reads.new }
+    ensures watched { IsWatched reads.old reads.new }
     ensures attempts { IsWithin (sheet_of (D.document tables.now))
         (held_at (D.document tables.now) kept.old.items) (due steps.old reads.old) steps.new }
     ensures due { OnOk result (IsWithin (sheet_of (D.document tables.now))
@@ -82,6 +85,7 @@ fn settle_taken<D: DocTables, L: Ledger>(
     ensures recording { IsRecording (D.document tables.now)
         (held_at (D.document tables.now) kept.old.items) reads.old
         (held_at (D.document tables.now) kept.new.items) reads.new }
+    ensures watched { IsWatched reads.old reads.new }
     ensures attempts { IsWithin (sheet_of (D.document tables.now))
         (held_at (D.document tables.now) kept.old.items) (due steps.old reads.old) steps.new }
     ensures due { OnOk result (IsWithin (sheet_of (D.document tables.now))
@@ -97,25 +101,78 @@ fn settle_taken<D: DocTables, L: Ledger>(
     done
 }
 
-/// What was known of cells that are evaluated anew, and the cells that read something else since.
+// Evaluates these cells anew and records what they read, where it is noted what they read that come
+// to read something else.
+//
+// Errors: out of memory; each value is then as it was.
+fn refresh_noting<D: DocTables, L: Ledger>(
+    alloc: Global,
+    tables: &D,
+    kept: &mut Vec<KeptTable>,
+    indexes: &mut Vec<ColumnIndex>,
+    reads: &mut KnownReads,
+    cells: Vec<CellId>,
+    steps: &mut Steps<L>,
+) -> Result<Vec<HeldValue>, AllocError>
+    requires whole { IsWhole (D.document tables.now) }
+    requires indexed { AreIndexes (sheet_of (D.document tables.now)) indexes.old.items }
+    requires of_document { IsKeptOf (D.document tables.now) kept.old.items }
+    requires others { IsRightBut (D.document tables.now) kept.old.items cells.items }
+    requires reads { KnowsBut (D.document tables.now) reads.old cells.items }
+    requires none { reads.old.stale ≡ [] }
+    ensures of_document { IsKeptOf (D.document tables.now) kept.new.items }
+    ensures ok { OnOk result (IsEvaluated (D.document tables.now) kept.new.items) }
+    ensures way { IfOk result (λ taken. LeadsBack (D.document tables.now) taken.items
+        kept.new.items kept.old.items) }
+    ensures reads { OnOk result (HasNotes reads.new.graph (sheet_of (D.document tables.now))) }
+    ensures stale { OnOk result (reads.new.stale ≡ []) }
+    ensures watched { IsWatched reads.old reads.new }
+    ensures gone { OnOk result ((c : CellId) → on cells.items c ≡ true
+        → IsGoneNoted (D.document tables.now) reads.old reads.new c) }
+    ensures err { OnErr result
+        (LeadsBack (D.document tables.now) [] kept.new.items kept.old.items) }
+    ensures indexed { OnOk result
+        (AreIndexes (sheet_of (D.document tables.now)) indexes.new.items) }
+    ensures attempts { steps.new ≤ steps.old
+        + most_attempts (sheet_of (D.document tables.now)) cells.items }
+    ensures named { (all : List CellId) → HasFormulas (D.document tables.now) cells.items all
+        → steps.new ≤ steps.old + attempt_bound (sheet_of (D.document tables.now)) all }
+{
+    let mut taken = Vec::with_capacity(alloc, cells.len())?;
+    reads.forget_plain(tables, cells.as_slice())?;
+    take_values(tables, kept, cells, &mut taken);
+    match settle_taken(alloc, tables, kept, indexes, reads, &taken, steps) {
+        Ok(()) => match reads.record_stale(alloc, tables, kept, indexes, steps) {
+            Ok(()) => Ok(taken),
+            Err(_) => {
+                put_values_back(tables, kept, taken);
+                Err(AllocError)
+            }
+        },
+        Err(_) => {
+            put_values_back(tables, kept, taken);
+            Err(AllocError)
+        }
+    }
+}
+
+/// What was known of cells that are evaluated anew, and what cells read before.
 #[derive(Drop)]
 pub struct Refreshed {
     pub taken: Vec<HeldValue>,
-    pub renewed: SomeCells,
+    pub before: ReadsBefore,
 }
 
 /// Evaluates these cells anew, where the values of all other formula cells are known and right, and
 /// records what they read by the same attempts; of circular cells that were given their values
 /// without a whole run, by one attempt more, once all values are known. What was known of them is
-/// handed out, so that it can be put back, and so are the noted cells with those that read
-/// something else, of which the graph is not right before. Where what a cell reads is not recorded
-/// for want of memory or of room, nothing is known of the graph. Makes the indexes of the data
-/// columns by which the cells look rows up, where they have none.
+/// handed out, so that it can be put back, and so is what cells read that read something else.
+/// Makes the indexes of the data columns by which the cells look rows up, where they have none.
 ///
-/// Errors: out of memory; each value is then as it was, nothing is known of the graph, and the
-/// indexes are to be given up.
+/// Errors: out of memory; each value is then as it was, what cells read that was recorded is laid
+/// aside, and the indexes are to be given up.
 /// Memory: a place for each of the cells, a stack as deep as the chains of those that are
-/// evaluated, what the graph takes, the cells that read something else, and the indexes.
+/// evaluated, what the graph takes, what cells read that read something else, and the indexes.
 /// Cost: that of the cells that are evaluated, and the making of indexes.
 pub fn refresh_recording<D: DocTables, L: Ledger>(
     alloc: Global,
@@ -124,7 +181,6 @@ pub fn refresh_recording<D: DocTables, L: Ledger>(
     indexes: &mut Vec<ColumnIndex>,
     reads: &mut KnownReads,
     cells: Vec<CellId>,
-    noted: Vec<CellId>,
     steps: &mut Steps<L>,
 ) -> Result<Refreshed, AllocError>
     requires whole { IsWhole (D.document tables.now) }
@@ -132,44 +188,37 @@ pub fn refresh_recording<D: DocTables, L: Ledger>(
     requires of_document { IsKeptOf (D.document tables.now) kept.old.items }
     requires others { IsRightBut (D.document tables.now) kept.old.items cells.items }
     requires reads { KnowsBut (D.document tables.now) reads.old cells.items }
+    requires none { reads.old.stale ≡ [] }
+    requires owed { reads.old.owed ≡ [] }
     ensures of_document { IsKeptOf (D.document tables.now) kept.new.items }
     ensures ok { OnOk result (IsEvaluated (D.document tables.now) kept.new.items) }
     ensures way { IfOk result (λ x. LeadsBack (D.document tables.now) x.taken.items
         kept.new.items kept.old.items) }
     ensures reads { OnOk result (KnowsReads (D.document tables.now) reads.new) }
-    ensures renewed { IfOk result
-        (λ x. AreRenewed (D.document tables.now) reads.old noted.items x.renewed) }
+    ensures before { IfOk result
+        (λ x. AreBefore (D.document tables.now) reads.old cells.items x.before.were.items) }
     ensures err { OnErr result
         (LeadsBack (D.document tables.now) [] kept.new.items kept.old.items) }
-    ensures unknown { OnErr result ((s : Document) → KnowsReads s reads.new) }
+    ensures laid { OnErr result
+        ((s : Document) → KnowsExact s reads.old → KnowsReads s reads.new) }
     ensures indexed { OnOk result
         (AreIndexes (sheet_of (D.document tables.now)) indexes.new.items) }
-    // Two attempts a cell at most, and a third for a circular one, whatever comes of them; and one
-    // for each cell that was stale.
-    ensures attempts { steps.new ≤ due steps.old reads.old
+    // Two attempts a cell at most, and a third for a circular one, whatever comes of them.
+    ensures attempts { steps.new ≤ steps.old
         + most_attempts (sheet_of (D.document tables.now)) cells.items }
     // One for each cell, and one for each of them that it names.
     ensures named { (all : List CellId) → HasFormulas (D.document tables.now) cells.items all
-        → steps.new ≤ due steps.old reads.old
-        + attempt_bound (sheet_of (D.document tables.now)) all }
+        → steps.new ≤ steps.old + attempt_bound (sheet_of (D.document tables.now)) all }
 {
-    let Ok(room) = Vec::with_capacity(alloc, cells.len()) else {
-        reads.note_all();
-        return Err(AllocError);
-    };
-    reads.watch(noted);
-    reads.forget_plain(tables, cells.as_slice());
-    let mut taken = room;
-    take_values(tables, kept, cells, &mut taken);
-    match settle_taken(alloc, tables, kept, indexes, reads, &taken, steps) {
-        Ok(()) => {
-            let renewed = reads.take_renewed(alloc);
-            reads.record_stale(alloc, tables, kept, indexes, steps);
-            Ok(Refreshed { taken, renewed })
+    let room = Box::new(alloc, LaidReads::none())?;
+    reads.watch(alloc);
+    match refresh_noting(alloc, tables, kept, indexes, reads, cells, steps) {
+        Ok(taken) => {
+            let before = reads.take_before(alloc, room);
+            Ok(Refreshed { taken, before })
         }
         Err(_) => {
-            put_values_back(tables, kept, taken);
-            reads.note_all();
+            reads.lay_noted(alloc, room);
             Err(AllocError)
         }
     }

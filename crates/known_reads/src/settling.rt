@@ -13,12 +13,14 @@ ghost use Rattle.recalc.specs.Turn.{IsTurn, StaysKnown};
 ghost use Rattle.affected_values.specs.Taken.{IsHeldWhere};
 ghost use Rattle.known_reads.specs.Attempts.{IsNaming, IsSpent, IsWithin, due};
 ghost use Rattle.known_reads.specs.Recorded.{IsRecording};
+ghost use Rattle.known_reads.specs.Watched.{IsWatched};
 
-use crate::attempting::{Found, try_cell};
+use crate::attempting::try_cell;
 use crate::beside::KnownReads;
 use cell_types::{CellId, CellValue, ErrKind};
 use doc_model::DocTables;
 use formula_eval::{Reading, Steps};
+use par_recalc::Found;
 use recalc::{ColumnIndex, KeptTable, LastLookup, cell_id, cell_told, exchange_value};
 use std::alloc::{AllocError, Global};
 use std::sync::ledger::Ledger;
@@ -112,6 +114,7 @@ fn turn<D: DocTables, L: Ledger>(
     ensures recording { IsRecording (D.document tables.now)
         (held_at (D.document tables.now) kept.old.items) reads.old
         (held_at (D.document tables.now) kept.new.items) reads.new }
+    ensures watched { IsWatched reads.old reads.new }
     ensures naming { OnOk result (IsNaming (sheet_of (D.document tables.now)) stack.new.items) }
     ensures steps { steps.new ≤ steps.old + 1 }
     ensures attempts { OnOk result (IsSpent (sheet_of (D.document tables.now))
@@ -124,13 +127,13 @@ fn turn<D: DocTables, L: Ledger>(
     };
     match try_cell(alloc, tables, kept, indexes, last, &top, steps)? {
         Found::Value { value, notes } => {
+            reads.keep_notes(&top, &notes)?;
             put_value(tables, kept, &top, value);
-            reads.keep_notes(top, &notes);
         }
         Found::Need(cell) => {
             if is_on(&*stack, &top, &cell) {
+                reads.add_stale(&top)?;
                 put_value(tables, kept, &top, CellValue::Err(ErrKind::Circular));
-                reads.add_stale(top);
                 return Ok(());
             }
             stack.push(top)?;
@@ -141,8 +144,7 @@ fn turn<D: DocTables, L: Ledger>(
 }
 
 /// Makes the value of a cell known, where it is a formula cell, and records what it reads, and each
-/// cell that it needs and whose value was not known. A cell that waits for itself is stale then,
-/// and all cells are where reads cannot be recorded.
+/// cell that it needs and whose value was not known. A cell that waits for itself is stale then.
 ///
 /// Errors: out of memory; what was known is then known still, and what is known is right.
 /// Memory: a stack as deep as the chain of cells that it needs, the values, and what the graph
@@ -170,6 +172,7 @@ pub(crate) fn settle_cell<D: DocTables, L: Ledger>(
     ensures recording { IsRecording (D.document tables.now)
         (held_at (D.document tables.now) kept.old.items) reads.old
         (held_at (D.document tables.now) kept.new.items) reads.new }
+    ensures watched { IsWatched reads.old reads.new }
     ensures attempts { OnOk result (IsSpent (sheet_of (D.document tables.now))
         (held_at (D.document tables.now) kept.old.items) [] (due steps.old reads.old)
         (held_at (D.document tables.now) kept.new.items) [] (due steps.new reads.new)) }

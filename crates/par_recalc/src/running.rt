@@ -23,13 +23,13 @@ const LEAST_PIECE: usize = 512;
 /// What is found of a cell.
 #[derive(Drop)]
 pub enum Found {
-    /// The value, not yet fitted to its column, and what its run noted.
+    /// The value, and what its run noted.
     Value { value: CellValue, notes: NoteRuns },
     /// A cell whose value is needed first.
     Need(CellId),
 }
 
-/// A cell and what an attempt at it comes to.
+/// A cell and what an attempt at it comes to: its value is not yet fitted to its column.
 #[derive(Drop)]
 pub struct CellAttempt {
     pub cell: CellId,

@@ -1,20 +1,24 @@
 //! Plan: how often changes of documents of ten thousand rows ask the store for a cell
 //! (`changes_ask_for_what_they_affect`): an edit at the end of a chain, one at its start, a value
 //! that lookups sum up, and a key by which they find it; first ones after a change that was taken
-//! back, which leaves nothing to do. Evaluation afresh asks for each cell that a formula reads, and
-//! an index made anew for each cell of its column, so both would show. And that a touched cell is
-//! evaluated anew with those that it affects, and no others (`touched_cells_are_evaluated_anew`).
+//! back, which leaves nothing to attempt. Evaluation afresh asks for each cell that a formula
+//! reads, and an index made anew for each cell of its column, so both would show. And that a
+//! touched cell is evaluated anew with those that it affects, and no others
+//! (`touched_cells_are_evaluated_anew`).
 //! Out of memory counts as false.
 
 ghost use Rattle.std.specs.Prelude.{◌≡◌};
 
 use crate::changes::{modify, name};
 use crate::counted::CountedTables;
+use crate::counting::change_alone;
 use cell_types::{CellId, CellIdList, CellValue, ReadList, RowList, ValueList};
 use doc_model::laws::new_document_law;
 use doc_model::{CellColumn, ColumnList, DocAction, DocReader};
 use evaluated_doc::{Doc, Touched};
 use std::alloc::{AllocError, Global};
+use std::marker::Brand;
+use std::sync::ledger::Blank;
 use std::thread::Threads;
 
 const ROWS: u32 = 10_000;
@@ -91,7 +95,9 @@ fn is_done(
     action: Result<DocAction, AllocError>,
 ) -> bool {
     match action {
-        Ok(action) => doc.change(alloc, &action).is_ok(),
+        Ok(action) => {
+            change_alone::<CountedTables, Brand>(alloc, doc, &action, Blank::new(1)).is_ok()
+        }
         Err(_) => false,
     }
 }
@@ -105,7 +111,7 @@ fn is_taken_back(
     let Ok(action) = action else {
         return false;
     };
-    match doc.change(alloc, &action) {
+    match change_alone::<CountedTables, Brand>(alloc, doc, &action, Blank::new(1)) {
         Ok(trace) => {
             doc.go_back(trace);
             true

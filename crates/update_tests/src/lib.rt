@@ -18,6 +18,8 @@ mod costs;
 #[cfg(test)]
 mod counted;
 #[cfg(test)]
+mod counting;
+#[cfg(test)]
 mod draws;
 #[cfg(test)]
 mod tests;

@@ -8,6 +8,7 @@ ghost use Rattle.doc_model.specs.Document.{Document};
 ghost use Rattle.doc_model.specs.DocumentLaws.{IsWhole};
 
 use crate::changes::{change, opening};
+use crate::counting::change_alone;
 use crate::draws::Draws;
 use cell_types::{Name, Same};
 use doc_model::laws::new_document_law;
@@ -15,6 +16,8 @@ use doc_model::{ColDef, DocAction, DocReader};
 use evaluated_doc::{ChangeFault, Doc};
 use row_tables::RowTables;
 use std::alloc::{AllocError, Global};
+use std::marker::Brand;
+use std::sync::ledger::Blank;
 use std::thread::Threads;
 
 const CHANGES: u32 = 10_000;
@@ -106,7 +109,7 @@ fn play<R: Threads + Sync>(
     doc: &mut Doc<RowTables>,
     action: &DocAction,
 ) -> Option<bool> {
-    match doc.change(alloc, action) {
+    match change_alone::<RowTables, Brand>(alloc, doc, action, Blank::new(1)) {
         Ok(trace) => {
             let is_right = !trace.is_whole() && is_as_started(rt, alloc, &*doc);
             doc.go_back(trace);
@@ -133,7 +136,7 @@ pub(crate) fn is_done<R: Threads + Sync>(
     action: &DocAction,
     may_be_whole: bool,
 ) -> bool {
-    match doc.change(alloc, action) {
+    match change_alone::<RowTables, Brand>(alloc, doc, action, Blank::new(1)) {
         Ok(trace) => {
             let is_right = may_be_whole || !trace.is_whole();
             drop(trace);

@@ -12,6 +12,7 @@ ghost use Rattle.action_censor.specs.Step.{are_records, is_of_records, step_of};
 
 use crate::bundles::{Edit, Given, bundle_of};
 use crate::by_hand::ByHand;
+use crate::counting::change_alone;
 use crate::steps::name;
 use crate::told_views::{changes_line, is_line, view_line};
 use Edit::{Add, Formula, Remove, Update};
@@ -25,6 +26,8 @@ use plain_view::changes;
 use recalc::laws::laid_out_law;
 use row_tables::RowTables;
 use std::alloc::{AllocError, Global};
+use std::marker::Brand;
+use std::sync::ledger::Blank;
 use std::thread::Threads;
 
 /// Of a context: the hidden column, the one whose formula is hidden, the guarded one, and whether
@@ -58,7 +61,7 @@ fn done_one(
     doc: &mut Doc<RowTables>,
     action: &DocAction,
 ) -> Result<Trace<RowTables>, AllocError> {
-    match doc.change(alloc, action) {
+    match change_alone::<RowTables, Brand>(alloc, doc, action, Blank::new(1)) {
         Ok(trace) => Ok(trace),
         Err(_) => Err(AllocError),
     }

@@ -21,6 +21,8 @@ mod censored;
 #[cfg(test)]
 mod changes;
 #[cfg(test)]
+mod counting;
+#[cfg(test)]
 mod narrow;
 #[cfg(test)]
 mod parts;

@@ -14,7 +14,7 @@ pub returns-clause-led : goal.returns-clause-led
 returns-clause-led g c =
     let fits = g.D.DocTables.fits in
     let undone = g.D.DocTables.undone in
-    let t = g.D.DocReader.document c.put.new.self in
+    let t = g.D.DocReader.document c.put_alone.new.doc in
     let P : List (Changed g.row.D-Back.Denot) → Type 0 = λ l. AllLeadBack fits undone l t in
     let Q : Document → Type 0 = λ s. AllLeadBack fits undone c.args.trail.now.traces.items s in
     subst P (sym (c.push_reserved.ensures.items ∙ ap (λ l. l ++ c.in_ok-trace.trace ∷ []) c.in_ok-reserve.ensures.items))
@@ -24,7 +24,7 @@ pub returns-clause-back : goal.returns-clause-back
 returns-clause-back g c =
     let fits = g.D.DocTables.fits in
     let undone = g.D.DocTables.undone in
-    let t = g.D.DocReader.document c.put.new.self in
+    let t = g.D.DocReader.document c.put_alone.new.doc in
     ap (λ l. gone_back fits undone l t) (c.push_reserved.ensures.items ∙ ap (λ l. l ++ c.in_ok-trace.trace ∷ []) c.in_ok-reserve.ensures.items)
     ∙ rolled_back-last (led_back fits undone) (IsWayBack fits undone) c.args.trail.now.traces.items c.in_ok-trace.trace t
     ∙ ap (gone_back fits undone c.args.trail.now.traces.items) c.in_ok-trace.ensures.back

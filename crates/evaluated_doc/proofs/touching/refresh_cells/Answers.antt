@@ -1,4 +1,3 @@
-use Rattle.known_reads.proofs.BesideLemmas.{knows_others}
 use Rattle.evaluated_doc.proofs.TouchedLemmas.{as_before, right_all}
 use Rattle.evaluated_doc.proofs.touching.refresh_cells.Goals as goal
 
@@ -6,10 +5,10 @@ pub refresh_recording-requires-clause-others : goal.refresh_recording-requires-c
 refresh_recording-requires-clause-others g c = right_all (g.D.DocReader.document c.args.tables.now) c.args.kept.now.items c.args.cells.items c.requires.evaluated
 
 pub refresh_recording-requires-clause-reads : goal.refresh_recording-requires-clause-reads
-refresh_recording-requires-clause-reads g c = λ d fresh other. knows_others (g.D.DocReader.document c.args.tables.now) c.args.reads.now c.requires.known d fresh
+refresh_recording-requires-clause-reads g c = λ d fresh other. c.requires.known.each d
 
 pub returns-clause-known : goal.returns-clause-known
-returns-clause-known g c = c.in-Err.ensures.unknown (g.D.DocReader.document c.args.tables.now)
+returns-clause-known g c = c.in-Err.ensures.laid (g.D.DocReader.document c.args.tables.now) c.requires.known
 
 pub returns-clause-evaluated : goal.returns-clause-evaluated
 returns-clause-evaluated g c =

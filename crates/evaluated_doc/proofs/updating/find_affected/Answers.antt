@@ -8,7 +8,7 @@ use Rattle.affected_search.specs.ExactNotes.{HasNotes}
 use Rattle.affected_search.specs.Noted.{HoldsNotes}
 use Rattle.affected_search.specs.Sheets.{is_found}
 use Rattle.affected_search.proofs.ExactNotes.{exact}
-use Rattle.evaluated_doc.proofs.SpentLemmas.{named_affected, not_true}
+use Rattle.evaluated_doc.proofs.SpentLemmas.{named_affected}
 use Rattle.evaluated_doc.proofs.updating.find_affected.Goals as goal
 
 pub returns-clause-found : goal.returns-clause-found
@@ -18,8 +18,7 @@ returns-clause-found g c =
     let graph = c.args.reads.now.graph in
     let found = c.in_ok-found.found in
     let cells = c.in_ok-cells.cells.items in
-    let all : c.args.reads.now.are_all_stale ≡ false = not_true c.args.reads.now.are_all_stale (sym c.is_known.ensures ∙ c.if-not-is_known.false) in
-    let has : HasNotes graph (sheet_of s) = c.requires.known.each all in
+    let has : HasNotes graph (sheet_of s) = c.requires.known.each in
     let held : HoldsNotes c.graph.result.now (sheet_of s) = subst (λ gr. HoldsNotes gr (sheet_of s)) (sym c.graph.ensures) (exact graph (sheet_of s) has).0 in
     let keeps : KeepsOthers s graph a found = subst (λ gr. KeepsOthers s gr a found) c.graph.ensures (c.in_ok-found.ensures.others held) in
     let finds : FindsAffected s c.graph-2.result.now a found = subst (λ gr. FindsAffected s gr a found) (c.graph.ensures ∙ sym c.graph-2.ensures)

@@ -6,6 +6,7 @@ use Rattle.affected_values.proofs.RefreshedLemmas.{IsHeldOf, held_stays, taken_k
 use Rattle.known_reads.specs.Attempts.{due}
 use Rattle.known_reads.proofs.BoundLemmas.{due_within, spent_next, spent_within, within_next}
 use Rattle.known_reads.proofs.RecordedLemmas.{recording_next}
+use Rattle.known_reads.proofs.WatchedLemmas.{watched_next}
 use Rattle.known_reads.proofs.refreshing.settle_each.Goals as goal
 
 pub returns-in_err-settle_cell-clause-recording : goal.returns-in_err-settle_cell-clause-recording
@@ -25,6 +26,7 @@ loop-held-preserved g c =
           (subst (IsHeldOf s c.settle_cell.new.kept.items) c.held-item.is c.in_ok-settle_cell.ensures.known) c.loop-held.invariant.known;
       indexed = c.in_ok-settle_cell.ensures.indexed;
       remembered = c.in_ok-settle_cell.ensures.remembered;
+      watched = watched_next c.args.reads.now c.loop-held.reads c.settle_cell.new.reads c.loop-held.invariant.watched c.settle_cell.ensures.watched;
       recording = recording_next s (held_at s c.args.kept.now.items) (held_at s c.loop-held.kept.items) (held_at s c.settle_cell.new.kept.items) c.args.reads.now c.loop-held.reads c.settle_cell.new.reads
           c.loop-held.invariant.recording c.settle_cell.ensures.recording;
       attempts = spent_next (sheet_of s) (held_at s c.args.kept.now.items) (held_at s c.loop-held.kept.items) (held_at s c.settle_cell.new.kept.items) [] [] [] (due c.args.steps.now c.args.reads.now) (due c.loop-held.steps c.loop-held.reads) (due c.settle_cell.new.steps c.settle_cell.new.reads)
@@ -52,3 +54,6 @@ pub returns-clause-due : goal.returns-clause-due
 returns-clause-due g c =
     let s = g.D.DocReader.document c.args.tables.now in
     spent_within (sheet_of s) (held_at s c.args.kept.now.items) (held_at s c.loop-held.kept.items) [] (due c.args.steps.now c.args.reads.now) (due c.loop-held.steps c.loop-held.reads) refl c.loop-held.invariant.attempts
+
+pub returns-in_err-settle_cell-clause-watched : goal.returns-in_err-settle_cell-clause-watched
+returns-in_err-settle_cell-clause-watched g c = watched_next c.args.reads.now c.loop-held.reads c.settle_cell.new.reads c.loop-held.invariant.watched c.settle_cell.ensures.watched

@@ -9,6 +9,7 @@ use Rattle.known_reads.specs.Attempts.{IsSpent, due, height}
 use Rattle.known_reads.proofs.BoundLemmas.{due_within, some_left, spent_err, spent_next, spent_within}
 use Rattle.known_reads.proofs.CountLemmas.{stack_few}
 use Rattle.known_reads.proofs.RecordedLemmas.{empty_list, recording_next}
+use Rattle.known_reads.proofs.WatchedLemmas.{watched_next}
 use Rattle.known_reads.proofs.settling.settle_cell.Goals as goal
 
 pub settling-preserved : goal.settling-preserved
@@ -21,6 +22,7 @@ settling-preserved g c =
       settling = settling_turn (sheet_of s) (held_at s c.args.kept.now.items) c.args.cell.now (held_at s c.settling.kept.items) (held_at s c.turn.new.kept.items) c.settling.stack.items c.turn.new.stack.items
           c.settling.invariant.settling c.in_ok-turn.ensures.turn;
       stays = λ d h. c.turn.ensures.stays d (c.settling.invariant.stays d h);
+      watched = watched_next c.args.reads.now c.settling.reads c.turn.new.reads c.settling.invariant.watched c.turn.ensures.watched;
       recording = recording_next s (held_at s c.args.kept.now.items) (held_at s c.settling.kept.items) (held_at s c.turn.new.kept.items) c.args.reads.now c.settling.reads c.turn.new.reads
           c.settling.invariant.recording c.turn.ensures.recording;
       naming = c.in_ok-turn.ensures.naming;
@@ -71,3 +73,6 @@ returns-clause-most g c =
     let none : length c.settling.stack.items ≡ 0 = search rules in
     due_within (sheet_of s) (held_at s c.args.kept.now.items) (due c.args.steps.now c.args.reads.now) c.settling.steps c.settling.reads
     (spent_within (sheet_of s) (held_at s c.args.kept.now.items) (held_at s c.settling.kept.items) c.settling.stack.items (due c.args.steps.now c.args.reads.now) (due c.settling.steps c.settling.reads) (ap height (empty_list c.settling.stack.items none)) c.settling.invariant.attempts)
+
+pub returns-in_err-turn-clause-watched : goal.returns-in_err-turn-clause-watched
+returns-in_err-turn-clause-watched g c = watched_next c.args.reads.now c.settling.reads c.turn.new.reads c.settling.invariant.watched c.turn.ensures.watched

@@ -7,6 +7,7 @@ use Rattle.recalc.specs.Stack.{work}
 use Rattle.recalc.specs.Turn.{IsSettling, StaysKnown}
 use Rattle.known_reads.specs.Attempts.{IsNaming, IsSpent, due}
 use Rattle.known_reads.specs.Recorded.{IsRecording}
+use Rattle.known_reads.specs.Watched.{IsWatched}
 use Rattle.known_reads.proofs.settling.settle_cell.Given as goal
 
 abbrev pub invariant-settling : goal.invariant-settling
@@ -17,6 +18,7 @@ invariant-settling g l = record {
   settling : IsSettling (sheet_of (g.D.DocReader.document l.tables)) (held_at (g.D.DocReader.document l.tables) l.initial.kept.items) l.cell
       (held_at (g.D.DocReader.document l.tables) l.kept.items) l.stack.items;
   stays : StaysKnown (held_at (g.D.DocReader.document l.tables) l.initial.kept.items) (held_at (g.D.DocReader.document l.tables) l.kept.items);
+  watched : IsWatched l.initial.reads l.reads;
   recording : IsRecording (g.D.DocReader.document l.tables) (held_at (g.D.DocReader.document l.tables) l.initial.kept.items) l.initial.reads
       (held_at (g.D.DocReader.document l.tables) l.kept.items) l.reads;
   naming : IsNaming (sheet_of (g.D.DocReader.document l.tables)) l.stack.items;

@@ -10,7 +10,7 @@ use Rattle.recalc.proofs.SheetLemmas.{is_sheet}
 use Rattle.known_reads.specs.Attempts.{IsNaming, due}
 use Rattle.known_reads.specs.Recorded.{IsTold}
 use Rattle.known_reads.proofs.BoundLemmas.{close_spent, naming_front, naming_push, push_spent, put_spent}
-use Rattle.known_reads.proofs.RecordedLemmas.{noted_same, recording_put}
+use Rattle.known_reads.proofs.RecordedLemmas.{noted_same, recording_kept, recording_put}
 use Rattle.known_reads.proofs.settling.turn.Goals as goal
 
 pub try_cell-requires-clause-opened : goal.try_cell-requires-clause-opened
@@ -37,8 +37,8 @@ returns-then-is_on-clause-turn g c =
     c.in-Need.cell (held_at s c.put_value-then-is_on.new.kept.items) (rw c.in-Need.is at told).0 (sym (rw c.deref-in-Need.ensures.value at c.is_on.ensures) ∙ c.if-is_on.true)
     c.put_value-then-is_on.ensures.put
 
-pub returns-in-Value-clause-turn : goal.returns-in-Value-clause-turn
-returns-in-Value-clause-turn g c =
+pub returns-in_ok-keep_notes-in-Value-clause-turn : goal.returns-in_ok-keep_notes-in-Value-clause-turn
+returns-in_ok-keep_notes-in-Value-clause-turn g c =
     let s = g.D.DocReader.document c.args.tables.now in
     let told = subst (λ l. IsTold (sheet_of s) (held_at s l) c.in-Some.top c.in_ok-value.field-0) c.deref.ensures.value c.in_ok-value.ensures.told in
     turn_value (sheet_of s) (is_sheet s) (held_at s c.args.kept.now.items) c.args.stack.now.items c.pop.new.self.items c.in-Some.top c.in-Some.ensures.items c.requires.working
@@ -57,8 +57,8 @@ returns-then-is_on-clause-stays g c =
     let s = g.D.DocReader.document c.args.tables.now in
     put_stays (held_at s c.args.kept.now.items) (held_at s c.put_value-then-is_on.new.kept.items) c.in-Some.top (Err Circular) c.put_value-then-is_on.ensures.put
 
-pub returns-in-Value-clause-stays : goal.returns-in-Value-clause-stays
-returns-in-Value-clause-stays g c =
+pub returns-in_ok-keep_notes-in-Value-clause-stays : goal.returns-in_ok-keep_notes-in-Value-clause-stays
+returns-in_ok-keep_notes-in-Value-clause-stays g c =
     let s = g.D.DocReader.document c.args.tables.now in
     put_stays (held_at s c.args.kept.now.items) (held_at s c.put_value.new.kept.items) c.in-Some.top c.in-Value.value c.put_value.ensures.put
 
@@ -66,17 +66,17 @@ pub returns-then-is_on-clause-recording : goal.returns-then-is_on-clause-recordi
 returns-then-is_on-clause-recording g c =
     let s = g.D.DocReader.document c.args.tables.now in
     recording_put s (held_at s c.args.kept.now.items) (held_at s c.put_value-then-is_on.new.kept.items) c.args.reads.now c.add_stale.new.self c.in-Some.top (Err Circular) c.put_value-then-is_on.ensures.put
-    (noted_same c.args.reads.now c.add_stale.new.self c.in-Some.top c.add_stale.ensures.graph c.add_stale.ensures.stale c.add_stale.ensures.watched (sheet_of s))
+    (noted_same c.args.reads.now c.add_stale.new.self c.in-Some.top c.add_stale.ensures.graph c.in_ok-add_stale-in-Need.ensures.stale (sheet_of s))
 
-pub returns-in-Value-clause-recording : goal.returns-in-Value-clause-recording
-returns-in-Value-clause-recording g c =
+pub returns-in_ok-keep_notes-in-Value-clause-recording : goal.returns-in_ok-keep_notes-in-Value-clause-recording
+returns-in_ok-keep_notes-in-Value-clause-recording g c =
     let s = g.D.DocReader.document c.args.tables.now in
     let told = subst (λ l. IsTold (sheet_of s) (held_at s l) c.in-Some.top c.in_ok-value.field-0) c.deref.ensures.value c.in_ok-value.ensures.told in
     recording_put s (held_at s c.args.kept.now.items) (held_at s c.put_value.new.kept.items) c.args.reads.now c.keep_notes.new.self c.in-Some.top c.in-Value.value c.put_value.ensures.put
-    (c.keep_notes.ensures.noted (sheet_of s) (rw c.in-Value.is at told).1)
+    (c.in_ok-keep_notes-in-Value.ensures.noted (sheet_of s) (rw c.in-Value.is at told).1)
 
-pub returns-in-Value-clause-naming : goal.returns-in-Value-clause-naming
-returns-in-Value-clause-naming g c =
+pub returns-in_ok-keep_notes-in-Value-clause-naming : goal.returns-in_ok-keep_notes-in-Value-clause-naming
+returns-in_ok-keep_notes-in-Value-clause-naming g c =
     let s = g.D.DocReader.document c.args.tables.now in
     naming_front (sheet_of s) c.pop.new.self.items c.in-Some.top (subst (IsNaming (sheet_of s)) c.in-Some.ensures.items c.requires.naming)
 
@@ -92,8 +92,8 @@ returns-in_ok-push-in-Need-2-clause-naming g c =
     subst (IsNaming (sheet_of s)) (sym (c.in_ok-push-in-Need-2.ensures.items ∙ ap (λ l. l ++ c.in-Need.cell ∷ []) c.in_ok-push-in-Need.ensures.items))
     (naming_push (sheet_of s) c.pop.new.self.items c.in-Some.top c.in-Need.cell (subst (IsNaming (sheet_of s)) c.in-Some.ensures.items c.requires.naming) (rw c.in-Need.is at told).2)
 
-pub returns-in-Value-clause-attempts : goal.returns-in-Value-clause-attempts
-returns-in-Value-clause-attempts g c =
+pub returns-in_ok-keep_notes-in-Value-clause-attempts : goal.returns-in_ok-keep_notes-in-Value-clause-attempts
+returns-in_ok-keep_notes-in-Value-clause-attempts g c =
     let s = g.D.DocReader.document c.args.tables.now in
     let k = held_at s c.args.kept.now.items in
     let j = held_at s c.put_value.new.kept.items in
@@ -124,3 +124,8 @@ returns-in_ok-push-in-Need-2-clause-attempts g c =
     let step = c.try_cell.ensures.steps in
     push_spent (sheet_of s) (held_at s c.args.kept.now.items) c.pop.new.self.items c.args.stack.now.items c.push.new.self.items c.push-in-Need.new.self.items c.in-Some.top c.in-Need.cell
     c.in-Some.ensures.items c.in_ok-push-in-Need.ensures.items c.in_ok-push-in-Need-2.ensures.items (due c.args.steps.now c.args.reads.now) (due c.try_cell.new.steps c.args.reads.now) (omega (arith, step))
+
+pub returns-in_err-keep_notes-in-Value-clause-recording : goal.returns-in_err-keep_notes-in-Value-clause-recording
+returns-in_err-keep_notes-in-Value-clause-recording g c =
+    let s = g.D.DocReader.document c.args.tables.now in
+    recording_kept s (held_at s c.args.kept.now.items) c.args.reads.now c.keep_notes.new.self c.in_err-keep_notes-in-Value.ensures.left c.keep_notes.ensures.list

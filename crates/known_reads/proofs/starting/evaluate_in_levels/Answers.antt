@@ -1,3 +1,4 @@
+use Rattle.std.proofs.Common.{◌∙◌}
 use Rattle.recalc.proofs.Progress.{settled_blank}
 use Rattle.known_reads.proofs.StartedLemmas.{few_attempts, named_attempts, recorded_all, walked_next}
 use Rattle.known_reads.proofs.starting.evaluate_in_levels.Goals as goal
@@ -37,3 +38,6 @@ returns-clause-named g c =
     named_attempts s first.kept.items last.kept.items first.reads last.reads c.args.steps.now c.settle_rest.new.steps
     (walked_next s first.kept.items mid.kept.items last.kept.items first.reads mid.reads last.reads c.args.steps.now c.settle_levels.new.steps c.settle_rest.new.steps c.in_ok-settle_levels.ensures.walked c.in_ok-settle_rest.ensures.walked)
     c.in_ok-evaluated.ensures.stale c.record_rest.new.steps c.record_rest.ensures.steps
+
+pub record_rest-requires-clause-owed : goal.record_rest-requires-clause-owed
+record_rest-requires-clause-owed g c = c.in_ok-settle_rest.ensures.walked.owed ∙ c.in_ok-settle_levels.ensures.walked.owed ∙ c.in_ok-evaluated.ensures.owed

@@ -1,4 +1,4 @@
-use Rattle.std.proofs.Common.{◌<◌, refl, length, arith}
+use Rattle.std.proofs.Common.{◌<◌, refl, ◌∙◌, length, arith}
 use Rattle.std.proofs.lemmas.Option.{slice_get_within}
 use Rattle.doc_readers.specs.Parts.{grid_at}
 use Rattle.doc_readers.proofs.ColumnLemmas.{column_past, column_read}
@@ -6,7 +6,7 @@ use Rattle.recalc.specs.Evaluated.{cells_of_column}
 use Rattle.recalc.proofs.Progress.{each_all, each_next}
 use Rattle.affected_values.specs.Taken.{IsHeldWhere}
 use Rattle.known_reads.specs.Walked.{AreHeld}
-use Rattle.known_reads.proofs.StartedLemmas.{all_later, walked_next}
+use Rattle.known_reads.proofs.StartedLemmas.{all_later, walked_done, walked_next, walked_within}
 use Rattle.known_reads.proofs.WalkedLemmas.{nothing_there, of_columns}
 use Rattle.known_reads.proofs.starting.settle_table.Goals as goal
 
@@ -30,6 +30,7 @@ loop-column-preserved g c =
           (λ d. all_later s c.loop-column.kept.items c.settle_column.new.kept.items walked.further (cells_of_column t (grid_at s t) d)) refl
           (column_read s t c.loop-column.index c.in-Some.column.now c.in-Some.ensures.told) c.in_ok-settle_column.ensures.known c.loop-column.invariant.known;
       indexed = c.in_ok-settle_column.ensures.indexed;
+      owed = c.settle_column.ensures.owed ∙ c.loop-column.invariant.owed;
       remembered = c.in_ok-settle_column.ensures.remembered;
     }
 
@@ -40,3 +41,14 @@ returns-clause-known g c =
     of_columns (IsHeldWhere s c.loop-column.kept.items) t (grid_at s t) (grid_at s t).columns
     (each_all (λ d. AreHeld s c.loop-column.kept.items (cells_of_column t (grid_at s t) d)) (grid_at s t).columns c.loop-column.index
     (nothing_there (grid_at s t).columns c.loop-column.index (column_past s t c.loop-column.index c.in_default.ensures.told)) c.loop-column.invariant.known)
+
+pub returns-in_err-settle_column-clause-owed : goal.returns-in_err-settle_column-clause-owed
+returns-in_err-settle_column-clause-owed g c = c.settle_column.ensures.owed ∙ c.loop-column.invariant.owed
+
+pub returns-in_err-settle_column-clause-within : goal.returns-in_err-settle_column-clause-within
+returns-in_err-settle_column-clause-within g c =
+    walked_within (g.D.DocReader.document c.args.tables.now) c.args.kept.now.items c.loop-column.kept.items c.args.reads.now c.loop-column.reads c.args.steps.now c.loop-column.steps c.settle_column.new.steps c.loop-column.invariant.walked c.settle_column.ensures.within
+
+pub returns-clause-within : goal.returns-clause-within
+returns-clause-within g c =
+    walked_done (g.D.DocReader.document c.args.tables.now) c.args.kept.now.items c.loop-column.kept.items c.args.reads.now c.loop-column.reads c.args.steps.now c.loop-column.steps c.loop-column.invariant.walked

@@ -1,4 +1,4 @@
-use Rattle.std.proofs.Common.{◌-◌, length}
+use Rattle.std.proofs.Common.{◌≡◌, ◌-◌, length}
 use Rattle.recalc.specs.Evaluated.{sheet_of}
 use Rattle.recalc.specs.Indexes.{AreIndexes}
 use Rattle.recalc.specs.Remembered.{IsRemembered}
@@ -10,6 +10,7 @@ abbrev pub invariant-loop-table : goal.invariant-loop-table
 invariant-loop-table g l = record {
   walked : IsWalked (g.D.DocReader.document l.tables) l.initial.kept.items l.initial.reads l.initial.steps l.kept.items l.reads l.steps;
   known : EachOf (λ t. AreHeld (g.D.DocReader.document l.tables) l.kept.items (cells_of_table t)) (g.D.DocReader.document l.tables) l.index;
+  owed : l.reads.owed ≡ l.initial.reads.owed;
   indexed : AreIndexes (sheet_of (g.D.DocReader.document l.tables)) l.indexes.items;
   remembered : IsRemembered (sheet_of (g.D.DocReader.document l.tables)) l.last;
 }

@@ -1,11 +1,7 @@
 use Rattle.std.proofs.Common.{ap, sym, subst}
 use Rattle.doc_model.specs.DocumentLaws.{IsWhole}
-use Rattle.known_reads.proofs.BesideLemmas.{knows_others}
 use Rattle.evaluated_doc.specs.WayBack.{Changed}
 use Rattle.evaluated_doc.proofs.doc.Doc.go_back.Goals as goal
-
-pub go_back_to-requires-clause-others : goal.go_back_to-requires-clause-others
-go_back_to-requires-clause-others g c = knows_others (g.D.DocReader.document c.self.inside.tables) c.self.inside.reads c.self.invariant.2
 
 pub invariant_of-self : goal.invariant_of-self
 invariant_of-self g c = (
@@ -13,6 +9,6 @@ invariant_of-self g c = (
       (subst (λ b. IsWhole (g.D.DocTables.undone b (g.D.DocReader.document c.self.inside.tables))) (sym (ap (λ (t : Changed _). t.back) c.trace.view_is))
       (subst (λ d. IsWhole (g.D.DocTables.undone c.args.trace.back (g.D.DocReader.document d))) (sym c.self.view_is) c.requires.whole)),
   c.go_back_to.ensures.current,
-  c.note_all.ensures.known (g.D.DocReader.document c.go_back_to.new.tables),
+  c.go_back_to.ensures.known,
   c.enter_behind.ensures,
 )

@@ -1,4 +1,4 @@
-use Rattle.std.proofs.Common.{◌≡◌, true, filter, sym, ap, ◌∙◌, subst, Vec}
+use Rattle.std.proofs.Common.{◌≡◌, ◌+◌, ◌≤◌, true, filter, sym, ap, ◌∙◌, subst, Vec}
 use Rattle.std.specs.Global.{Global}
 use Rattle.std.specs.Option.{option_map}
 use Rattle.doc_model.specs.Apply.{apply}
@@ -11,15 +11,14 @@ use Rattle.recalc.specs.Indexes.{AreIndexes}
 use Rattle.recalc.specs.Kept.{IsEvaluated}
 use Rattle.recalc.specs.Lost.{all_cells, is_lost, lost}
 use Rattle.affected_search.specs.Narrow.{is_narrow}
+use Rattle.affected_cells.specs.Bound.{bound}
 use Rattle.affected_values.specs.Indexing.{AreLeft}
 use Rattle.known_reads.specs.Beside.{KnowsReads}
 use Rattle.evaluated_doc.specs.Gone.{IsGone}
 use Rattle.evaluated_doc.proofs.GoneLemmas.{is_gone}
 use Rattle.evaluated_doc.specs.Moved.{IsMoving}
-use Rattle.evaluated_doc.specs.Spent.{HasSpent}
 use Rattle.evaluated_doc.specs.WayBack.{HasBefore}
 use Rattle.evaluated_doc.proofs.MovedLemmas.{moved_records}
-use Rattle.evaluated_doc.proofs.SpentLemmas.{spent_any}
 use Rattle.evaluated_doc.proofs.UpdateLemmas.{lost_narrow}
 use Rattle.evaluated_doc.proofs.doc.Doc.put_rows.Goals as goal
 
@@ -28,14 +27,14 @@ enter_indexes-indexes-requires g c =
     let s = g.D.DocReader.document c.self.inside.tables in
     let a = c.args.action.now in
     let ok : valid s a ≡ true = subst (λ d. valid (g.D.DocReader.document d) a ≡ true) (sym c.self.view_is) c.requires.valid in
-    let left = c.find_moved-found.new.indexes.items in
-    subst (λ d. AreLeft d a left) (sym (c.in_ok-undo.ensures.done ∙ ap (λ d. apply d a) c.find_moved-found.ensures.same)) (c.left_over_law.ensures s a ok left c.in-Ok.ensures.left)
+    let left = c.find_moved.new.indexes.items in
+    subst (λ d. AreLeft d a left) (sym (c.in_ok-undo.ensures.done ∙ ap (λ d. apply d a) c.find_moved.ensures.same)) (c.left_over_law.ensures s a ok left c.in_ok-moved.ensures.left)
 
-pub find_moved-found-requires-clause-valid : goal.find_moved-found-requires-clause-valid
-find_moved-found-requires-clause-valid g c = subst (λ d. valid (g.D.DocReader.document d) c.args.action.now ≡ true) (sym c.self.view_is) c.requires.valid
+pub find_moved-requires-clause-valid : goal.find_moved-requires-clause-valid
+find_moved-requires-clause-valid g c = subst (λ d. valid (g.D.DocReader.document d) c.args.action.now ≡ true) (sym c.self.view_is) c.requires.valid
 
-pub find_moved-found-requires-clause-indexed : goal.find_moved-found-requires-clause-indexed
-find_moved-found-requires-clause-indexed g c = c.take_indexes-indexes.ensures.taken (sheet_of (g.D.DocReader.document c.self.inside.tables)) c.self.invariant.3
+pub find_moved-requires-clause-indexed : goal.find_moved-requires-clause-indexed
+find_moved-requires-clause-indexed g c = c.take_indexes-indexes.ensures.taken (sheet_of (g.D.DocReader.document c.self.inside.tables)) c.self.invariant.3
 
 pub returns-clause-cells : goal.returns-clause-cells
 returns-clause-cells g c =
@@ -43,37 +42,36 @@ returns-clause-cells g c =
     let next = g.D.DocReader.document c.put.new.self in
     let a = c.args.action.now in
     let ok : valid s a ≡ true = subst (λ d. valid (g.D.DocReader.document d) a ≡ true) (sym c.self.view_is) c.requires.valid in
-    let graph = c.self.inside.reads.graph in
-    let x = c.in-Ok.moved in
+    let graph = c.put_owed.new.self.graph in
+    let x = c.in_ok-moved.moved in
     subst (λ d. c.keep_lost.new.cells.items ≡ lost (g.D.DocReader.document d) next a) c.self.view_is
-    (c.keep_lost.ensures ∙ ap (filter (is_lost (filled next) a)) (c.in_ok-cells.ensures ∙ ap (λ gr. filter (is_narrow gr x.found (filled (g.D.DocReader.document c.find_moved-found.new.tables)) a) (all_cells (filled (g.D.DocReader.document c.find_moved-found.new.tables)))) c.graph.ensures
-    ∙ ap (λ d. filter (is_narrow graph x.found (filled d) a) (all_cells (filled d))) c.find_moved-found.ensures.same)
-    ∙ lost_narrow c.narrow_law.ensures s next a ok (moved_records a c.args.table.now c.requires.table) (c.in_ok-undo.ensures.done ∙ ap (λ d. apply d c.args.action.now) c.find_moved-found.ensures.same) graph x.found c.self.invariant.0 c.in-Ok.ensures.found.keeps)
+    (c.keep_lost.ensures ∙ ap (filter (is_lost (filled next) a)) (c.in_ok-cells.ensures ∙ ap (λ gr. filter (is_narrow gr x.found (filled (g.D.DocReader.document c.find_moved.new.tables)) a) (all_cells (filled (g.D.DocReader.document c.find_moved.new.tables)))) c.graph.ensures
+    ∙ ap (λ d. filter (is_narrow graph x.found (filled d) a) (all_cells (filled d))) c.find_moved.ensures.same)
+    ∙ lost_narrow c.narrow_law.ensures s next a ok (moved_records a c.args.table.now c.requires.table) (c.in_ok-undo.ensures.done ∙ ap (λ d. apply d c.args.action.now) c.find_moved.ensures.same) graph x.found c.self.invariant.0 c.in_ok-moved.ensures.found.keeps)
 
 pub invariant_of-self : goal.invariant_of-self
 invariant_of-self g c =
-    subst (λ d. IsWhole d × IsCurrent d (option_map (λ (v : Vec KeptTable Global). v.items) c.self.inside.kept) × KnowsReads d c.self.inside.reads × AreIndexes (sheet_of d) c.take_indexes-indexes.new.indexes.items) (sym c.find_moved-found.ensures.same)
-    (c.self.invariant.0, c.self.invariant.1, c.self.invariant.2, c.take_indexes-indexes.ensures.left (sheet_of (g.D.DocReader.document c.self.inside.tables)))
+    (c.self.invariant.0, c.self.invariant.1, c.put_owed.ensures.known (g.D.DocReader.document c.self.inside.tables) c.self.invariant.2, c.self.invariant.3)
 
-pub invariant_of-self-in-Err-NoMemory : goal.invariant_of-self-in-Err-NoMemory
-invariant_of-self-in-Err-NoMemory g c =
-    subst (λ d. IsWhole d × IsCurrent d (option_map (λ (v : Vec KeptTable Global). v.items) c.self.inside.kept) × KnowsReads d c.self.inside.reads × AreIndexes (sheet_of d) c.take_indexes-indexes.new.indexes.items) (sym c.find_moved-found.ensures.same)
-    (c.self.invariant.0, c.self.invariant.1, c.self.invariant.2, c.take_indexes-indexes.ensures.left (sheet_of (g.D.DocReader.document c.self.inside.tables)))
+pub invariant_of-self-in_err-moved : goal.invariant_of-self-in_err-moved
+invariant_of-self-in_err-moved g c =
+    subst (λ d. IsWhole d × IsCurrent d (option_map (λ (v : Vec KeptTable Global). v.items) c.self.inside.kept) × KnowsReads d c.put_owed.new.self × AreIndexes (sheet_of d) c.take_indexes-indexes.new.indexes.items) (sym c.find_moved.ensures.same)
+    (c.self.invariant.0, c.self.invariant.1, c.put_owed.ensures.known (g.D.DocReader.document c.self.inside.tables) c.self.invariant.2, c.take_indexes-indexes.ensures.left (sheet_of (g.D.DocReader.document c.self.inside.tables)))
 
 pub invariant_of-self-2 : goal.invariant_of-self-2
 invariant_of-self-2 g c =
-    subst (λ d. IsWhole d × IsCurrent d (option_map (λ (v : Vec KeptTable Global). v.items) c.self.inside.kept) × KnowsReads d c.self.inside.reads × AreIndexes (sheet_of d) c.take_indexes-indexes.new.indexes.items) (sym c.find_moved-found.ensures.same)
-    (c.self.invariant.0, c.self.invariant.1, c.self.invariant.2, c.take_indexes-indexes.ensures.left (sheet_of (g.D.DocReader.document c.self.inside.tables)))
+    subst (λ d. IsWhole d × IsCurrent d (option_map (λ (v : Vec KeptTable Global). v.items) c.self.inside.kept) × KnowsReads d c.put_owed.new.self × AreIndexes (sheet_of d) c.take_indexes-indexes.new.indexes.items) (sym c.find_moved.ensures.same)
+    (c.self.invariant.0, c.self.invariant.1, c.put_owed.ensures.known (g.D.DocReader.document c.self.inside.tables) c.self.invariant.2, c.take_indexes-indexes.ensures.left (sheet_of (g.D.DocReader.document c.self.inside.tables)))
 
 pub invariant_of-self-in_err-cells : goal.invariant_of-self-in_err-cells
 invariant_of-self-in_err-cells g c =
-    subst (λ d. IsWhole d × IsCurrent d (option_map (λ (v : Vec KeptTable Global). v.items) c.self.inside.kept) × KnowsReads d c.self.inside.reads × AreIndexes (sheet_of d) c.take_indexes-indexes.new.indexes.items) (sym c.find_moved-found.ensures.same)
-    (c.self.invariant.0, c.self.invariant.1, c.self.invariant.2, c.take_indexes-indexes.ensures.left (sheet_of (g.D.DocReader.document c.self.inside.tables)))
+    subst (λ d. IsWhole d × IsCurrent d (option_map (λ (v : Vec KeptTable Global). v.items) c.self.inside.kept) × KnowsReads d c.put_owed.new.self × AreIndexes (sheet_of d) c.take_indexes-indexes.new.indexes.items) (sym c.find_moved.ensures.same)
+    (c.self.invariant.0, c.self.invariant.1, c.put_owed.ensures.known (g.D.DocReader.document c.self.inside.tables) c.self.invariant.2, c.take_indexes-indexes.ensures.left (sheet_of (g.D.DocReader.document c.self.inside.tables)))
 
 pub invariant_of-self-in_err-undo : goal.invariant_of-self-in_err-undo
 invariant_of-self-in_err-undo g c =
-    subst (λ d. IsWhole d × IsCurrent d (option_map (λ (v : Vec KeptTable Global). v.items) c.self.inside.kept) × KnowsReads d c.self.inside.reads × AreIndexes (sheet_of d) c.take_indexes-indexes.new.indexes.items) (sym (c.in_err-undo.ensures.err ∙ c.find_moved-found.ensures.same))
-    (c.self.invariant.0, c.self.invariant.1, c.self.invariant.2, c.take_indexes-indexes.ensures.left (sheet_of (g.D.DocReader.document c.self.inside.tables)))
+    subst (λ d. IsWhole d × IsCurrent d (option_map (λ (v : Vec KeptTable Global). v.items) c.self.inside.kept) × KnowsReads d c.put_owed.new.self × AreIndexes (sheet_of d) c.take_indexes-indexes.new.indexes.items) (sym (c.in_err-undo.ensures.err ∙ c.find_moved.ensures.same))
+    (c.self.invariant.0, c.self.invariant.1, c.put_owed.ensures.known (g.D.DocReader.document c.self.inside.tables) c.self.invariant.2, c.take_indexes-indexes.ensures.left (sheet_of (g.D.DocReader.document c.self.inside.tables)))
 
 pub refresh_moved-done-requires-clause-moving : goal.refresh_moved-done-requires-clause-moving
 refresh_moved-done-requires-clause-moving g c =
@@ -81,15 +79,14 @@ refresh_moved-done-requires-clause-moving g c =
     let next = g.D.DocReader.document c.put.new.self in
     let a = c.args.action.now in
     let ok : valid s a ≡ true = subst (λ d. valid (g.D.DocReader.document d) a ≡ true) (sym c.self.view_is) c.requires.valid in
-    let done : next ≡ apply s a = c.in_ok-undo.ensures.done ∙ ap (λ d. apply d a) c.find_moved-found.ensures.same in
+    let done : next ≡ apply s a = c.in_ok-undo.ensures.done ∙ ap (λ d. apply d a) c.find_moved.ensures.same in
     let before : IsEvaluated s c.in-Some.kept.items = rw c.in-Some.is at c.self.invariant.1 in
-    let moving : IsMoving s next c.args.table.now c.args.rows.now c.in-Some.kept.items c.self.inside.reads c.in-Ok.moved = record {
+    let moving : IsMoving s next c.args.table.now c.args.rows.now c.in-Some.kept.items c.put_owed.new.self c.in_ok-moved.moved = record {
       moved = record { whole = c.self.invariant.0; action = a; moved = c.requires.table; ok = ok; done = done };
       these = c.requires.rows;
-      found = c.in-Ok.ensures.found;
+      found = c.in_ok-moved.ensures.found;
       right = before;
-      reads = c.self.invariant.2;
-      recorded = c.in-Ok.ensures.each;
+      reads = c.in_ok-put_owed.ensures.exact s c.self.invariant.2;
     } in
     (s, moving)
 
@@ -99,18 +96,17 @@ invariant_of-self-in_default-done g c =
     let next = g.D.DocReader.document c.put.new.self in
     let a = c.args.action.now in
     let ok : valid s a ≡ true = subst (λ d. valid (g.D.DocReader.document d) a ≡ true) (sym c.self.view_is) c.requires.valid in
-    let done : next ≡ apply s a = c.in_ok-undo.ensures.done ∙ ap (λ d. apply d a) c.find_moved-found.ensures.same in
+    let done : next ≡ apply s a = c.in_ok-undo.ensures.done ∙ ap (λ d. apply d a) c.find_moved.ensures.same in
     let before : IsEvaluated s c.in-Some.kept.items = rw c.in-Some.is at c.self.invariant.1 in
-    let moving : IsMoving s next c.args.table.now c.args.rows.now c.in-Some.kept.items c.self.inside.reads c.in-Ok.moved = record {
+    let moving : IsMoving s next c.args.table.now c.args.rows.now c.in-Some.kept.items c.put_owed.new.self c.in_ok-moved.moved = record {
       moved = record { whole = c.self.invariant.0; action = a; moved = c.requires.table; ok = ok; done = done };
       these = c.requires.rows;
-      found = c.in-Ok.ensures.found;
+      found = c.in_ok-moved.ensures.found;
       right = before;
-      reads = c.self.invariant.2;
-      recorded = c.in-Ok.ensures.each;
+      reads = c.in_ok-put_owed.ensures.exact s c.self.invariant.2;
     } in
     let left = c.in_default-done.ensures.err s moving in
-    subst (λ d. IsWhole d × IsEvaluated d c.refresh_moved-done.new.kept.items × KnowsReads d c.refresh_moved-done.new.reads × AreIndexes (sheet_of d) c.take_indexes-indexes.new.indexes.items) (sym (c.take_back.ensures ∙ c.in_ok-undo.ensures.back ∙ c.find_moved-found.ensures.same))
+    subst (λ d. IsWhole d × IsEvaluated d c.refresh_moved-done.new.kept.items × KnowsReads d c.refresh_moved-done.new.reads × AreIndexes (sheet_of d) c.take_indexes-indexes.new.indexes.items) (sym (c.take_back.ensures ∙ c.in_ok-undo.ensures.back ∙ c.find_moved.ensures.same))
     (c.self.invariant.0, left.0, left.1, c.take_indexes-indexes.ensures.left (sheet_of s))
 
 pub invariant_of-self-3 : goal.invariant_of-self-3
@@ -119,10 +115,10 @@ invariant_of-self-3 g c =
     let next = g.D.DocReader.document c.put.new.self in
     let a = c.args.action.now in
     let ok : valid s a ≡ true = subst (λ d. valid (g.D.DocReader.document d) a ≡ true) (sym c.self.view_is) c.requires.valid in (
-      subst IsWhole (sym (c.in_ok-undo.ensures.done ∙ ap (λ d. apply d c.args.action.now) c.find_moved-found.ensures.same)) (c.kept_law.ensures s a c.self.invariant.0 ok),
-      c.in-Ok-done.ensures.ok,
-      c.in-Ok-done.ensures.reads,
-      c.in-Ok-done.ensures.indexed,
+      subst IsWhole (sym (c.in_ok-undo.ensures.done ∙ ap (λ d. apply d c.args.action.now) c.find_moved.ensures.same)) (c.kept_law.ensures s a c.self.invariant.0 ok),
+      c.in-Ok.ensures.ok,
+      c.in-Ok.ensures.reads,
+      c.in-Ok.ensures.indexed,
     )
 
 pub returns-clause-way : goal.returns-clause-way
@@ -131,21 +127,20 @@ returns-clause-way g c =
     let next = g.D.DocReader.document c.put.new.self in
     let a = c.args.action.now in
     let ok : valid s a ≡ true = subst (λ d. valid (g.D.DocReader.document d) a ≡ true) (sym c.self.view_is) c.requires.valid in
-    let done : next ≡ apply s a = c.in_ok-undo.ensures.done ∙ ap (λ d. apply d a) c.find_moved-found.ensures.same in
+    let done : next ≡ apply s a = c.in_ok-undo.ensures.done ∙ ap (λ d. apply d a) c.find_moved.ensures.same in
     let before : IsEvaluated s c.in-Some.kept.items = rw c.in-Some.is at c.self.invariant.1 in
-    let moving : IsMoving s next c.args.table.now c.args.rows.now c.in-Some.kept.items c.self.inside.reads c.in-Ok.moved = record {
+    let moving : IsMoving s next c.args.table.now c.args.rows.now c.in-Some.kept.items c.put_owed.new.self c.in_ok-moved.moved = record {
       moved = record { whole = c.self.invariant.0; action = a; moved = c.requires.table; ok = ok; done = done };
       these = c.requires.rows;
-      found = c.in-Ok.ensures.found;
+      found = c.in_ok-moved.ensures.found;
       right = before;
-      reads = c.self.invariant.2;
-      recorded = c.in-Ok.ensures.each;
+      reads = c.in_ok-put_owed.ensures.exact s c.self.invariant.2;
     } in
     record {
       fit = c.in_ok-undo.ensures.fit;
-      whole = subst IsWhole (sym (c.in_ok-undo.ensures.back ∙ c.find_moved-found.ensures.same)) c.self.invariant.0;
-      before = subst (λ d. HasBefore d next c.in-Ok-done.before) (sym (c.in_ok-undo.ensures.back ∙ c.find_moved-found.ensures.same)) (c.in-Ok-done.ensures.way s moving);
-      gone = subst (λ d. IsGone d next c.gone_rows.result) (sym (c.in_ok-undo.ensures.back ∙ c.find_moved-found.ensures.same)) (is_gone s next a c.gone_rows.result ok done c.gone_rows.ensures);
+      whole = subst IsWhole (sym (c.in_ok-undo.ensures.back ∙ c.find_moved.ensures.same)) c.self.invariant.0;
+      before = subst (λ d. HasBefore d next c.in-Ok.before) (sym (c.in_ok-undo.ensures.back ∙ c.find_moved.ensures.same)) (c.in-Ok.ensures.way s moving);
+      gone = subst (λ d. IsGone d next c.gone_rows.result) (sym (c.in_ok-undo.ensures.back ∙ c.find_moved.ensures.same)) (is_gone s next a c.gone_rows.result ok done c.gone_rows.ensures);
     }
 
 pub returns-clause-spent : goal.returns-clause-spent
@@ -154,15 +149,47 @@ returns-clause-spent g c =
     let next = g.D.DocReader.document c.put.new.self in
     let a = c.args.action.now in
     let ok : valid s a ≡ true = subst (λ d. valid (g.D.DocReader.document d) a ≡ true) (sym c.self.view_is) c.requires.valid in
-    let done : next ≡ apply s a = c.in_ok-undo.ensures.done ∙ ap (λ d. apply d a) c.find_moved-found.ensures.same in
+    let done : next ≡ apply s a = c.in_ok-undo.ensures.done ∙ ap (λ d. apply d a) c.find_moved.ensures.same in
     let before : IsEvaluated s c.in-Some.kept.items = rw c.in-Some.is at c.self.invariant.1 in
-    let moving : IsMoving s next c.args.table.now c.args.rows.now c.in-Some.kept.items c.self.inside.reads c.in-Ok.moved = record {
+    let moving : IsMoving s next c.args.table.now c.args.rows.now c.in-Some.kept.items c.put_owed.new.self c.in_ok-moved.moved = record {
       moved = record { whole = c.self.invariant.0; action = a; moved = c.requires.table; ok = ok; done = done };
       these = c.requires.rows;
-      found = c.in-Ok.ensures.found;
+      found = c.in_ok-moved.ensures.found;
       right = before;
-      reads = c.self.invariant.2;
-      recorded = c.in-Ok.ensures.each;
+      reads = c.in_ok-put_owed.ensures.exact s c.self.invariant.2;
     } in
-    subst (λ d. HasSpent (g.D.DocReader.document d) a c.in-Ok-done.before c.args.steps.now c.refresh_moved-done.new.steps) c.self.view_is
-    (spent_any s a c.in-Ok-done.before c.args.steps.now c.refresh_moved-done.new.steps c.in-Ok-done.ensures.part (c.refresh_moved-done.ensures.spent s moving))
+    subst (λ d. c.refresh_moved-done.new.steps ≤ c.args.steps.now + bound (g.D.DocReader.document d) a) c.self.view_is (c.refresh_moved-done.ensures.spent s moving)
+
+pub returns-in_default-done-clause-spent : goal.returns-in_default-done-clause-spent
+returns-in_default-done-clause-spent g c =
+    let s = g.D.DocReader.document c.self.inside.tables in
+    let next = g.D.DocReader.document c.put.new.self in
+    let a = c.args.action.now in
+    let ok : valid s a ≡ true = subst (λ d. valid (g.D.DocReader.document d) a ≡ true) (sym c.self.view_is) c.requires.valid in
+    let done : next ≡ apply s a = c.in_ok-undo.ensures.done ∙ ap (λ d. apply d a) c.find_moved.ensures.same in
+    let before : IsEvaluated s c.in-Some.kept.items = rw c.in-Some.is at c.self.invariant.1 in
+    let moving : IsMoving s next c.args.table.now c.args.rows.now c.in-Some.kept.items c.put_owed.new.self c.in_ok-moved.moved = record {
+      moved = record { whole = c.self.invariant.0; action = a; moved = c.requires.table; ok = ok; done = done };
+      these = c.requires.rows;
+      found = c.in_ok-moved.ensures.found;
+      right = before;
+      reads = c.in_ok-put_owed.ensures.exact s c.self.invariant.2;
+    } in
+    subst (λ d. c.refresh_moved-done.new.steps ≤ c.args.steps.now + bound (g.D.DocReader.document d) a) c.self.view_is (c.refresh_moved-done.ensures.spent s moving)
+
+pub find_moved-requires-clause-known : goal.find_moved-requires-clause-known
+find_moved-requires-clause-known g c = c.in_ok-put_owed.ensures.exact (g.D.DocReader.document c.self.inside.tables) c.self.invariant.2
+
+pub refresh_moved-done-requires-clause-whole : goal.refresh_moved-done-requires-clause-whole
+refresh_moved-done-requires-clause-whole g c =
+    let s = g.D.DocReader.document c.self.inside.tables in
+    let a = c.args.action.now in
+    let ok : valid s a ≡ true = subst (λ d. valid (g.D.DocReader.document d) a ≡ true) (sym c.self.view_is) c.requires.valid in
+    subst IsWhole (sym (c.in_ok-undo.ensures.done ∙ ap (λ d. apply d a) c.find_moved.ensures.same)) (c.kept_law.ensures s a c.self.invariant.0 ok)
+
+pub returns-clause-whole : goal.returns-clause-whole
+returns-clause-whole g c =
+    let s = g.D.DocReader.document c.self.inside.tables in
+    let a = c.args.action.now in
+    let ok : valid s a ≡ true = subst (λ d. valid (g.D.DocReader.document d) a ≡ true) (sym c.self.view_is) c.requires.valid in
+    subst IsWhole (sym (c.in_ok-undo.ensures.done ∙ ap (λ d. apply d a) c.find_moved.ensures.same)) (c.kept_law.ensures s a c.self.invariant.0 ok)

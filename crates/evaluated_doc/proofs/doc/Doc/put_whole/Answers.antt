@@ -1,4 +1,4 @@
-use Rattle.std.proofs.Common.{◌≡◌, true, false, filter, sym, ◌∙◌, subst, Option, Vec}
+use Rattle.std.proofs.Common.{◌≡◌, ◌+◌, ◌≤◌, true, false, filter, refl, sym, ◌∙◌, subst, List, None, Option, Vec}
 use Rattle.std.specs.Global.{Global}
 use Rattle.std.specs.Option.{option_map}
 use Rattle.doc_model.specs.DocumentLaws.{IsWhole}
@@ -10,17 +10,15 @@ use Rattle.recalc.specs.Indexes.{AreIndexes}
 use Rattle.recalc.specs.Lost.{all_cells, lost}
 use Rattle.recalc.specs.MayLose.{may_lose}
 use Rattle.recalc.proofs.MayLoseCells.{plain_kept}
+use Rattle.affected_cells.specs.Bound.{bound}
 use Rattle.known_reads.specs.Beside.{KnowsReads}
-use Rattle.evaluated_doc.specs.declared.trace.Before.TheVariants.{Whole}
-use Rattle.evaluated_doc.specs.Spent.{HasSpent}
 use Rattle.evaluated_doc.proofs.StartLemmas.{whole_spent}
 use Rattle.evaluated_doc.proofs.UpdateLemmas.{lost_watched}
 use Rattle.evaluated_doc.proofs.doc.Doc.put_whole.Goals as goal
 
 pub watched_cells-requires : goal.watched_cells-requires
-watched_cells-requires g c none =
-    subst (λ d. has_formulas (filled (g.D.DocReader.document d)) ≡ false) c.self.view_is
-    (plain_kept (g.D.DocReader.document c.self.inside.tables) c.self.inside.kept (λ v. v.items) c.is_none-is_plain.result c.self.invariant.1 c.is_none-is_plain.ensures none)
+watched_cells-requires g c = λ is.
+    plain_kept {X = List KeptTable} (g.D.DocReader.document c.args.self.now) None (λ v. v) true c.requires.plain refl refl
 
 pub invariant_of-self-in_default : goal.invariant_of-self-in_default
 invariant_of-self-in_default g c =
@@ -33,10 +31,10 @@ invariant_of-self-2 g c =
     let s = g.D.DocReader.document c.self.inside.tables in
     let next = g.D.DocReader.document c.put.new.self in
     let a = c.args.action.now in
-    let ok : valid s a ≡ true = subst (λ d. valid (g.D.DocReader.document d) a ≡ true) (sym c.self.view_is) c.requires in (
+    let ok : valid s a ≡ true = subst (λ d. valid (g.D.DocReader.document d) a ≡ true) (sym c.self.view_is) c.requires.valid in (
       subst IsWhole (sym c.in_ok-back.ensures.done) (c.kept_law.ensures s a c.self.invariant.0 ok),
       subst (λ (o : Option (Vec KeptTable Global)). IsCurrent next (option_map (λ (v : Vec KeptTable Global). v.items) o)) (sym c.replace-kept.ensures.after) c.in-Ok.ensures.current,
-      c.in-Ok.ensures.reads,
+      subst (KnowsReads next) (sym c.replace-reads.ensures.after) c.in-Ok.ensures.reads,
       c.in-Ok.ensures.indexed,
     )
 
@@ -44,7 +42,7 @@ pub returns-clause-cells : goal.returns-clause-cells
 returns-clause-cells g c =
     let s = g.D.DocReader.document c.self.inside.tables in
     let a = c.args.action.now in
-    let ok : valid s a ≡ true = subst (λ d. valid (g.D.DocReader.document d) a ≡ true) (sym c.self.view_is) c.requires in
+    let ok : valid s a ≡ true = subst (λ d. valid (g.D.DocReader.document d) a ≡ true) (sym c.self.view_is) c.requires.valid in
     subst (λ d. c.keep_lost.new.cells.items ≡ lost (g.D.DocReader.document d) (g.D.DocReader.document c.put.new.self) a) c.self.view_is
     (lost_watched c.may_lose_law.ensures s (g.D.DocReader.document c.put.new.self) a ok c.in_ok-back.ensures.done c.self.invariant.0 c.in_ok-cells.cells.items c.keep_lost.new.cells.items
     (subst (λ d. c.in_ok-cells.cells.items ≡ filter (may_lose (filled (g.D.DocReader.document d)) a) (all_cells (filled (g.D.DocReader.document d)))) (sym c.self.view_is) c.in_ok-cells.ensures) c.keep_lost.ensures)
@@ -52,16 +50,24 @@ returns-clause-cells g c =
 pub returns-clause-spent : goal.returns-clause-spent
 returns-clause-spent g c =
     let s = g.D.DocReader.document c.self.inside.tables in
-    let next = g.D.DocReader.document c.put.new.self in
     let a = c.args.action.now in
-    let ok : valid s a ≡ true = subst (λ d. valid (g.D.DocReader.document d) a ≡ true) (sym c.self.view_is) c.requires in
-    subst (λ d. HasSpent (g.D.DocReader.document d) a (Whole c.replace-kept.result) c.args.steps.now c.start_of.new.steps) c.self.view_is
-    (subst (λ o. HasSpent s a (Whole o) c.args.steps.now c.start_of.new.steps) (sym c.replace-kept.ensures.value)
-    (whole_spent s next a c.self.inside.kept c.args.steps.now c.start_of.new.steps c.self.invariant.1 ok c.in_ok-back.ensures.done c.in-Ok.ensures.named))
+    let ok : valid s a ≡ true = subst (λ d. valid (g.D.DocReader.document d) a ≡ true) (sym c.self.view_is) c.requires.valid in
+    let plain : has_formulas s ≡ false = subst (λ d. has_formulas (g.D.DocReader.document d) ≡ false) (sym c.self.view_is) c.requires.plain in
+    subst (λ d. c.start_of.new.steps ≤ c.args.steps.now + bound (g.D.DocReader.document d) a) c.self.view_is
+    (whole_spent s (g.D.DocReader.document c.put.new.self) a c.args.steps.now c.start_of.new.steps plain ok c.in_ok-back.ensures.done c.start_of.ensures.named)
+
+pub returns-in_default-clause-spent : goal.returns-in_default-clause-spent
+returns-in_default-clause-spent g c =
+    let s = g.D.DocReader.document c.self.inside.tables in
+    let a = c.args.action.now in
+    let ok : valid s a ≡ true = subst (λ d. valid (g.D.DocReader.document d) a ≡ true) (sym c.self.view_is) c.requires.valid in
+    let plain : has_formulas s ≡ false = subst (λ d. has_formulas (g.D.DocReader.document d) ≡ false) (sym c.self.view_is) c.requires.plain in
+    subst (λ d. c.start_of.new.steps ≤ c.args.steps.now + bound (g.D.DocReader.document d) a) c.self.view_is
+    (whole_spent s (g.D.DocReader.document c.put.new.self) a c.args.steps.now c.start_of.new.steps plain ok c.in_ok-back.ensures.done c.start_of.ensures.named)
 
 pub returns-clause-whole : goal.returns-clause-whole
 returns-clause-whole g c =
     let s = g.D.DocReader.document c.self.inside.tables in
     let a = c.args.action.now in
-    let ok : valid s a ≡ true = subst (λ d. valid (g.D.DocReader.document d) a ≡ true) (sym c.self.view_is) c.requires in
+    let ok : valid s a ≡ true = subst (λ d. valid (g.D.DocReader.document d) a ≡ true) (sym c.self.view_is) c.requires.valid in
     subst IsWhole (sym c.in_ok-back.ensures.done) (c.kept_law.ensures s a c.self.invariant.0 ok)

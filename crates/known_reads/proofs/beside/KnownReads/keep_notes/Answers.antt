@@ -1,30 +1,21 @@
-use Rattle.std.proofs.Common.{◌≡◌, ◌||◌, false, [], ◌∷◌, ◌∙◌, sym, ap, subst, refl, rules}
-use Rattle.dep_graph.specs.Graph.{Graph, IsKept, IsSet}
-use Rattle.recalc.specs.Stack.{on}
-use Rattle.known_reads.specs.Beside.{Beside, is_stale}
-use Rattle.known_reads.specs.SomeCells.{is_one_of}
-use Rattle.known_reads.proofs.RecordedLemmas.{noted_all, noted_set}
-use Rattle.known_reads.proofs.WatchedLemmas.{watched_all, watched_kept, watched_set}
+use Rattle.std.proofs.Common.{ap, subst, refl}
+use Rattle.dep_graph.specs.Graph.{IsSet}
+use Rattle.dep_graph.specs.Sources.{sources}
+use Rattle.dep_graph.proofs.RunLaws.{on_ok}
+use Rattle.known_reads.specs.Beside.{Beside}
+use Rattle.known_reads.specs.Watched.{IsWatched}
+use Rattle.known_reads.proofs.RecordedLemmas.{noted_set}
+use Rattle.known_reads.proofs.WatchedLemmas.{others_either, others_kept, others_set, watched_logged}
 use Rattle.known_reads.proofs.beside.KnownReads.keep_notes.Goals as goal
 
-pub returns-in-Ok-false-clause-noted : goal.returns-in-Ok-false-clause-noted
-returns-in-Ok-false-clause-noted c =
-    let other : c.in-Ok-false.field-0 ≡ false = search rules in
-    let same = ap (λ (b : Beside). b.graph) c.self.view_is in
-    noted_set c.args.self.now _ c.self.inside.graph same c.args.cell c.args.given.now c.in-Ok-false.ensures.ok
-    (λ d. ap (λ (b : Beside). is_stale b d) c.self.view_is)
-    (λ s. watched_kept s c.args.self.now _ (subst (λ (g : Graph). IsKept g c.set.new.self) same (c.in-Ok-false.ensures.same other)) (λ d other h. ap (λ (b : Beside). is_stale b d) (sym c.self.view_is) ∙ h) (λ d h. ap (λ (b : Beside). is_one_of b.renewed d) c.self.view_is ∙ h))
+pub returns-clause-noted : goal.returns-clause-noted
+returns-clause-noted c =
+    on_ok c.set_noting.result (λ set s same. noted_set c.args.self.now _ c.args.cell.now c.args.given.now (subst (λ (b : Beside). IsSet b.graph c.set_noting.new.self c.args.cell.now c.args.given.now) c.self.view_is set) (ap (λ (b : Beside). b.stale) c.self.view_is) s same) c.set_noting.ensures.ok
 
-pub returns-in-Ok-true-clause-noted : goal.returns-in-Ok-true-clause-noted
-returns-in-Ok-true-clause-noted c =
-    let same = ap (λ (b : Beside). b.graph) c.self.view_is in
-    noted_set c.args.self.now _ c.self.inside.graph same c.args.cell c.args.given.now c.in-Ok-true.ensures.ok
-    (λ d. ap (λ (b : Beside). is_stale b d) c.self.view_is)
-    (λ s. watched_set s c.args.self.now _ c.args.cell c.args.given.now (subst (λ (g : Graph). IsSet g c.set.new.self c.args.cell c.args.given.now) same c.in-Ok-true.ensures.ok) (λ d. ap (λ (b : Beside). is_stale b d) c.self.view_is)
-    (λ d h. c.note.ensures d (ap (λ (b : Beside). is_one_of b.renewed d || on (c.args.cell ∷ []) d) c.self.view_is ∙ h)))
-
-pub returns-in-Err-clause-noted : goal.returns-in-Err-clause-noted
-returns-in-Err-clause-noted c =
-    let same = ap (λ (b : Beside). b.graph) c.self.view_is in
-    λ s notes. noted_all c.args.self.now _ c.self.inside.graph c.set.new.self same refl c.args.cell c.in-Err.ensures.err refl
-    (λ t. watched_all t c.args.self.now _ (subst (λ (g : Graph). IsKept g c.set.new.self) same c.in-Err.ensures.err) refl) s
+pub returns-clause-watched : goal.returns-clause-watched
+returns-clause-watched c =
+    let old : Beside = record { graph = c.self.inside.graph; stale = c.self.inside.stale.items; log = c.self.inside.log.items; owed = c.self.inside.owed } in
+    let new : Beside = record { graph = c.set_noting.new.self; stale = c.self.inside.stale.items; log = c.set_noting.new.log.items; owed = c.self.inside.owed } in
+    subst (λ (b : Beside). IsWatched b new) c.self.view_is
+    (watched_logged old new c.args.cell.now (λ d other h. h) refl c.set_noting.ensures.logged
+    (others_either c.set_noting.result old.graph new.graph c.args.cell.now c.set_noting.ensures.ok c.set_noting.ensures.err (others_set old.graph new.graph c.args.cell.now (sources c.args.given.now)) (others_kept old.graph new.graph c.args.cell.now)))

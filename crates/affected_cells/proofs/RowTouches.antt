@@ -144,7 +144,7 @@ module _ (id : List ℕ) (R : List ℕ → List ℕ) (v : Grid ColDef → ColDef
 -- ---- rows that come or go
 
 module _ (id rows : List ℕ) where
-  abbrev came : Read → Bool
+  abbrev pub came : Read → Bool
   came q = list_any (λ (m : Touch). touched_by m q) (rows_come_or_go id rows ∷ [])
 
   apart : (a b : Bool) → ((a && b) || false) ≡ false → a ≡ true → b ≡ false
@@ -186,3 +186,25 @@ module _ (id rows : List ℕ) where
       (λ d of free rs. has-filter (λ r. not (has rows r)) rs d.row ∙ ap (λ b. not b && has rs d.row) (not_among d of free))
       (λ g e d of free name. refl)
       key_cells s fresh was
+
+-- ---- no rows
+
+module _ (id : List ℕ) where
+  abbrev pub untouched : Read → Bool
+  untouched q = false
+
+  pub none_added : (ks : List CellColumn) (s : Document) (fresh : CellId → Bool) → ((c : CellId) → fresh c ≡ false → (f : List ℕ) × (formula_at s c ≡ Some f))
+      → IsTouchedRight (sheet_of s) (sheet_of (with_table id (on_grid (add_rows column_id start_of [] ks)) s)) fresh untouched
+  none_added ks s fresh was = table_right id (insert_rows [])
+      (λ g d r. cond (has [] r) (unwrap_or (given [] ks d.id r) (start_of d)) (cell column_id g d.id r)) untouched
+      (λ free rs. refl) (λ d of free rs. refl) (λ g e d of free name. refl) (λ u k r h. refl) s fresh was
+
+  all_kept : (rs : List ℕ) → without [] rs ≡ rs
+  all_kept [] = refl
+  all_kept (r ∷ rs) = ap (λ l. r ∷ l) (all_kept rs)
+
+  pub none_removed : (s : Document) (fresh : CellId → Bool) → ((c : CellId) → fresh c ≡ false → (f : List ℕ) × (formula_at s c ≡ Some f))
+      → IsTouchedRight (sheet_of s) (sheet_of (with_table id (on_grid (remove_rows column_id [])) s)) fresh untouched
+  none_removed s fresh was = table_right id (without [])
+      (λ g d r. cell column_id g d.id r) untouched
+      (λ free rs. all_kept rs) (λ d of free rs. ap (λ l. has l d.row) (all_kept rs)) (λ g e d of free name. refl) (λ u k r h. refl) s fresh was

@@ -35,11 +35,16 @@ touched_by (table_altered t) (Cell d) = bytes_eq d.table t
 touched_by (table_altered t) (Key u c) = bytes_eq u t
 touched_by (table_altered t) (Rows u) = bytes_eq u t
 
+-- rows of a table come or go; where there are none, nothing is touched
+abbrev pub rows_moved : List ℕ → List ℕ → List Touch
+rows_moved t [] = []
+rows_moved t (r ∷ rows) = rows_come_or_go t (r ∷ rows) ∷ []
+
 -- what each action does; a schema action also writes, adds and removes its metadata rows
 abbrev pub touches : Document → DocAction → List Touch
-touches s (BulkAdd t rows ks) = rows_come_or_go t rows ∷ []
+touches s (BulkAdd t rows ks) = rows_moved t rows
 touches s (BulkUpdate t rows ks) = map (λ (k : CellColumn). cells_written t k.id rows) ks
-touches s (BulkRemove t rows) = rows_come_or_go t rows ∷ []
+touches s (BulkRemove t rows) = rows_moved t rows
 touches s (AddTable t row ds) =
     table_altered t ∷ rows_come_or_go tables_id (row ∷ [])
     ∷ rows_come_or_go columns_id (map column_row ds) ∷ []

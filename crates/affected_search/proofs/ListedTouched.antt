@@ -230,8 +230,10 @@ module _ (names : List (List ℕ)) (t rows : List ℕ) (g : Grid ColDef) where
 
 -- whatever document shows the rows
 listed_touched : (names : List (List ℕ)) (s x : Document) (a : DocAction) → is_record a ≡ true → AllByRecursion (IsBeside names (is_touched s a)) (record_reads names x a)
-listed_touched names s x (BulkAdd t rows ks) of = moved names t rows x
-listed_touched names s x (BulkRemove t rows) of = moved names t rows x
+listed_touched names s x (BulkAdd t [] ks) of = tt
+listed_touched names s x (BulkAdd t (r ∷ rows) ks) of = moved names t (r ∷ rows) x
+listed_touched names s x (BulkRemove t []) of = tt
+listed_touched names s x (BulkRemove t (r ∷ rows)) of = moved names t (r ∷ rows) x
 listed_touched names s x (BulkUpdate t rows ks) of = written names t rows (grid_at x t) ks
 listed_touched names s x (AddTable t row ds) of = absurd (false≢true of)
 listed_touched names s x (RemoveTable t) of = absurd (false≢true of)

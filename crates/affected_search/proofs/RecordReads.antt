@@ -155,14 +155,20 @@ module _ (names : List (List ℕ)) (numbers : List ReadNumber) (x : Document) (t
 -- ---- the law
 
 pub record_reads_law : RecordReadsLaw
-record_reads_law names numbers s (BulkAdd t rows ks) of ok before after =
-    (records_listed_law names numbers s t rows).added ks ok
-    (moved_cells_in names (apply s (BulkAdd t rows ks)) t rows numbers after s (BulkAdd t rows ks) (λ d on. came_cell t rows d on))
-    (moved_values_in names (apply s (BulkAdd t rows ks)) t rows numbers after s (BulkAdd t rows ks))
-record_reads_law names numbers s (BulkRemove t rows) of ok before after =
-    (records_listed_law names numbers s t rows).removed ok
-    (moved_cells_in names s t rows numbers before s (BulkRemove t rows) (λ d on. came_cell t rows d on))
-    (moved_values_in names s t rows numbers before s (BulkRemove t rows))
+record_reads_law names numbers s (BulkAdd t [] ks) of ok before after =
+    (records_listed_law names numbers s t []).added ks ok
+    (record { cell = λ d m on is. absurd (false≢true on); all = λ m on is. absurd (false≢true on) }) (λ r among k on free. absurd (false≢true among))
+record_reads_law names numbers s (BulkAdd t (r ∷ rows) ks) of ok before after =
+    (records_listed_law names numbers s t (r ∷ rows)).added ks ok
+    (moved_cells_in names (apply s (BulkAdd t (r ∷ rows) ks)) t (r ∷ rows) numbers after s (BulkAdd t (r ∷ rows) ks) (λ d on. came_cell t (r ∷ rows) d on))
+    (moved_values_in names (apply s (BulkAdd t (r ∷ rows) ks)) t (r ∷ rows) numbers after s (BulkAdd t (r ∷ rows) ks))
+record_reads_law names numbers s (BulkRemove t []) of ok before after =
+    (records_listed_law names numbers s t []).removed ok
+    (record { cell = λ d m on is. absurd (false≢true on); all = λ m on is. absurd (false≢true on) }) (λ r among k on free. absurd (false≢true among))
+record_reads_law names numbers s (BulkRemove t (r ∷ rows)) of ok before after =
+    (records_listed_law names numbers s t (r ∷ rows)).removed ok
+    (moved_cells_in names s t (r ∷ rows) numbers before s (BulkRemove t (r ∷ rows)) (λ d on. came_cell t (r ∷ rows) d on))
+    (moved_values_in names s t (r ∷ rows) numbers before s (BulkRemove t (r ∷ rows)))
 record_reads_law names numbers s (BulkUpdate t rows ks) of ok before after =
     (records_listed_law names numbers s t rows).updated ks ok
     (update_cells_in names numbers s t rows ks before s) (update_values_in names numbers s t rows ks before s)

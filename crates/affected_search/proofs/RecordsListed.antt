@@ -28,7 +28,7 @@ use Rattle.recalc.specs.Cells.{cell_of}
 use Rattle.recalc.specs.Evaluated.{sheet_of}
 use Rattle.affected_cells.specs.Affected.{is_fresh_cell}
 use Rattle.affected_cells.specs.Met.{IsUnmet}
-use Rattle.affected_cells.specs.Touched.{Touch, cells_written, is_touched, rows_come_or_go, touched_by}
+use Rattle.affected_cells.specs.Touched.{Touch, cells_written, is_touched, rows_moved, touched_by}
 use Rattle.affected_cells.specs.TouchedRight.{IsSameCell, IsTouchedRight}
 use Rattle.affected_cells.proofs.KeptLaws.{update_law}
 use Rattle.affected_cells.proofs.RowsLaw.{rows_law}
@@ -136,21 +136,27 @@ module _ (names : List (List ℕ)) (numbers : List ReadNumber) (s n : Document) 
 -- ---- rows that come or go
 
 module _ (t rows : List ℕ) where
-  pub came_cell : (d : CellId) → (touched_by (rows_come_or_go t rows) (Cell d) || false) ≡ true → (d.table ≡ t) × (has rows d.row ≡ true)
-  came_cell d on = elim (or_cases (bytes_eq d.table t && has rows d.row) false on) [
-    | inl is ↦ let p = and_parts (bytes_eq d.table t) (has rows d.row) is in ((bytes_eq-Decides d.table t).0 p.0, p.1)
-    | inr never ↦ absurd (false≢true never)
-  ]
+  abbrev pub came : Read → Bool
+  came q = list_any (λ (m : Touch). touched_by m q) (rows_moved t rows)
 
-  came_rows : (u : List ℕ) → (touched_by (rows_come_or_go t rows) (Rows u) || false) ≡ true → u ≡ t
-  came_rows u on = elim (or_cases (bytes_eq u t) false on) [ inl is ↦ (bytes_eq-Decides u t).0 is | inr never ↦ absurd (false≢true never) ]
+pub came_cell : (t rows : List ℕ) (d : CellId) → came t rows (Cell d) ≡ true → (d.table ≡ t) × (has rows d.row ≡ true)
+came_cell t [] d on = absurd (false≢true on)
+came_cell t (q ∷ rows) d on = elim (or_cases (bytes_eq d.table t && has (q ∷ rows) d.row) false on) [
+  | inl is ↦ let p = and_parts (bytes_eq d.table t) (has (q ∷ rows) d.row) is in ((bytes_eq-Decides d.table t).0 p.0, p.1)
+  | inr never ↦ absurd (false≢true never)
+]
 
-  -- a cell of a row that comes or goes
-  moved_cell : (c : List ℕ) (r : ℕ) → has rows r ≡ true → (touched_by (rows_come_or_go t rows) (Cell (cell_of t c r)) || false) ≡ true
-  moved_cell c r among = or_left (bytes_eq t t && has rows r) false (ap (λ b. b && has rows r) ((bytes_eq-Decides t t).1 refl) ∙ among)
+came_rows : (t rows u : List ℕ) → came t rows (Rows u) ≡ true → u ≡ t
+came_rows t [] u on = absurd (false≢true on)
+came_rows t (q ∷ rows) u on = elim (or_cases (bytes_eq u t) false on) [ inl is ↦ (bytes_eq-Decides u t).0 is | inr never ↦ absurd (false≢true never) ]
 
-  still_cell : (u c : List ℕ) (r : ℕ) → has rows r ≡ false → (touched_by (rows_come_or_go t rows) (Cell (cell_of u c r)) || false) ≡ false
-  still_cell u c r apart = false_from (touched_by (rows_come_or_go t rows) (Cell (cell_of u c r)) || false) (λ on. false≢true (sym apart ∙ (came_cell (cell_of u c r) on).1))
+-- a cell of a row that comes or goes
+moved_cell : (t rows c : List ℕ) (r : ℕ) → has rows r ≡ true → came t rows (Cell (cell_of t c r)) ≡ true
+moved_cell t [] c r among = absurd (false≢true among)
+moved_cell t (q ∷ rows) c r among = or_left (bytes_eq t t && has (q ∷ rows) r) false (ap (λ b. b && has (q ∷ rows) r) ((bytes_eq-Decides t t).1 refl) ∙ among)
+
+still_cell : (t rows u c : List ℕ) (r : ℕ) → has rows r ≡ false → came t rows (Cell (cell_of u c r)) ≡ false
+still_cell t rows u c r apart = false_from (came t rows (Cell (cell_of u c r))) (λ on. false≢true (sym apart ∙ (came_cell t rows (cell_of u c r) on).1))
 
 -- a row that comes is not there
 none_there : (new rs : List ℕ) (r : ℕ) → none_in new rs ≡ true → has new r ≡ true → has rs r ≡ true → ⊥

@@ -142,14 +142,14 @@ module _ (names : List (List ℕ)) where
 
 -- ---- the touches of an action
 
+append_none : {A : Type 0} (xs : List A) → xs ++ [] ≡ xs
+append_none [] = refl
+append_none (x ∷ xs) = ap (λ r. x ∷ r) (append_none xs)
+
 parts : (s : Document) (a : DocAction) → record_touches a ++ (table_touches s a ++ column_touches s a) ≡ touches s a
-parts s (BulkAdd t rows ks) = refl
+parts s (BulkAdd t rows ks) = append_none _
 parts s (BulkUpdate t rows ks) = append_none _
-  where
-    append_none : {A : Type 0} (xs : List A) → xs ++ [] ≡ xs
-    append_none [] = refl
-    append_none (x ∷ xs) = ap (λ r. x ∷ r) (append_none xs)
-parts s (BulkRemove t rows) = refl
+parts s (BulkRemove t rows) = append_none _
 parts s (AddTable t row ds) = refl
 parts s (RemoveTable t) = refl
 parts s (RenameTable t new) = refl

@@ -10,7 +10,7 @@ use Rattle.doc_model.specs.Column.{column_row}
 use Rattle.doc_model.specs.Document.{Document}
 use Rattle.doc_model.specs.MetadataIds.{columns_id, tables_id}
 use Rattle.doc_model.specs.Touched.{column_described, columns_described, table_described}
-use Rattle.affected_cells.specs.Touched.{Touch, cells_written, column_altered, is_touched, rows_come_or_go, table_altered, touched_by}
+use Rattle.affected_cells.specs.Touched.{Touch, cells_written, column_altered, is_touched, rows_come_or_go, rows_moved, table_altered, touched_by}
 use Rattle.dep_graph.specs.declared.numbers.ColumnNumber.{ColumnNumber}
 use Rattle.dep_graph.specs.declared.numbers.ReadNumber.{ReadNumber}
 use Rattle.dep_graph.specs.declared.numbers.ReadNumber.TheVariants as read
@@ -57,9 +57,9 @@ TellTouched names s a touches = (q : Read) (n : ReadNumber)
 
 -- what an action on records does to what can be read, and nothing of another
 abbrev pub record_touches : DocAction → List Touch
-record_touches (BulkAdd t rows ks) = rows_come_or_go t rows ∷ []
+record_touches (BulkAdd t rows ks) = rows_moved t rows
 record_touches (BulkUpdate t rows ks) = map (λ (k : CellColumn). cells_written t k.id rows) ks
-record_touches (BulkRemove t rows) = rows_come_or_go t rows ∷ []
+record_touches (BulkRemove t rows) = rows_moved t rows
 record_touches _ = []
 
 -- the same of one on tables

@@ -8,7 +8,7 @@ ghost use Rattle.doc_model.specs.Column.{column_id};
 ghost use Rattle.doc_readers.specs.Parts.{grid_at};
 ghost use Rattle.recalc.specs.MayLose.{is_record};
 ghost use Rattle.dep_graph.specs.Sources.{column_in};
-ghost use Rattle.affected_search.specs.Listed.{FindsListed, KeepsListed, cells_below, given_reads, moved_cells, moved_reads, record_reads, update_reads};
+ghost use Rattle.affected_search.specs.Listed.{FindsListed, KeepsListed, cells_below, given_reads, moved_cells, moved_reads, record_reads, update_reads, where_some};
 ghost use Rattle.affected_search.specs.Reached.{IsAffected};
 ghost use Rattle.affected_search.specs.CellNumbers.{cell_at};
 
@@ -85,6 +85,23 @@ fn moved_reads<R: DocReader>(
     Ok(reads)
 }
 
+// The same, and nothing where no rows come or go.
+fn reads_of_rows<R: DocReader>(
+    alloc: Global,
+    graph: &DepGraph,
+    tables: &R,
+    table: &Name,
+    rows: &[u32],
+) -> Result<Vec<ReadNumber>, AllocError>
+    ensures { IfOk result (λ reads. reads.items ≡ where_some rows.now
+        (moved_reads graph.now.names (R.document tables.now) table.now rows.now)) }
+{
+    if rows.is_empty() {
+        return Ok(Vec::new(alloc));
+    }
+    moved_reads(alloc, graph, tables, table, rows)
+}
+
 // Adds of a column that an update gives its cells, and its values, where it has a number.
 fn push_given<R: DocReader>(
     alloc: Global,
@@ -130,7 +147,7 @@ fn update_reads<R: DocReader>(
 }
 
 /// The reads to be listed of an action on records, of those that have numbers, as a document shows
-/// its rows; nothing of another action. Of rows that come or go they are the cells in these, all
+/// its rows; nothing of another action, and of no rows. Of rows that come or go they are the cells in these, all
 /// rows of the table, and the values by which lookups find the rows; of an update those of the
 /// columns that it gives. Listed in the document before and in the one after, they are all that the
 /// action changes: a lookup that meets none of the rows reads nothing of it.
@@ -150,7 +167,7 @@ pub fn record_reads<R: DocReader>(
 {
     match action {
         DocAction::BulkAdd { table, rows, .. } | DocAction::BulkRemove { table, rows } => {
-            Ok(Some(moved_reads(alloc, graph, tables, table, rows.as_slice())?))
+            Ok(Some(reads_of_rows(alloc, graph, tables, table, rows.as_slice())?))
         }
         DocAction::BulkUpdate {
             table,

@@ -4,7 +4,7 @@ ghost use Rattle.std.specs.Prelude.{◌≡◌, ◌∷◌, [], IfOk, OnOk, codes,
 ghost use Rattle.doc_model.specs.declared.column.CellColumn.{CellColumn};
 ghost use Rattle.doc_model.specs.DocumentLaws.{IsWhole};
 ghost use Rattle.doc_model.specs.MetadataIds.{columns_id, tables_id};
-ghost use Rattle.affected_cells.specs.Touched.{cells_written, column_altered, rows_come_or_go, table_altered};
+ghost use Rattle.affected_cells.specs.Touched.{cells_written, column_altered, rows_come_or_go, rows_moved, table_altered};
 ghost use Rattle.affected_search.specs.Touches.{AddsTouches, TellTouched, column_touches, record_touches, table_touches};
 
 use crate::described::{column_described, columns_described, rows_of_new, table_described};
@@ -168,6 +168,23 @@ fn push_modified_column(
     Ok(())
 }
 
+// Rows come or go; where there are none, nothing is touched.
+fn push_moved(
+    alloc: Global,
+    graph: &DepGraph,
+    table: &Name,
+    rows: &[u32],
+    touches: &mut Vec<Touch>,
+) -> Result<(), AllocError>
+    ensures { OnOk result (AddsTouches graph.now.names (rows_moved table.now rows.now)
+        touches.old.items touches.new.items) }
+{
+    if rows.is_empty() {
+        return Ok(());
+    }
+    push_rows(alloc, graph, table, rows, touches)
+}
+
 fn push_record_touches(
     alloc: Global,
     graph: &DepGraph,
@@ -179,7 +196,7 @@ fn push_record_touches(
 {
     match action {
         DocAction::BulkAdd { table, rows, .. } | DocAction::BulkRemove { table, rows } => {
-            push_rows(alloc, graph, table, rows.as_slice(), touches)
+            push_moved(alloc, graph, table, rows.as_slice(), touches)
         }
         DocAction::BulkUpdate {
             table,

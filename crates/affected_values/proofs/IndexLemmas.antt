@@ -25,7 +25,7 @@ use Rattle.recalc.specs.Sheet.{Sheet}
 use Rattle.affected_cells.specs.Touched.{Touch, cells_written, touched_by}
 use Rattle.affected_cells.specs.TouchedRight.{IsSameCell, IsTouchedRight}
 use Rattle.affected_cells.proofs.KeptLaws.{update_law}
-use Rattle.affected_cells.proofs.RowsLaw.{rows_law}
+use Rattle.affected_cells.proofs.RowsLaw.{came_added, came_removed}
 use Rattle.affected_cells.proofs.Tests.{flipped}
 use Rattle.affected_values.specs.Indexing.{leaves_column, table_of}
 
@@ -145,11 +145,11 @@ module _ (s : Document) where
   index_left (BulkAdd t rows ks) ok i h is =
       let free = other_table (bytes_eq i.table t) h in
       let n = sheet_of (next (BulkAdd t rows ks)) in
-      index_same (sheet_of s) n _ (tells_same (sheet_of s) n _ _ ((rows_law s t rows).added ks ok)) i.table i.column i.index free free is
+      index_same (sheet_of s) n _ (tells_same (sheet_of s) n _ _ (came_added s t rows ks ok)) i.table i.column i.index free free is
   index_left (BulkRemove t rows) ok i h is =
       let free = other_table (bytes_eq i.table t) h in
       let n = sheet_of (next (BulkRemove t rows)) in
-      index_same (sheet_of s) n _ (tells_same (sheet_of s) n _ _ ((rows_law s t rows).removed ok)) i.table i.column i.index free free is
+      index_same (sheet_of s) n _ (tells_same (sheet_of s) n _ _ (came_removed s t rows ok)) i.table i.column i.index free free is
   index_left (AddTable t row ds) ok i h is = absurd (false≢true h)
   index_left (RemoveTable t) ok i h is = absurd (false≢true h)
   index_left (RenameTable t new) ok i h is = absurd (false≢true h)
@@ -168,11 +168,11 @@ module _ (s : Document) where
   index_back (BulkAdd u rows ks) t ok e i h is =
       let free = other_table (bytes_eq i.table u) (ap (λ x. not (bytes_eq i.table x)) (some_name u t e) ∙ h) in
       let n = sheet_of (next (BulkAdd u rows ks)) in
-      index_same n (sheet_of s) _ (turned (sheet_of s) n _ (tells_same (sheet_of s) n _ _ ((rows_law s u rows).added ks ok))) i.table i.column i.index free free is
+      index_same n (sheet_of s) _ (turned (sheet_of s) n _ (tells_same (sheet_of s) n _ _ (came_added s u rows ks ok))) i.table i.column i.index free free is
   index_back (BulkRemove u rows) t ok e i h is =
       let free = other_table (bytes_eq i.table u) (ap (λ x. not (bytes_eq i.table x)) (some_name u t e) ∙ h) in
       let n = sheet_of (next (BulkRemove u rows)) in
-      index_same n (sheet_of s) _ (turned (sheet_of s) n _ (tells_same (sheet_of s) n _ _ ((rows_law s u rows).removed ok))) i.table i.column i.index free free is
+      index_same n (sheet_of s) _ (turned (sheet_of s) n _ (tells_same (sheet_of s) n _ _ (came_removed s u rows ok))) i.table i.column i.index free free is
   index_back (AddTable u row ds) t ok e i h is = absurd (no_name t e)
   index_back (RemoveTable u) t ok e i h is = absurd (no_name t e)
   index_back (RenameTable u new) t ok e i h is = absurd (no_name t e)

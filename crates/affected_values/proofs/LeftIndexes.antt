@@ -39,7 +39,7 @@ use Rattle.recalc.proofs.FilledIndexes.{filled_more}
 use Rattle.affected_cells.specs.Touched.{Touch, cells_written, touched_by}
 use Rattle.affected_cells.specs.TouchedRight.{IsTouchedRight}
 use Rattle.affected_cells.proofs.KeptLaws.{update_law}
-use Rattle.affected_cells.proofs.RowsLaw.{rows_law}
+use Rattle.affected_cells.proofs.RowsLaw.{came_added, came_removed}
 use Rattle.affected_values.specs.Indexing.{IsIndexBut, IsLeft, LeftBackLaw, LeftOverLaw, leaves_column, rows_of}
 use Rattle.affected_values.proofs.IndexLemmas.{TellsSame, index_back, index_left, tells_same, turned, under_same, update_same}
 
@@ -435,7 +435,7 @@ module _ (s : Document) where
       done = done_so (BulkAdd t rs ks) t (add_rows column_id start_of rs ks) ok refl;
       keeps = λ g r h. has-insert_rows rs g.rows r ∙ ap (λ b. b || has g.rows r) h;
       touched = _;
-      alike = tells_same (sheet_of s) (sheet_of (apply s (BulkAdd t rs ks))) _ _ ((rows_law s t rs).added ks ok);
+      alike = tells_same (sheet_of s) (sheet_of (apply s (BulkAdd t rs ks))) _ _ (came_added s t rs ks ok);
       free = λ u c r h. not_among (bytes_eq u t) (has rs r) h;
     }),
   )
@@ -446,7 +446,7 @@ module _ (s : Document) where
       done = done_so (BulkRemove t rs) t (remove_rows column_id rs) ok refl;
       keeps = λ g r h. has-filter (λ z. not (has rs z)) g.rows r ∙ ap (λ b. not b && has g.rows r) h;
       touched = _;
-      alike = tells_same (sheet_of s) (sheet_of (apply s (BulkRemove t rs))) _ _ ((rows_law s t rs).removed ok);
+      alike = tells_same (sheet_of s) (sheet_of (apply s (BulkRemove t rs))) _ _ (came_removed s t rs ok);
       free = λ u c r h. not_among (bytes_eq u t) (has rs r) h;
     }),
   )

@@ -18,7 +18,7 @@ use Rattle.affected_cells.specs.Affected.{is_fresh_cell, is_modified}
 use Rattle.affected_cells.specs.Noted.{notes}
 use Rattle.affected_cells.specs.Touched.{is_touched}
 use Rattle.affected_cells.specs.TouchedRight.{IsSameCell}
-use Rattle.affected_cells.proofs.RowsLaw.{rows_law}
+use Rattle.affected_cells.proofs.RowsLaw.{came_added, came_removed}
 use Rattle.affected_search.specs.Actions.{KeepsOthers}
 use Rattle.affected_search.specs.Sheets.{is_found}
 use Rattle.affected_values.specs.Carried.{HasCellsOf, moved_rows, moved_table}
@@ -42,10 +42,10 @@ formula_apart : (s : Document) (a : DocAction) (t : List ℕ) → moved_table a 
     → (c : CellId) → (bytes_eq c.table t && has (moved_rows a) c.row) ≡ false → formula_at (apply s a) c ≡ formula_at s c
 formula_apart s (BulkAdd u rows ks) t h ok c other =
     same_formula s (apply s (BulkAdd u rows ks)) (BulkAdd u rows ks) (is_fresh_cell s (BulkAdd u rows ks)) c
-    (((rows_law s u rows).added ks ok).cell c (ap (λ n. (bytes_eq c.table n && has rows c.row) || false) (some_same u t h) ∙ ap (λ b. b || false) other)).1
+    ((came_added s u rows ks ok).cell c (ap (λ n. (bytes_eq c.table n && has rows c.row) || false) (some_same u t h) ∙ ap (λ b. b || false) other)).1
 formula_apart s (BulkRemove u rows) t h ok c other =
     same_formula s (apply s (BulkRemove u rows)) (BulkRemove u rows) (is_fresh_cell s (BulkRemove u rows)) c
-    (((rows_law s u rows).removed ok).cell c (ap (λ n. (bytes_eq c.table n && has rows c.row) || false) (some_same u t h) ∙ ap (λ b. b || false) other)).1
+    ((came_removed s u rows ok).cell c (ap (λ n. (bytes_eq c.table n && has rows c.row) || false) (some_same u t h) ∙ ap (λ b. b || false) other)).1
 formula_apart s (BulkUpdate u rows ks) t h ok c other = absurd (none_some t h)
 formula_apart s (AddTable u r cs) t h ok c other = absurd (none_some t h)
 formula_apart s (RemoveTable u) t h ok c other = absurd (none_some t h)

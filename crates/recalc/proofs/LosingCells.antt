@@ -25,7 +25,7 @@ use Rattle.recalc.specs.Cells.{cell_of}
 use Rattle.recalc.specs.Current.{has_formula, has_formulas}
 use Rattle.recalc.specs.InOrder.{in_order, itself}
 use Rattle.recalc.specs.Lost.{all_cells, cells_at, columns_cells, table_cells, tables_cells}
-use Rattle.recalc.specs.MayLose.{is_record, tables_written, may_lose, may_lose_all, may_lose_at, may_lose_column, may_lose_data, may_lose_in, may_lose_row, rows_to_lose}
+use Rattle.recalc.specs.MayLose.{is_adding, is_record, tables_written, may_lose, may_lose_all, may_lose_at, may_lose_column, may_lose_data, may_lose_in, may_lose_row, rows_to_lose}
 use Rattle.recalc.specs.Watched.{is_computed}
 use Rattle.recalc.proofs.PlainLemmas.{any_none}
 
@@ -232,11 +232,19 @@ module _ (v : Document) (a : DocAction) where
       ∙ ap (λ b. cond b (cell_there t c r ∷ losing t c rows) (losing t c rows)) (and_none (may_lose_column a c))
       ∙ rows_left t c isnt isnot rows
 
-  pub rows_all : (t : List ℕ) → may_lose_all a t ≡ true → (rows : List ℕ) → rows ≡ filter (may_lose_row v a t) rows
-  rows_all t is [] = refl
-  rows_all t is (r ∷ rows) =
-      ap (λ l. r ∷ l) (rows_all t is rows)
-      ∙ sym (ap (λ b. cond (b || has (rows_to_lose v a t) r) (r ∷ filter (may_lose_row v a t) rows) (filter (may_lose_row v a t) rows)) is)
+  -- no row of an action that only adds
+  pub rows_none : (t : List ℕ) → is_adding a ≡ true → (rows : List ℕ) → [] ≡ filter (may_lose_row v a t) rows
+  rows_none t adds [] = refl
+  rows_none t adds (r ∷ rows) =
+      rows_none t adds rows
+      ∙ sym (ap (λ b. cond (not b && (may_lose_all a t || has (rows_to_lose v a t) r)) (r ∷ filter (may_lose_row v a t) rows) (filter (may_lose_row v a t) rows)) adds)
+
+  pub rows_all : (t : List ℕ) → is_adding a ≡ false → may_lose_all a t ≡ true → (rows : List ℕ) → rows ≡ filter (may_lose_row v a t) rows
+  rows_all t keeps is [] = refl
+  rows_all t keeps is (r ∷ rows) =
+      ap (λ l. r ∷ l) (rows_all t keeps is rows)
+      ∙ sym (ap (λ b. cond (not b && (may_lose_all a t || has (rows_to_lose v a t) r)) (r ∷ filter (may_lose_row v a t) rows) (filter (may_lose_row v a t) rows)) keeps
+      ∙ ap (λ b. cond (b || has (rows_to_lose v a t) r) (r ∷ filter (may_lose_row v a t) rows) (filter (may_lose_row v a t) rows)) is)
 
   -- ---- the columns of a table
 
@@ -293,12 +301,6 @@ record_away true k rows r e = absurd (true≢false e)
 record_away false true rows r e = refl
 record_away false false rows r e = refl
 
-record_none : (n k : Bool) (r : ℕ) → has (cond n [] [] ++ cond k [] []) r ≡ false
-record_none true true r = refl
-record_none true false r = refl
-record_none false true r = refl
-record_none false false r = refl
-
 -- of a schema action
 schema_away : (n m k : Bool) (rows : List ℕ) (r : ℕ) → (n || (m || k)) ≡ false → ((n || m) || has (cond n [] [] ++ cond k rows []) r) ≡ false
 schema_away true m k rows r e = absurd (true≢false e)
@@ -311,10 +313,10 @@ or_end true e = absurd (true≢false e)
 or_end false e = refl
 
 pub no_data : (v : Document) (a : DocAction) (t : List ℕ) → may_lose_data a t ≡ false → (r : ℕ) → may_lose_row v a t r ≡ false
-no_data v (BulkAdd table rows ks) t isnot r = record_none (bytes_eq table t) (bytes_eq columns_id t) r
+no_data v (BulkAdd table rows ks) t isnot r = refl
 no_data v (BulkUpdate table rows ks) t isnot r = record_away (bytes_eq table t) (bytes_eq columns_id t) rows r (or_end (bytes_eq table t) isnot)
 no_data v (BulkRemove table rows) t isnot r = record_away (bytes_eq table t) (bytes_eq columns_id t) rows r (or_end (bytes_eq table t) isnot)
-no_data v (AddTable table row columns) t isnot r = schema_away (bytes_eq table t) (bytes_eq tables_id t) (bytes_eq columns_id t) (columns_touched v (AddTable table row columns)) r isnot
+no_data v (AddTable table row columns) t isnot r = refl
 no_data v (RemoveTable table) t isnot r = schema_away (bytes_eq table t) (bytes_eq tables_id t) (bytes_eq columns_id t) (columns_touched v (RemoveTable table)) r isnot
 no_data v (RenameTable table new) t isnot r = schema_away (bytes_eq table t || bytes_eq new t) (bytes_eq tables_id t) (bytes_eq columns_id t) (columns_touched v (RenameTable table new)) r isnot
 no_data v (AddColumn table d) t isnot r = schema_away (bytes_eq table t) (bytes_eq tables_id t) (bytes_eq columns_id t) (columns_touched v (AddColumn table d)) r isnot

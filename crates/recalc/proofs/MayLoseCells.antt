@@ -1,6 +1,7 @@
 -- What an action loses is among the cells that it may lose.
 use Rattle.std.proofs.Common.{ℕ, Bool, true, false, cond, not, ◌||◌, ◌&&◌, List, [], ◌∷◌, ◌++◌, map, ◌≡◌, refl, sym, ap, ◌∙◌, Option, Some, None, option_map, unwrap_or}
-use Rattle.std.proofs.lemmas.Bool.{true≢false, or_parts}
+use Rattle.std.proofs.lemmas.Bool.{true≢false, and_parts, or_parts}
+use Rattle.std.specs.List.{list_all}
 use Rattle.std.specs.Option.{is_some}
 use Rattle.std.specs.Str.{bytes_eq}
 use Rattle.cell_types.specs.declared.cell.CellOld.{CellOld}
@@ -10,8 +11,8 @@ use Rattle.doc_model.specs.declared.action.DocAction.TheVariants.{BulkAdd, BulkU
 use Rattle.doc_model.specs.declared.column.CellColumn.{CellColumn}
 use Rattle.doc_model.specs.declared.column.ColDef.{ColDef}
 use Rattle.doc_model.specs.Apply.{apply}
-use Rattle.doc_model.specs.ByIds.{find_id, has_id}
-use Rattle.doc_model.specs.Column.{column_id, column_row}
+use Rattle.doc_model.specs.ByIds.{are_distinct, find_id, has_id}
+use Rattle.doc_model.specs.Column.{column_id, column_row, is_sound_info}
 use Rattle.doc_model.specs.Document.{Table, Document, table_id, on_grid}
 use Rattle.doc_model.specs.DocumentLaws.{IsWhole}
 use Rattle.doc_model.specs.Grid.{cell}
@@ -19,9 +20,10 @@ use Rattle.doc_model.specs.MetadataIds.{tables_id, columns_id, is_schema_id}
 use Rattle.doc_model.specs.Records.{given, given_id, update_rows}
 use Rattle.doc_model.specs.Rows.{has, has_no_duplicates, none_in}
 use Rattle.doc_model.specs.Touched.{names_table, is_row_touched, tables_touched, columns_touched, columns_described, column_described}
-use Rattle.doc_model.specs.Valid.{valid, record_table, from_one, gives_data}
-use Rattle.doc_model.proofs.Choices.{parts_4}
-use Rattle.doc_model.proofs.ByIdsLaws.{found_id}
+use Rattle.doc_model.specs.Valid.{valid, are_free, is_new_table, rows_of, record_table, from_one, gives_data}
+use Rattle.cell_types.specs.NameRule.{is_name}
+use Rattle.doc_model.proofs.Choices.{parts_3, parts_4, parts_6, false_from, not_true}
+use Rattle.doc_model.proofs.ByIdsLaws.{found_id, has_found}
 use Rattle.doc_model.proofs.ByRowLaws.{find-with_id}
 use Rattle.doc_model.proofs.DocumentParts.{applied, passes_parts}
 use Rattle.doc_model.proofs.GridLaws.{cell-grid_of}
@@ -36,7 +38,7 @@ use Rattle.recalc.specs.Current.{IsCurrent, has_formula, has_formulas}
 use Rattle.recalc.specs.Evaluated.{filled, filled_by, value_of}
 use Rattle.recalc.specs.InOrder.{in_order}
 use Rattle.recalc.specs.Lost.{all_cells, differs, is_lost}
-use Rattle.recalc.specs.MayLose.{MayLoseLaw, may_lose, may_lose_all, may_lose_column, may_lose_row}
+use Rattle.recalc.specs.MayLose.{MayLoseLaw, is_adding, may_lose, may_lose_all, may_lose_column, may_lose_row}
 use Rattle.recalc.specs.Watched.{is_computed}
 use Rattle.recalc.proofs.FilledLemmas.{filled_table, find_filled}
 use Rattle.recalc.proofs.WatchedCells.{cell_kept, each_cells, filled_data, filter_watched, grid_filled, told_data}
@@ -120,6 +122,13 @@ added_left false true false rows r h = refl
 added_left false false true rows r h = refl
 added_left false false false rows r h = refl
 
+new_left : (n m k : Bool) (tables columns : List ℕ) (r : ℕ) → n ≡ false → (m ≡ true → has tables r ≡ false) → (k ≡ true → has columns r ≡ false) → (((n && true) || (m && has tables r)) || (k && has columns r)) ≡ false
+new_left true m k tables columns r other g h = absurd (true≢false other)
+new_left false true true tables columns r other g h = ap (λ b. b || has columns r) (g refl) ∙ h refl
+new_left false true false tables columns r other g h = ap (λ b. b || false) (g refl)
+new_left false false true tables columns r other g h = h refl
+new_left false false false tables columns r other g h = refl
+
 module _ (s : Document) (t : List ℕ) (r : ℕ) (x : Table) (at : find_id table_id t s ≡ Some x) (here : has x.grid.rows r ≡ true) where
   -- added rows are not there before
   new_rows : (table rows : List ℕ) (ks : List CellColumn) → valid s (BulkAdd table rows ks) ≡ true → bytes_eq table t ≡ true → has rows r ≡ false
@@ -145,11 +154,33 @@ module _ (s : Document) (t : List ℕ) (r : ℕ) (x : Table) (at : find_id table
           let is : parts.0 ≡ x = some_same parts.0 (sym table_at ∙ ap (λ n. find_id table_id n s) ((bytes_eq-Decides table t).0 same) ∙ at) in
           sym here ∙ ap (λ (u : Table). has u.grid.rows r) (sym is) ∙ none_in_at rows parts.0.grid.rows r four.2 e
 
+  -- nor is a table that is added, with the rows that describe it
+  new_table_rows : (table : List ℕ) (row : ℕ) (columns : List ColDef) → valid s (AddTable table row columns) ≡ true → is_row_touched s (AddTable table row columns) t r ≡ false
+  new_table_rows table row columns v =
+      let six = parts_6 (is_new_table s table) (are_free s tables_id (row ∷ [])) (are_distinct column_id columns) (list_all (λ (d : ColDef). is_name d.id) columns)
+      (are_free s columns_id (map column_row columns)) (list_all (λ (d : ColDef). is_sound_info d.info) columns) v in
+      new_left (bytes_eq table t) (bytes_eq tables_id t) (bytes_eq columns_id t) (row ∷ []) (map column_row columns) r (another six.0)
+      (free_rows tables_id (row ∷ []) six.1) (free_rows columns_id (map column_row columns) six.4)
+    where
+      another : is_new_table s table ≡ true → bytes_eq table t ≡ false
+      another new = false_from (bytes_eq table t) (λ same.
+          true≢false (sym (has_found table_id t s x at)
+          ∙ ap (has_id table_id s) (sym ((bytes_eq-Decides table t).0 same))
+          ∙ not_true (has_id table_id s table) (and_parts (not (has_id table_id s table)) (is_name table) new).0))
+
+      free_rows : (id rows : List ℕ) → are_free s id rows ≡ true → bytes_eq id t ≡ true → has rows r ≡ false
+      free_rows id rows free same =
+          let three = parts_3 (from_one rows) (has_no_duplicates rows) (none_in rows (rows_of s id)) free in
+          false_from (has rows r) (λ is.
+          true≢false (sym here
+          ∙ ap (λ (o : Option Table). has (elim o as (λ _. List ℕ) [ None ↦ [] | Some u ↦ u.grid.rows ]) r) (sym (ap (λ n. find_id table_id n s) ((bytes_eq-Decides id t).0 same) ∙ at))
+          ∙ none_in_at rows (rows_of s id) r three.2 is))
+
   pub row_left : (a : DocAction) → valid s a ≡ true → may_lose_row s a t r ≡ false → is_row_touched s a t r ≡ false
   row_left (BulkAdd table rows ks) v e = added_left (bytes_eq table t) (bytes_eq tables_id t) (bytes_eq columns_id t) rows r (new_rows table rows ks v)
   row_left (BulkUpdate table rows ks) v e = record_left (bytes_eq table t) (bytes_eq tables_id t) (bytes_eq columns_id t) rows r e
   row_left (BulkRemove table rows) v e = record_left (bytes_eq table t) (bytes_eq tables_id t) (bytes_eq columns_id t) rows r e
-  row_left (AddTable table row columns) v e = schema_left (bytes_eq table t) (bytes_eq tables_id t) (bytes_eq columns_id t) (tables_touched s (AddTable table row columns)) (columns_touched s (AddTable table row columns)) r e
+  row_left (AddTable table row columns) v e = new_table_rows table row columns v
   row_left (RemoveTable table) v e = schema_left (bytes_eq table t) (bytes_eq tables_id t) (bytes_eq columns_id t) (tables_touched s (RemoveTable table)) (columns_touched s (RemoveTable table)) r e
   row_left (RenameTable table new) v e = schema_left (bytes_eq table t || bytes_eq new t) (bytes_eq tables_id t) (bytes_eq columns_id t) (tables_touched s (RenameTable table new)) (columns_touched s (RenameTable table new)) r e
   row_left (AddColumn table d) v e = schema_left (bytes_eq table t) (bytes_eq tables_id t) (bytes_eq columns_id t) (tables_touched s (AddColumn table d)) (columns_touched s (AddColumn table d)) r e
@@ -219,7 +250,7 @@ module _ (s : Document) (a : DocAction) (whole : IsWhole s) (v : valid s a ≡ t
       by_row e =
           cell_kept s a whole v t c r x d at found here
           (ap (λ b. b || is_row_touched s a t r) computed
-          ∙ row_left s t r x at here a v (sym (ap (λ l. may_lose_all a t || has (cond (names_table a t) (Rattle.recalc.specs.MayLose.rows_written a) [] ++ cond (bytes_eq columns_id t) l []) r) (touched_filled (value_of s) s a)) ∙ e))
+          ∙ row_left s t r x at here a v (sym (ap (λ l. not (is_adding a) && (may_lose_all a t || has (cond (names_table a t) (Rattle.recalc.specs.MayLose.rows_written a) [] ++ cond (bytes_eq columns_id t) l []) r)) (touched_filled (value_of s) s a)) ∙ e))
 
     by_column : (a : DocAction) (w : valid s a ≡ true) → d.info.is_formula ≡ false → may_lose_column a c ≡ false → is_lost (filled (apply s a)) a cell_there ≡ false
     by_column (BulkUpdate table rows ks) w plain e = column_kept s table rows ks w t c r x d at found here plain e

@@ -4,7 +4,7 @@ use Rattle.std.specs.Prelude.{ℕ, Bool, true, false, cond, not, ◌&&◌, ◌||
 use Rattle.std.specs.Str.{bytes_eq}
 use Rattle.cell_types.specs.declared.cell.CellOld.{CellOld}
 use Rattle.doc_model.specs.declared.action.DocAction.{DocAction}
-use Rattle.doc_model.specs.declared.action.DocAction.TheVariants.{BulkAdd, BulkUpdate, BulkRemove}
+use Rattle.doc_model.specs.declared.action.DocAction.TheVariants.{BulkAdd, BulkUpdate, BulkRemove, AddTable}
 use Rattle.doc_model.specs.declared.column.ColDef.{ColDef}
 use Rattle.doc_model.specs.Apply.{apply}
 use Rattle.doc_model.specs.ByIds.{has_id}
@@ -27,6 +27,13 @@ is_record (BulkAdd table rows ks) = true
 is_record (BulkUpdate table rows ks) = true
 is_record (BulkRemove table rows) = true
 is_record _ = false
+
+-- whether the action adds records or a table: then it loses no data cell, since what it adds is not
+-- there yet
+abbrev pub is_adding : DocAction → Bool
+is_adding (BulkAdd table rows ks) = true
+is_adding (AddTable table row columns) = true
+is_adding _ = false
 
 -- the table in which a record action writes or removes rows; those that it adds are not there yet
 abbrev pub tables_written : DocAction → List (List ℕ)
@@ -57,7 +64,8 @@ rows_to_lose v a t =
     ++ cond (bytes_eq columns_id t) (columns_touched v a) []
 
 abbrev pub may_lose_row : Document → DocAction → List ℕ → ℕ → Bool
-may_lose_row v a t r = may_lose_all a t || has (rows_to_lose v a t) r
+may_lose_row v a t r =
+    not (is_adding a) && (may_lose_all a t || has (rows_to_lose v a t) r)
 
 -- whether an action may lose a cell of the document with its values in place
 abbrev pub may_lose : Document → DocAction → CellOld → Bool
@@ -67,8 +75,8 @@ may_lose v a o =
 
 -- whether it may lose data cells of the table
 abbrev pub may_lose_data : DocAction → List ℕ → Bool
-may_lose_data (BulkAdd table rows ks) t = false
-may_lose_data a t = names_table a t || (not (is_record a) && is_schema_id t)
+may_lose_data a t =
+    not (is_adding a) && (names_table a t || (not (is_record a) && is_schema_id t))
 
 -- whether it may lose cells of the table
 abbrev pub may_lose_in : Document → DocAction → List ℕ → Bool

@@ -8,7 +8,7 @@ ghost use Rattle.doc_model.specs.MetadataIds.{columns_id, tables_id};
 ghost use Rattle.doc_model.specs.Records.{given_id};
 ghost use Rattle.doc_model.specs.Touched.{column_described, columns_described, columns_touched, names_table};
 ghost use Rattle.doc_readers.specs.Parts.{grid_at};
-ghost use Rattle.recalc.specs.MayLose.{is_record, may_lose_all, may_lose_column, may_lose_data, may_lose_row, rows_to_lose, rows_written, tables_written};
+ghost use Rattle.recalc.specs.MayLose.{is_adding, is_record, may_lose_all, may_lose_column, may_lose_data, may_lose_row, rows_to_lose, rows_written, tables_written};
 
 use crate::rows::rows_among;
 use cell_types::Name;
@@ -23,6 +23,16 @@ pub(crate) fn is_record(action: &DocAction) -> bool
     matches!(
         action,
         DocAction::BulkAdd { .. } | DocAction::BulkUpdate { .. } | DocAction::BulkRemove { .. }
+    )
+}
+
+/// Whether the action adds records or a table, and so loses no data cell.
+fn is_adding(action: &DocAction) -> bool
+    ensures { result ≡ is_adding action.now }
+{
+    matches!(
+        action,
+        DocAction::BulkAdd { .. } | DocAction::AddTable { .. }
     )
 }
 
@@ -94,10 +104,8 @@ pub fn may_lose_column(action: &DocAction, id: &Name) -> bool
 pub(crate) fn may_lose_data(action: &DocAction, id: &Name) -> bool
     ensures { result ≡ may_lose_data action.now id.now }
 {
-    match action {
-        DocAction::BulkAdd { .. } => false,
-        _ => names_table(action, id) || !is_record(action) && is_schema_id(id.as_str()),
-    }
+    !is_adding(action)
+        && (names_table(action, id) || !is_record(action) && is_schema_id(id.as_str()))
 }
 
 fn may_lose_all(action: &DocAction, id: &Name) -> bool
@@ -232,6 +240,9 @@ pub fn rows_of_table<R: DocReader>(
         ≡ filter (may_lose_row (R.document doc.now) action.now id.now)
         (grid_at (R.document doc.now) id.now).rows) }
 {
+    if is_adding(action) {
+        return Ok(Vec::new(alloc));
+    }
     let rows = rows_in(doc, id);
     if may_lose_all(action, id) {
         let all = Vec::from_slice(alloc, rows)?;

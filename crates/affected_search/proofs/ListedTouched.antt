@@ -76,17 +76,17 @@ numbered f n None h = absurd (false≢true h)
 numbered f n (Some x) h = (x, refl, h)
 
 module _ (names : List (List ℕ)) where
-  one_name : (u t : List ℕ) (i : ℕ) → number_in names u ≡ Some i → number_in names t ≡ Some i → u ≡ t
+  pub one_name : (u t : List ℕ) (i : ℕ) → number_in names u ≡ Some i → number_in names t ≡ Some i → u ≡ t
   one_name u t i p q = found_once u t (sym (number_there names u i p) ∙ number_there names t i q)
 
-  one_column : (u c t b : List ℕ) (k : ColumnNumber) → column_in names u c ≡ Some k → column_in names t b ≡ Some k → (u ≡ t) × (c ≡ b)
+  pub one_column : (u c t b : List ℕ) (k : ColumnNumber) → column_in names u c ≡ Some k → column_in names t b ≡ Some k → (u ≡ t) × (c ≡ b)
   one_column u c t b k p q =
       let v = column_parts names u c k p in
       let w = column_parts names t b k q in
       (one_name u t k.table v.0 w.0, one_name c b k.column v.1 w.1)
 
   -- a cell of this number stands in the row, and its column has the column's number
-  cell_of_number : (e : CellId) (k : ColumnNumber) (r : ℕ) → cell_in names e ≡ Some (cell_at k r) → (column_in names e.table e.column ≡ Some k) × (e.row ≡ r)
+  pub cell_of_number : (e : CellId) (k : ColumnNumber) (r : ℕ) → cell_in names e ≡ Some (cell_at k r) → (column_in names e.table e.column ≡ Some k) × (e.row ≡ r)
   cell_of_number e k r is =
       let w = mapped (λ (j : ColumnNumber). cell_at j e.row) (column_in names e.table e.column) (cell_at k r) is in
       (w.1 ∙ ap (λ (d : CellNumber). Some d.column) w.2, ap (λ (d : CellNumber). d.row) w.2)
@@ -96,17 +96,17 @@ module _ (names : List (List ℕ)) where
     abbrev pub OnTouched : ReadNumber → Type 0
     OnTouched n = (q : Read) → has_number names n q ≡ true → touched q ≡ true
 
-    on_cell : (d : CellNumber) → ((e : CellId) → cell_in names e ≡ Some d → touched (Cell e) ≡ true) → OnTouched (read.Cell d)
+    pub on_cell : (d : CellNumber) → ((e : CellId) → cell_in names e ≡ Some d → touched (Cell e) ≡ true) → OnTouched (read.Cell d)
     on_cell d h (Cell e) there = let w = numbered read.Cell (read.Cell d) (cell_in names e) there in h e (w.1 ∙ ap (λ j. Some j) (same_cell w.0 d w.2))
     on_cell d h (Key u c) there = absurd (false≢true (numbered read.Key (read.Cell d) (column_in names u c) there).2)
     on_cell d h (Rows u) there = absurd (false≢true (numbered read.Rows (read.Cell d) (number_in names u) there).2)
 
-    on_key : (k : ColumnNumber) → ((u c : List ℕ) → column_in names u c ≡ Some k → touched (Key u c) ≡ true) → OnTouched (read.Key k)
+    pub on_key : (k : ColumnNumber) → ((u c : List ℕ) → column_in names u c ≡ Some k → touched (Key u c) ≡ true) → OnTouched (read.Key k)
     on_key k h (Cell e) there = absurd (false≢true (numbered read.Cell (read.Key k) (cell_in names e) there).2)
     on_key k h (Key u c) there = let w = numbered read.Key (read.Key k) (column_in names u c) there in h u c (w.1 ∙ ap (λ j. Some j) (same_column w.0 k w.2))
     on_key k h (Rows u) there = absurd (false≢true (numbered read.Rows (read.Key k) (number_in names u) there).2)
 
-    on_rows : (i : ℕ) → ((u : List ℕ) → number_in names u ≡ Some i → touched (Rows u) ≡ true) → OnTouched (read.Rows i)
+    pub on_rows : (i : ℕ) → ((u : List ℕ) → number_in names u ≡ Some i → touched (Rows u) ≡ true) → OnTouched (read.Rows i)
     on_rows i h (Cell e) there = absurd (false≢true (numbered read.Cell (read.Rows i) (cell_in names e) there).2)
     on_rows i h (Key u c) there = absurd (false≢true (numbered read.Key (read.Rows i) (column_in names u c) there).2)
     on_rows i h (Rows u) there = let w = numbered read.Rows (read.Rows i) (number_in names u) there in h u (w.1 ∙ ap (λ j. Some j) (eqb-true w.0 i w.2))

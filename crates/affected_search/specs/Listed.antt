@@ -1,5 +1,5 @@
 -- The reads to be listed of an action on records, by numbers, as a document shows its rows.
-use Rattle.std.specs.Prelude.{ℕ, zero, suc, true, cond, List, [], ◌∷◌, ◌++◌, map, length, Option, Some, None, ◌≡◌}
+use Rattle.std.specs.Prelude.{ℕ, zero, suc, true, List, [], ◌∷◌, ◌++◌, map, length, Option, Some, None, ◌≡◌}
 use Rattle.std.specs.List.{list_any}
 use Rattle.cell_types.specs.declared.cell.CellId.{CellId}
 use Rattle.doc_model.specs.declared.action.DocAction.{DocAction}
@@ -26,7 +26,6 @@ use Rattle.dep_graph.specs.Names.{number_in}
 use Rattle.dep_graph.specs.Records.{holds, reads_under}
 use Rattle.dep_graph.specs.Sources.{cell_in, column_in}
 use Rattle.affected_search.specs.Actions.{KeepsOthers}
-use Rattle.affected_search.specs.Losing.{are_some}
 use Rattle.affected_search.specs.Noted.{HoldsNotes, ListsChanges}
 use Rattle.affected_search.specs.Reached.{is_among}
 use Rattle.affected_search.specs.RowValues.{column_values, row_values}
@@ -64,9 +63,10 @@ update_reads names t g rows (k ∷ ks) =
     given_reads g (column_in names t k.id) rows (find_id column_id k.id g.columns)
     ++ update_reads names t g rows ks
 
--- of rows, where there are some
+-- the reads of rows, where there are some
 abbrev pub where_some : List ℕ → List ReadNumber → List ReadNumber
-where_some rows reads = cond (are_some rows) reads []
+where_some [] reads = []
+where_some (r ∷ rows) reads = reads
 
 -- of another action nothing
 abbrev pub record_reads : List (List ℕ) → Document → DocAction → List ReadNumber

@@ -189,6 +189,10 @@ module _ (id rows : List ℕ) where
 
 -- ---- no rows
 
+pub none_gone : (rs : List ℕ) → without [] rs ≡ rs
+none_gone [] = refl
+none_gone (r ∷ rs) = ap (λ l. r ∷ l) (none_gone rs)
+
 module _ (id : List ℕ) where
   abbrev pub untouched : Read → Bool
   untouched q = false
@@ -199,12 +203,8 @@ module _ (id : List ℕ) where
       (λ g d r. cond (has [] r) (unwrap_or (given [] ks d.id r) (start_of d)) (cell column_id g d.id r)) untouched
       (λ free rs. refl) (λ d of free rs. refl) (λ g e d of free name. refl) (λ u k r h. refl) s fresh was
 
-  all_kept : (rs : List ℕ) → without [] rs ≡ rs
-  all_kept [] = refl
-  all_kept (r ∷ rs) = ap (λ l. r ∷ l) (all_kept rs)
-
   pub none_removed : (s : Document) (fresh : CellId → Bool) → ((c : CellId) → fresh c ≡ false → (f : List ℕ) × (formula_at s c ≡ Some f))
       → IsTouchedRight (sheet_of s) (sheet_of (with_table id (on_grid (remove_rows column_id [])) s)) fresh untouched
   none_removed s fresh was = table_right id (without [])
       (λ g d r. cell column_id g d.id r) untouched
-      (λ free rs. all_kept rs) (λ d of free rs. ap (λ l. has l d.row) (all_kept rs)) (λ g e d of free name. refl) (λ u k r h. refl) s fresh was
+      (λ free rs. none_gone rs) (λ d of free rs. ap (λ l. has l d.row) (none_gone rs)) (λ g e d of free name. refl) (λ u k r h. refl) s fresh was

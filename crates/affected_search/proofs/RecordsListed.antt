@@ -31,6 +31,7 @@ use Rattle.affected_cells.specs.Met.{IsUnmet}
 use Rattle.affected_cells.specs.Touched.{Touch, cells_written, is_touched, rows_moved, touched_by}
 use Rattle.affected_cells.specs.TouchedRight.{IsSameCell, IsTouchedRight}
 use Rattle.affected_cells.proofs.KeptLaws.{update_law}
+use Rattle.affected_cells.proofs.RowTouches.{none_gone}
 use Rattle.affected_cells.proofs.RowsLaw.{rows_law}
 use Rattle.affected_cells.proofs.Tests.{found_once}
 use Rattle.dep_graph.specs.declared.numbers.ReadNumber.{ReadNumber}
@@ -40,10 +41,6 @@ use Rattle.affected_search.specs.Noted.{IsFree, IsFreeKey, ListsChanges, ListsRo
 use Rattle.affected_search.specs.RecordsListed.{AreListed, ListsCells, ListsGiven, ListsValues, RecordsListedLaw}
 
 -- ---- rows
-
-pub none_gone : (rs : List ℕ) → without [] rs ≡ rs
-none_gone [] = refl
-none_gone (r ∷ rs) = ap (λ l. r ∷ l) (none_gone rs)
 
 -- a number from which on no row stands in the list
 beyond : (rows : List ℕ) → (b : ℕ) × ((r : ℕ) → b ≤ r → has rows r ≡ false)

@@ -17,7 +17,7 @@ use Rattle.doc_model.proofs.Choices.{or_assoc, or_false}
 use Rattle.recalc.proofs.SortedRows.{same_tests}
 use Rattle.affected_cells.specs.Touched.{Touch, cells_written, column_altered, rows_come_or_go, table_altered, touched_by, touches}
 use Rattle.affected_cells.proofs.Tests.{found_once}
-use Rattle.dep_graph.proofs.NameLaws.{mapped_more, number_there}
+use Rattle.dep_graph.proofs.NameLaws.{append_none, mapped_more, number_there}
 use Rattle.dep_graph.specs.declared.numbers.CellNumber.{CellNumber}
 use Rattle.dep_graph.specs.declared.numbers.ColumnNumber.{ColumnNumber}
 use Rattle.dep_graph.specs.declared.numbers.ReadNumber.{ReadNumber}
@@ -141,10 +141,6 @@ module _ (names : List (List ℕ)) where
       subst (λ ms. AddsTouches names ms old new) (mapped_more f xs i x [] l e) (adds_more (map f (take i xs)) (f x ∷ []) old now new before put)
 
 -- ---- the touches of an action
-
-append_none : {A : Type 0} (xs : List A) → xs ++ [] ≡ xs
-append_none [] = refl
-append_none (x ∷ xs) = ap (λ r. x ∷ r) (append_none xs)
 
 parts : (s : Document) (a : DocAction) → record_touches a ++ (table_touches s a ++ column_touches s a) ≡ touches s a
 parts s (BulkAdd t rows ks) = append_none _

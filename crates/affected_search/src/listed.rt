@@ -147,10 +147,11 @@ fn update_reads<R: DocReader>(
 }
 
 /// The reads to be listed of an action on records, of those that have numbers, as a document shows
-/// its rows; nothing of another action, and of no rows. Of rows that come or go they are the cells in these, all
-/// rows of the table, and the values by which lookups find the rows; of an update those of the
-/// columns that it gives. Listed in the document before and in the one after, they are all that the
-/// action changes: a lookup that meets none of the rows reads nothing of it.
+/// its rows; nothing of another action, and nothing where no rows come or go. Of rows that do they
+/// are the cells in these, all rows of the table, and the values by which lookups find the rows;
+/// of an update those of the columns that it gives. Listed in the document before and in the one
+/// after, they are all that the action changes: a lookup that meets none of the rows reads nothing
+/// of it.
 ///
 /// Errors: out of memory, or 2^32 names have numbers. Memory: the reads, and a copy of a value at a
 /// time. Cost: of an update its cells, and its columns among those of the table; where rows come or

@@ -1,6 +1,7 @@
 pub mod AlteredLemmas
 mod GoneLemmas
 mod MovedLemmas
+pub mod RefreshedLemmas
 pub mod SpentLemmas
 pub mod StartLemmas
 pub mod TouchedLemmas

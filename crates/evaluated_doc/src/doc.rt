@@ -24,7 +24,7 @@ use crate::going_back::go_back_to;
 use crate::indexing::{enter_behind, gone_rows, leave_behind, take_indexes};
 use crate::moving::{find_moved, moved_by, refresh_moved};
 use crate::starting::{Start, start_in_levels, start_of};
-use crate::touching::{Touched, refresh_cells, touched_cells};
+use crate::touching::{Touched, refresh_touched};
 use crate::trace::{Before, Trace};
 use crate::updating::{find_affected, is_update, refresh_updated};
 use affected_search::{narrow_cells, narrow_law};
@@ -444,7 +444,6 @@ impl<D: DocTables> Doc<D> {
         ensures { D.document self.new ≡ D.document self.old }
     {
         self.reads.put_owed()?;
-        let cells = touched_cells(alloc, self.reads.graph(), touched)?;
         let Some(kept) = &mut self.kept else {
             return Ok(());
         };
@@ -452,7 +451,7 @@ impl<D: DocTables> Doc<D> {
         let reads = &mut self.reads;
         let known = &mut self.indexes;
         let blank = Blank::new(1);
-        refresh_cells::<D, Brand>(alloc, tables, kept, known, reads, cells, blank)
+        refresh_touched::<D, Brand>(alloc, tables, kept, known, reads, touched, blank)
     }
 
     /// Goes back to the document before the change that left the present one. No cell is attempted:

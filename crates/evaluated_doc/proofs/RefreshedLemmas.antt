@@ -46,7 +46,7 @@ use Rattle.affected_values.proofs.HeldNone.{held_none}
 use Rattle.affected_values.specs.Taken.{IsRightBut}
 use Rattle.recalc.proofs.Turn.{same_itself, same_true}
 use Rattle.evaluated_doc.specs.Touching.{AreRefreshed, FindsRefreshed, IsRightOutside, cell_numbers, cells_numbers, is_read_touched, is_refreshed, read_numbers, reads_numbers, same_read, touched_numbers}
-use Rattle.evaluated_doc.proofs.AlteredLemmas.{none_some, some_same}
+use Rattle.evaluated_doc.proofs.AlteredLemmas.{kept_value, none_some, some_same}
 
 bytes_itself : (x : List ℕ) → bytes_eq x x ≡ true
 bytes_itself x = (bytes_eq-Decides x x).1 refl
@@ -152,11 +152,10 @@ module _ (names : List (List ℕ)) where
 
     naming_beside : (c : CellId) → touched (Cell c) ≡ true → touched (Key c.table c.column) ≡ true → (o : Option ColumnNumber) → column_in names c.table c.column ≡ o
         → AllByRecursion (IsBeside names touched) (elim (option_map {U = CellNumber} (λ (j : ColumnNumber). record { column = j; row = c.row }) o) as (λ _. List ReadNumber) [ None ↦ [] | Some k ↦ reads_naming k ])
-    naming_beside c on key None is = tt
-    naming_beside c on key (Some k) is = (
-      cell_beside c (record { column = k; row = c.row }) (ap (option_map {U = CellNumber} (λ (j : ColumnNumber). record { column = j; row = c.row })) is) on,
-      key_beside c.table c.column k is key,
-      tt,
+    naming_beside c told key None is = tt
+    naming_beside c told key (Some k) is = (
+      cell_beside c (record { column = k; row = c.row }) (ap (option_map {U = CellNumber} (λ (j : ColumnNumber). record { column = j; row = c.row })) is) told,
+      (key_beside c.table c.column k is key, tt),
     )
 
     cells_beside : (cs : List CellId) → ((q : Read) → list_any (λ c. names_cell c q) cs ≡ true → touched q ≡ true) → AllByRecursion (IsBeside names touched) (cells_numbers names cs)
@@ -214,8 +213,8 @@ module _ (d : Document) (graph : Graph) (rs : List Read) (cs : List CellId) (has
       where
         among : (xs : List CellId) → on xs e ≡ true → list_any (λ x. names_cell x q) xs ≡ true
         among [] h = absurd (false≢true h)
-        among (x ∷ xs) h = elim (or_cases (same_cell e x) (on xs e) h) [
-          | inl this ↦ or_left (names_cell x q) (list_any (λ y. names_cell y q) xs) (subst (λ y. names_cell y q ≡ true) (same_true e x this) one)
+        among (x ∷ xs) h = elim (or_cases (same_cell x e) (on xs e) h) [
+          | inl this ↦ or_left (names_cell x q) (list_any (λ y. names_cell y q) xs) (subst (λ y. names_cell y q ≡ true) (sym (same_true x e this)) one)
           | inr later ↦ or_right (names_cell x q) (list_any (λ y. names_cell y q) xs) (among xs later)
         ]
 
@@ -237,7 +236,7 @@ module _ (d : Document) (graph : Graph) (rs : List Read) (cs : List CellId) (has
       ]
 
       by_read : (q : Read) → IsHeld names (reads_under graph.reads k) q → (touched q || names_one s s (on cs) touched p q) ≡ true → comes c ≡ true
-      by_read q h on = elim (or_cases (touched q) (names_one s s (on cs) touched p q) on) [
+      by_read q h told = elim (or_cases (touched q) (names_one s s (on cs) touched p q) told) [
         | inl this ↦ by_touched q h.0 this h.1 h.2
         | inr this ↦ named q h this
       ]
@@ -248,8 +247,8 @@ module _ (d : Document) (graph : Graph) (rs : List Read) (cs : List CellId) (has
           named (Rows u) h one = absurd (false≢true one)
 
       by_reads : (qs : List Read) → AllByRecursion (IsHeld names (reads_under graph.reads k)) qs → list_any (λ q. touched q || names_one s s (on cs) touched p q) qs ≡ true → comes c ≡ true
-      by_reads [] all on = absurd (false≢true on)
-      by_reads (q ∷ qs) all on = elim (or_cases (touched q || names_one s s (on cs) touched p q) (list_any (λ q. touched q || names_one s s (on cs) touched p q) qs) on) [
+      by_reads [] all told = absurd (false≢true told)
+      by_reads (q ∷ qs) all told = elim (or_cases (touched q || names_one s s (on cs) touched p q) (list_any (λ q. touched q || names_one s s (on cs) touched p q) qs) told) [
         | inl this ↦ by_read q all.0 this
         | inr later ↦ by_reads qs all.1 later
       ]
@@ -309,7 +308,7 @@ module _ (d : Document) (graph : Graph) (rs : List Read) (cs : List CellId) (has
       (or_left (on cs c) (list_any (λ q. touched q || names_one s s (on cs) touched (is_refreshed rs cs d) q) (reads s c)) h))
 
 on_append : (xs ys : List CellId) (c : CellId) → on (xs ++ ys) c ≡ (on xs c || on ys c)
-on_append xs ys c = list_any-append (same_cell c) xs ys
+on_append xs ys c = list_any-append (λ x. same_cell x c) xs ys
 
 -- the cells that were found, by name, and the touched ones
 pub finds_refreshed : (graph : Graph) (rs : List Read) (cs : List CellId) (cells : List CellNumber) (named all : List CellId) → IsAffected graph.reads (touched_numbers graph.names rs cs) cells
@@ -337,7 +336,7 @@ right_outside s ks rs cs known c there outside = by (formula_at s c) refl
   where
     by : (o : Option (List ℕ)) → formula_at s c ≡ o → held_at s ks c ≡ Some (evaluated (sheet_of s) c)
     by None e = absurd (false≢true (sym (ap is_some e) ∙ there))
-    by (Some f) e = known.values c f e
+    by (Some f) e = kept_value s ks known c f e
 
 -- where the values outside are right, those of all but the found cells are
 pub right_but_found : (s : Document) (ks : List KeptTable) (rs : List Read) (cs found : List CellId) → IsKeptOf s ks → IsRightOutside rs cs s ks → AreRefreshed rs cs s found → IsRightBut s ks found

@@ -1,8 +1,9 @@
-use Rattle.std.proofs.Common.{refl, sym, subst}
+use Rattle.std.proofs.Common.{sym, subst}
 use Rattle.affected_search.specs.ExactNotes.{HasNotes}
 use Rattle.recalc.specs.Evaluated.{sheet_of}
 use Rattle.known_reads.proofs.BesideLemmas.{exact_reads}
 use Rattle.evaluated_doc.proofs.RefreshedLemmas.{right_but_found}
+use Rattle.evaluated_doc.proofs.TouchedLemmas.{as_they_were}
 use Rattle.evaluated_doc.proofs.touching.refresh_touched.Goals as goal
 
 pub refresh_recording-requires-clause-others : goal.refresh_recording-requires-clause-others
@@ -22,4 +23,4 @@ returns-in_err-cells-clause-known g c =
     exact_reads (g.D.DocReader.document c.args.tables.now) c.args.reads.now c.requires.known.none c.requires.known.owed c.requires.known.each
 
 pub returns-in_err-cells-clause-err : goal.returns-in_err-cells-clause-err
-returns-in_err-cells-clause-err g c = λ d there. refl
+returns-in_err-cells-clause-err g c = as_they_were (g.D.DocReader.document c.args.tables.now) c.args.kept.now.items c.from_residual.result

@@ -24,8 +24,8 @@ const LEAST: u32 = 3_000;
 
 const EACH: u32 = 10;
 
-// Whether both stores took the action, or found it not valid; nothing where one of them lacks memory,
-// they answer otherwise, or they do not tell the same after it or after it was taken back.
+// Whether both stores took the action, or found it not valid; nothing where one of them lacks
+// memory, they answer otherwise, or they do not tell the same after it or after it was taken back.
 fn play<L: DocTables, R: DocTables>(
     alloc: Global,
     left: &mut L,

@@ -1,4 +1,3 @@
-use Rattle.std.specs.Prelude.{◌×◌}
 use Rattle.doc_model.specs.DocumentLaws.{IsWhole}
 use Rattle.store_tests.proofs.tests.played.Given as goal
 

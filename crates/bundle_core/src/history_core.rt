@@ -18,6 +18,7 @@ ghost use Rattle.bundle_core.specs.Steps.{IsAnswer};
 
 use crate::dispatch::{Turn, answer};
 use crate::loading::{Loaded, Opening, load};
+use crate::past::CorePast;
 use crate::ruled_document::RuledDocument;
 use crate::session::OpenSession;
 use crate::session_index::index_of;
@@ -248,6 +249,27 @@ impl<K: Keeper> Core<K> {
         ensures keeping { IsKeeping self.now }
     {
         self.entries.as_slice()
+    }
+
+    /// Its users, its opening and its entries as they are now, for clauses alone.
+    ///
+    /// Memory: none.
+    pub fn past(&self) -> CorePast
+        ensures { result ≡ self.now.state }
+    {
+        CorePast::of(&self.users, &self.opening, &self.entries)
+    }
+
+    /// The session at that place among those that are open: its name, its user, and whether it lags.
+    ///
+    /// Memory: none.
+    pub fn open_session(&self, index: usize) -> Option<(&Name, &User, bool)>
+        ensures { option_map (λ x. (x.0.now, x.1.now, x.2)) result
+            ≡ option_map (λ o. (o.session, o.holder.user, o.mailbox.lagging))
+                (slice_get (state_now self.now.state).open_sessions index) }
+    {
+        let found = self.sessions.get(index)?;
+        Some((found.name(), found.user(), found.is_lagging()))
     }
 
     /// The present document, with its cells evaluated.

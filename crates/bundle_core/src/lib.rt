@@ -46,6 +46,7 @@ mod history_core;
 mod laws;
 mod loading;
 mod machine;
+mod past;
 mod ruled_document;
 mod session;
 mod session_index;
@@ -59,4 +60,5 @@ pub use laws::{
     equal_bytes_law, isolation_law, made_line_law, refusal_law, renaming_law, undo_law,
 };
 pub use machine::{CoreOpening, Event, Given};
+pub use past::CorePast;
 pub use session::{MAX_WAITING_BYTES, MAX_WAITING_LINES};

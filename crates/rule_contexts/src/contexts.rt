@@ -1,21 +1,47 @@
 //! The rules of a document, with what they know of a user.
 
 ghost use Rattle.std.specs.Prelude.{◌≡◌, IfOk};
+ghost use Rattle.recalc.specs.Evaluated.{filled};
 ghost use Rattle.user_attrs.specs.Attributes.{attributes_of};
 ghost use Rattle.rule_contexts.specs.Context.{context};
 
 use acl_rules::{Ctx, load};
-use doc_model::{DocTables, User};
+use doc_model::{DocReader, DocTables, User};
 use evaluated_doc::Doc;
 use std::alloc::{AllocError, Global};
 use user_attrs::{AttributeRule, load_attributes, user_info};
 
-/// The rules of a document, and what they know of a user by its evaluated cells, where these are
-/// the attributes that they say.
+/// The rules of a document, and what they know of a user by its evaluated cells, where one reader
+/// tells the document, another one its evaluated cells, and these are the attributes that its rules
+/// say.
 ///
 /// Errors: out of memory.
 /// Memory: the rules, the user and a row for each attribute. Cost: sorting the rules, reading their
 /// texts, and for each attribute a walk over the rows of its table.
+pub fn context_over<B: DocReader, E: DocReader>(
+    alloc: Global,
+    base: &B,
+    evaluated: &E,
+    attributes: &[AttributeRule],
+    user: &User,
+) -> Result<Ctx, AllocError>
+    requires attributes { attributes.now ≡ attributes_of (B.document base.now) }
+    requires evaluated { E.document evaluated.now ≡ filled (B.document base.now) }
+    ensures ok { IfOk result (λ x. x ≡ context user.now (B.document base.now)) }
+{
+    let user = user_info(alloc, attributes, user, evaluated)?;
+    match load(alloc, base) {
+        Ok(book) => Ok(Ctx { book, user }),
+        Err(error) => {
+            drop(user);
+            Err(error)
+        }
+    }
+}
+
+/// The same of a document that is evaluated.
+///
+/// Errors, memory and cost: those of `context_over`.
 pub fn context_with<D: DocTables>(
     alloc: Global,
     doc: &Doc<D>,
@@ -25,14 +51,7 @@ pub fn context_with<D: DocTables>(
     requires { attributes.now ≡ attributes_of (D.document doc.now) }
     ensures ok { IfOk result (λ x. x ≡ context user.now (D.document doc.now)) }
 {
-    let user = user_info(alloc, attributes, user, doc)?;
-    match load(alloc, doc.tables()) {
-        Ok(book) => Ok(Ctx { book, user }),
-        Err(error) => {
-            drop(user);
-            Err(error)
-        }
-    }
+    context_over(alloc, doc.tables(), doc, attributes, user)
 }
 
 /// The rules of a document, and what they know of a user by its evaluated cells.

@@ -23,7 +23,7 @@ mod contexts;
 mod laws;
 
 pub use changed_contexts::{may_change_contexts, may_change_rules};
-pub use contexts::{context_of, context_with};
+pub use contexts::{context_of, context_over, context_with};
 pub use laws::{
     followed_law, hidden_schema_law, same_attributes_law, same_context_law, same_rules_law,
     seen_law,

@@ -1,6 +1,6 @@
 //! The core: a document and its sessions as a history of requests leads to them.
 
-ghost use Rattle.std.specs.Prelude.{ℕ, ◌≡◌, ◌≤◌, true, false, List, [], ◌∷◌, ◌++◌, IfErr, IfOk, IsOk, OnErr, ◌+◌, length, nat_lt, option_map, Some};
+ghost use Rattle.std.specs.Prelude.{ℕ, ◌≡◌, ◌≤◌, true, false, List, [], ◌∷◌, ◌++◌, IfErr, IfOk, IsOk, OnErr, ◌+◌, length, nat_lt, option_map, slice_get, Some};
 ghost use Rattle.std.specs.Str.{bytes_eq};
 ghost use Rattle.io_edges.specs.Causes.{Rose};
 ghost use Rattle.doc_model.specs.NewDocument.{new_document};
@@ -27,7 +27,7 @@ use bundle_records::RecordLedger;
 use cell_types::{Name, Sequence};
 use column_store::ColumnTables;
 use doc_keeper::Keeper;
-use doc_model::{Entry, EntryList, Request, UserList};
+use doc_model::{Entry, EntryList, Request, User, UserList};
 use doc_opening::StartCause;
 use evaluated_doc::Doc;
 use grist_json::Line;

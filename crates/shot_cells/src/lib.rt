@@ -14,8 +14,10 @@
 #![tactic(auto)]
 
 mod cells;
+mod changes;
 mod document;
 mod places;
 
 pub use cells::ShotCells;
+pub use changes::CellChanges;
 pub use document::ShotDocument;

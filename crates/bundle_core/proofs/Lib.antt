@@ -25,3 +25,4 @@ pub mod MadeLaws
 pub mod FollowedLemmas
 pub mod FrontLemmas
 pub mod FetchLemmas
+pub mod LastChanges

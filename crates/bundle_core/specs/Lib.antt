@@ -22,3 +22,4 @@ pub mod Turns
 pub mod Loading
 pub mod Replies
 pub mod RenamingLaw
+pub mod LastChange

@@ -1,5 +1,5 @@
 -- How an entry is answered, with what is told of the keeper.
-use Rattle.std.specs.Prelude.{ℕ, ◌+◌, ◌≡◌, List, map}
+use Rattle.std.specs.Prelude.{ℕ, ◌+◌, ◌≡◌, List, map, IfSome, ⊤}
 use Rattle.io_edges.specs.Causes.{Rose}
 use Rattle.doc_model.specs.declared.entry.Entry.{Entry}
 use Rattle.doc_model.specs.declared.refusal.Refusal.TheVariants.{StoreFault}
@@ -13,6 +13,7 @@ use Rattle.bundle_core.specs.declared.bundle.Acceptance.TheVariants as acceptanc
 use Rattle.bundle_judge.specs.declared.judging.BundlePlan.{BundlePlan}
 use Rattle.bundle_core.specs.Dispatch.{AreSame, Answers, Bundles, Stays, bundle_reply, state_of}
 use Rattle.bundle_judge.specs.JudgedBundles.{after_steps, told_changes}
+use Rattle.bundle_judge.specs.Losses.{all_lost}
 use Rattle.bundle_core.specs.KeptCore.{Keeps}
 use Rattle.bundle_core.specs.Noting.{note_of}
 use Rattle.bundle_core.specs.SessionState.{SessionState}
@@ -56,7 +57,13 @@ pub record IsUnkept (s s' : Document) (old new : List SessionState) (was now : L
 -- what becomes of an accepted bundle
 abbrev pub IsAcceptance : Document → Document → List SessionState → List SessionState → Ledger
     → Ledger → ℕ → BundlePlan → Acceptance → Type 0
-IsAcceptance s s' old new was now index p (acceptance.Done lines) =
+IsAcceptance s s' old new was now index p (acceptance.Done lines lost) =
     IsDone s s' old new was now index p lines.items
 IsAcceptance s s' old new was now index p (acceptance.Unkept lines) =
     IsUnkept s s' old new was now index lines.items
+
+-- where it is told what the steps of an accepted bundle lost, it is what they did
+abbrev pub TellsLost : Document → BundlePlan → Acceptance → Type 0
+TellsLost s p (acceptance.Done lines lost) =
+    IfSome lost (λ ls. map (λ cells. cells.items) ls.items ≡ all_lost s (map action_of p.steps))
+TellsLost s p (acceptance.Unkept lines) = ⊤

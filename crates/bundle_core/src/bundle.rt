@@ -1,6 +1,6 @@
 //! An accepted bundle: its actions are done, and each open session is told of them.
 
-ghost use Rattle.std.specs.Prelude.{List, true, ◌≡◌, ◌+◌, ◌<◌, ◌^◌, [], ◌∷◌, ◌++◌, ◌≤◌, length, map, get_or, IfOk, OnOk, OnErr, vec_len, vec_capacity, IfSome, None};
+ghost use Rattle.std.specs.Prelude.{List, true, false, ◌≡◌, ◌+◌, ◌<◌, ◌^◌, [], ◌∷◌, ◌++◌, ◌≤◌, length, map, get_or, IfOk, OnOk, OnErr, vec_len, vec_capacity, IfSome, None};
 ghost use Rattle.std.specs.List.{AllByRecursion, insert};
 ghost use Rattle.doc_model.specs.Apply.{all_valid, apply_all};
 ghost use Rattle.user_actions.specs.StepLaws.{action_of};
@@ -19,11 +19,13 @@ ghost use Rattle.bundle_judge.specs.Created.{told_of};
 ghost use Rattle.bundle_judge.specs.JudgedBundles.{AreDone, after_steps, told_changes};
 ghost use Rattle.bundle_core.specs.Noting.{HasBundleRoom, MayBeUndone, note_of};
 ghost use Rattle.bundle_core.specs.State.{accepted_as, refusal};
-ghost use Rattle.bundle_core.specs.Turns.{IsAcceptance};
+ghost use Rattle.bundle_core.specs.LastChange.{HasRoomFor};
+ghost use Rattle.bundle_core.specs.Turns.{IsAcceptance, TellsLost};
 ghost use Rattle.bundle_core.specs.SessionState.{SessionState, IsReady, MayPost, posted_state};
 ghost use Rattle.rule_contexts.specs.Context.{view, view_in};
 ghost use Rattle.bundle_judge.specs.Rollback.{AllLeadBack, gone_back};
 
+use crate::last_change::lost_by;
 use crate::session::{BundleNote, OpenSession};
 use crate::telling::told_of_all;
 use crate::turns::{post_all, prepare_all, reply_with, stay_ready};
@@ -31,6 +33,7 @@ use acl_reading::RuleReading;
 use acl_rules::Ctx;
 use bundle_judge::{BareVerdict, BundlePlan, Created, Trail, all_told, go_back_all};
 use bundle_records::RecordLedger;
+use cell_types::CellOld;
 use context_changes::{KnownContexts, Renewal};
 use doc_keeper::{KeepFault, Keeper};
 use doc_model::{DocTables, Refusal, RetValueList, StepList, User, ViewActionList};
@@ -47,21 +50,32 @@ pub(crate) struct ReadyBundle {
     pub note: BundleNote,
 }
 
+/// What is ready of an accepted bundle, what is known of the rules after it, and room for what its
+/// traces tell, where they are those of its judgement.
+#[derive(Drop)]
+struct PreparedBundle {
+    ready: ReadyBundle,
+    next: Renewal,
+    room: Option<Vec<Vec<CellOld>>>,
+}
+
 /// What is ready of an accepted bundle before it is kept: its record, and the reply where the
 /// keeper fails.
 #[derive(Drop)]
 struct KeepReady {
-    bundle: ReadyBundle,
+    bundle: PreparedBundle,
     record: Line,
     refusal: Line,
-    next: Renewal,
 }
 
 /// What became of an accepted bundle, and the lines that its session is given.
 #[derive(Drop)]
 pub(crate) enum Acceptance {
-    /// It is done and kept.
-    Done(Vec<Line>),
+    /// It is done and kept. What its steps lost is told where they were done once.
+    Done {
+        lines: Vec<Line>,
+        lost: Option<Vec<Vec<CellOld>>>,
+    },
     /// The keeper failed, and nothing is done.
     Unkept(Vec<Line>),
 }
@@ -130,6 +144,8 @@ pub(crate) fn accept<D: DocTables, K: Keeper>(
     ensures ok { IfOk result (λ a. IsAcceptance
         (gone_back D.fits D.undone trail.traces.items (D.document doc.old)) (D.document doc.new)
         sessions.old.items sessions.new.items records.old records.new index plan.now a) }
+    ensures lost { IfOk result (TellsLost
+        (gone_back D.fits D.undone trail.traces.items (D.document doc.old)) plan.now) }
     ensures later { records.old.faults ≤ records.new.faults }
     ensures err_document { OnErr result (D.document doc.new
         ≡ gone_back D.fits D.undone trail.traces.items (D.document doc.old)) }
@@ -153,12 +169,13 @@ pub(crate) fn accept<D: DocTables, K: Keeper>(
         bundle,
         record,
         refusal,
-        next,
     } = ready;
     match records.keep(&record) {
         Ok(()) => {
-            known.renew(next);
-            Ok(Acceptance::Done(post(alloc, sessions, index, bundle)))
+            known.renew(bundle.next);
+            let lost = lost_by(trail.traces, bundle.room);
+            let lines = post(alloc, sessions, index, bundle.ready);
+            Ok(Acceptance::Done { lines, lost })
         }
         Err(KeepFault::Failed) => {
             go_back_all(doc, trail.traces);
@@ -204,14 +221,17 @@ fn ready_to_keep<D: DocTables, K: Keeper>(
     ensures led { AllLeadBack D.fits D.undone trail.new.traces.items (D.document doc.new) }
     ensures back { gone_back D.fits D.undone trail.new.traces.items (D.document doc.new)
         ≡ gone_back D.fits D.undone trail.old.traces.items (D.document doc.old) }
-    ensures reply { IfOk result (λ r. r.bundle.reply ≡ bundle_reply sessions.old.items index
+    ensures reply { IfOk result (λ r. r.bundle.ready.reply ≡ bundle_reply sessions.old.items index
         plan.now.undone (after_steps
         (gone_back D.fits D.undone trail.old.traces.items (D.document doc.old)) plan.now.steps)
         plan.now.created.items) }
-    ensures note { IfOk result (λ r. r.bundle.note ≡ note_of
+    ensures note { IfOk result (λ r. r.bundle.ready.note ≡ note_of
         (gone_back D.fits D.undone trail.old.traces.items (D.document doc.old)) plan.now) }
     ensures next { IfOk result (λ r.
-        IsRenewal (D.document doc.new) known.now r.next) }
+        IsRenewal (D.document doc.new) known.now r.bundle.next) }
+    ensures lost { IfOk result (λ r. IfSome r.bundle.room (λ room.
+        HasRoomFor (length trail.new.traces.items) room
+        × (trail.new.traces.items ≡ trail.old.traces.items))) }
     ensures record { IfOk result (λ r.
         IsNextRecord records.now.told (map action_of plan.now.steps) r.record) }
     ensures refusal { IfOk result (λ r. r.refusal ≡ reply_of (refusal Refusal.StoreFault)) }
@@ -225,12 +245,11 @@ fn ready_to_keep<D: DocTables, K: Keeper>(
 {
     let record = records.record_of(alloc, plan.steps.action_list())?;
     let refusal = reply_with(alloc, unkept())?;
-    let (bundle, next) = ready_bundle(alloc, doc, known, sessions, index, plan, trail)?;
+    let bundle = ready_bundle(alloc, doc, known, sessions, index, plan, trail)?;
     Ok(KeepReady {
         bundle,
         record,
         refusal,
-        next,
     })
 }
 
@@ -253,7 +272,7 @@ fn ready_bundle<D: DocTables>(
     index: usize,
     plan: &BundlePlan,
     trail: &mut Trail<D>,
-) -> Result<(ReadyBundle, Renewal), AllocError>
+) -> Result<PreparedBundle, AllocError>
     requires known { AreKnown
         (gone_back D.fits D.undone trail.old.traces.items (D.document doc.old)) known.now }
     requires all { AreAllKnown known.now.contexts.items sessions.old.items }
@@ -275,13 +294,16 @@ fn ready_bundle<D: DocTables>(
     ensures led { AllLeadBack D.fits D.undone trail.new.traces.items (D.document doc.new) }
     ensures back { gone_back D.fits D.undone trail.new.traces.items (D.document doc.new)
         ≡ gone_back D.fits D.undone trail.old.traces.items (D.document doc.old) }
-    ensures reply { IfOk result (λ r. r.0.reply ≡ bundle_reply sessions.old.items index
+    ensures reply { IfOk result (λ r. r.ready.reply ≡ bundle_reply sessions.old.items index
         plan.now.undone (after_steps
         (gone_back D.fits D.undone trail.old.traces.items (D.document doc.old)) plan.now.steps)
         plan.now.created.items) }
-    ensures note { IfOk result (λ r. r.0.note ≡ note_of
+    ensures note { IfOk result (λ r. r.ready.note ≡ note_of
         (gone_back D.fits D.undone trail.old.traces.items (D.document doc.old)) plan.now) }
-    ensures next { IfOk result (λ r. IsRenewal (D.document doc.new) known.now r.1) }
+    ensures next { IfOk result (λ r. IsRenewal (D.document doc.new) known.now r.next) }
+    ensures lost { IfOk result (λ r. IfSome r.room (λ room.
+        HasRoomFor (length trail.new.traces.items) room
+        × (trail.new.traces.items ≡ trail.old.traces.items))) }
     ensures same { AreSame sessions.old.items sessions.new.items }
     ensures ready { OnOk result (AllByRecursion (IsReady (told_changes
         (gone_back D.fits D.undone trail.old.traces.items (D.document doc.old))
@@ -293,11 +315,30 @@ fn ready_bundle<D: DocTables>(
     let all = told_of_all(alloc, doc, known, &plan.steps, &mut trail.traces)?;
     let reply = reply_to(alloc, doc, known, &all.next, &sessions[index], plan)?;
     ready_all(alloc, sessions, index, known.contexts.as_slice(), &all.told)?;
+    let room = room_for(alloc, all.again, trail.traces.len())?;
     let note = BundleNote {
         inverse: taken_inverse(alloc, &mut trail.inverse),
         undone: plan.undone,
     };
-    Ok((ReadyBundle { reply, note }, all.next))
+    Ok(PreparedBundle {
+        ready: ReadyBundle { reply, note },
+        next: all.next,
+        room,
+    })
+}
+
+// Room for what so many traces tell; none where they are not those of the judgement.
+fn room_for(
+    alloc: Global,
+    again: bool,
+    traces: usize,
+) -> Result<Option<Vec<Vec<CellOld>>>, AllocError>
+    ensures { IfOk result (λ o. IfSome o (λ room. (again ≡ false) × HasRoomFor traces room)) }
+{
+    if again {
+        return Ok(None);
+    }
+    Ok(Some(Vec::with_capacity(alloc, traces)?))
 }
 
 fn taken_inverse(alloc: Global, inverse: &mut BundleInverse) -> StepList

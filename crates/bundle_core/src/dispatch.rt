@@ -21,6 +21,7 @@ ghost use Rattle.bundle_core.specs.Followed.{AreAllKnown};
 ghost use Rattle.bundle_core.specs.Core.{is_gone, marked};
 ghost use Rattle.bundle_core.specs.Dispatch.{AreSame, Answers, Misses, Finds, kept_name};
 ghost use Rattle.bundle_core.specs.Judged.{Asks, IsJudgedFor};
+ghost use Rattle.bundle_core.specs.LastChange.{TellsChange};
 ghost use Rattle.bundle_core.specs.Renaming.{judge_plan, planned};
 ghost use Rattle.bundle_core.specs.Requests.{refusal_closed, refusal_open};
 ghost use Rattle.bundle_core.specs.SessionState.{SessionState};
@@ -30,6 +31,7 @@ ghost use Rattle.bundle_core.specs.Turns.{IsTurn};
 ghost use Rattle.rule_contexts.specs.Context.{view};
 
 use crate::bundle::{Acceptance, accept, know_all, put_back};
+use crate::last_change::LastChange;
 use crate::ruled_document::{RuledDocument, judge_for, judge_undo_for};
 use crate::session::OpenSession;
 use crate::session_index::index_of;
@@ -50,11 +52,13 @@ use plain_view::changes;
 use rename_flow::{RenamePlan, plan_rename};
 use std::alloc::{AllocError, Global};
 
-/// The lines that are given at an entry, and whether the entry is kept.
+/// The lines that are given at an entry, whether the entry is kept, and the bundle that was
+/// accepted.
 #[derive(Drop)]
 pub(crate) struct Turn {
     pub lines: Vec<Line>,
     pub kept: bool,
+    pub change: Option<LastChange>,
 }
 
 // Why a request of a session that is not open is refused, where it does not ask for the document.
@@ -108,11 +112,15 @@ fn user_of<'a>(users: &'a [User], token: &str) -> Option<&'a User>
 
 // The turn of an entry that asks for nothing that is kept.
 fn quiet(lines: Result<Vec<Line>, AllocError>) -> Result<Turn, AllocError>
-    ensures { MatchResult lines (λ v. result ≡ Ok (record { lines = v; kept = true }))
+    ensures { MatchResult lines (λ v. result ≡ Ok (record { lines = v; kept = true; change = None }))
         (λ fault. result ≡ Err fault) }
 {
     match lines {
-        Ok(lines) => Ok(Turn { lines, kept: true }),
+        Ok(lines) => Ok(Turn {
+            lines,
+            kept: true,
+            change: None,
+        }),
         Err(fault) => Err(fault),
     }
 }
@@ -140,6 +148,8 @@ pub(crate) fn answer<D: DocTables, K: Keeper>(
     ensures ok { IfOk result (λ t. IsTurn users.now (D.document doc.old) (D.document doc.new)
         sessions.old.items sessions.new.items records.old records.new (marked entry.now t.kept)
         t.lines.items) }
+    ensures change { IfOk result (λ t. TellsChange (D.document doc.old) (D.document doc.new)
+        records.old records.new t.change) }
     ensures whole { IsWhole (D.document doc.new) }
     ensures tally { IsTally (D.document doc.new) tally.new }
     ensures err_document { OnErr result (D.document doc.new ≡ D.document doc.old) }
@@ -290,6 +300,8 @@ fn answer_open<D: DocTables, K: Keeper>(
     ensures ok { IfOk result (λ t. IsTurn users.now (D.document doc.old) (D.document doc.new)
         sessions.old.items sessions.new.items records.old records.new (marked entry.now t.kept)
         t.lines.items) }
+    ensures change { IfOk result (λ t. TellsChange (D.document doc.old) (D.document doc.new)
+        records.old records.new t.change) }
     ensures whole { IsWhole (D.document doc.new) }
     ensures tally { IsTally (D.document doc.new) tally.new }
     ensures err_document { OnErr result (D.document doc.new ≡ D.document doc.old) }
@@ -400,6 +412,8 @@ fn answer_bundle<D: DocTables, K: Keeper>(
     ensures ok { IfOk result (λ t. IsTurn users.now (D.document doc.old) (D.document doc.new)
         sessions.old.items sessions.new.items records.old records.new (marked entry.now t.kept)
         t.lines.items) }
+    ensures change { IfOk result (λ t. TellsChange (D.document doc.old) (D.document doc.new)
+        records.old records.new t.change) }
     ensures whole { IsWhole (D.document doc.new) }
     ensures tally { IsTally (D.document doc.new) tally.new }
     ensures err_document { OnErr result (D.document doc.new ≡ D.document doc.old) }
@@ -474,6 +488,8 @@ fn answer_renaming<D: DocTables, K: Keeper>(
     ensures ok { IfOk result (λ t. IsTurn users.now (D.document doc.old) (D.document doc.new)
         sessions.old.items sessions.new.items records.old records.new (marked entry.now t.kept)
         t.lines.items) }
+    ensures change { IfOk result (λ t. TellsChange (D.document doc.old) (D.document doc.new)
+        records.old records.new t.change) }
     ensures whole { IsWhole (D.document doc.new) }
     ensures tally { IsTally (D.document doc.new) tally.new }
     ensures err_document { OnErr result (D.document doc.new ≡ D.document doc.old) }
@@ -526,6 +542,8 @@ fn answer_undo<D: DocTables, K: Keeper>(
     ensures ok { IfOk result (λ t. IsTurn users.now (D.document doc.old) (D.document doc.new)
         sessions.old.items sessions.new.items records.old records.new (marked entry.now t.kept)
         t.lines.items) }
+    ensures change { IfOk result (λ t. TellsChange (D.document doc.old) (D.document doc.new)
+        records.old records.new t.change) }
     ensures whole { IsWhole (D.document doc.new) }
     ensures tally { IsTally (D.document doc.new) tally.new }
     ensures err_document { OnErr result (D.document doc.new ≡ D.document doc.old) }
@@ -600,6 +618,9 @@ fn answer_judged<D: DocTables, K: Keeper>(
         (gone_back D.fits D.undone trail.traces.items (D.document doc.old)) (D.document doc.new)
         sessions.old.items sessions.new.items records.old records.new (marked entry.now t.kept)
         t.lines.items) }
+    ensures change { IfOk result (λ t. TellsChange
+        (gone_back D.fits D.undone trail.traces.items (D.document doc.old)) (D.document doc.new)
+        records.old records.new t.change) }
     ensures whole { IsWhole (D.document doc.new) }
     ensures tally { IsTally (D.document doc.new) tally.new }
     ensures known { AreKnown (D.document doc.new) known.new }
@@ -618,11 +639,20 @@ fn answer_judged<D: DocTables, K: Keeper>(
         }
         JudgedBundle::Accepted(plan) => {
             match accept(alloc, doc, known, sessions, records, index, &plan, trail)? {
-                Acceptance::Done(lines) => {
+                Acceptance::Done { lines, lost } => {
                     *tally = plan.tally;
-                    Ok(Turn { lines, kept: true })
+                    let steps = plan.steps;
+                    Ok(Turn {
+                        lines,
+                        kept: true,
+                        change: Some(LastChange { steps, lost }),
+                    })
                 }
-                Acceptance::Unkept(lines) => Ok(Turn { lines, kept: false }),
+                Acceptance::Unkept(lines) => Ok(Turn {
+                    lines,
+                    kept: false,
+                    change: None,
+                }),
             }
         }
     }

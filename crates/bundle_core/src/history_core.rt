@@ -1,14 +1,17 @@
 //! The core: a document and its sessions as a history of requests leads to them.
 
 ghost use Rattle.std.specs.Prelude.{ℕ, ◌≡◌, ◌≤◌, true, false, List, [], ◌∷◌, ◌++◌, IfErr, IfOk, IsOk, OnErr, ◌+◌, length, nat_lt, option_map, slice_get, Some};
+ghost use Rattle.std.specs.Option.{option_copied};
 ghost use Rattle.std.specs.Str.{bytes_eq};
 ghost use Rattle.io_edges.specs.Causes.{Rose};
+ghost use Rattle.doc_model.specs.DocumentLaws.{IsWhole};
 ghost use Rattle.doc_model.specs.NewDocument.{new_document};
 ghost use Rattle.doc_model.specs.WellFormed.{asks_well_formed};
 ghost use Rattle.doc_model.specs.declared.request.Request.TheVariants.{Gone};
 ghost use Rattle.doc_opening.specs.Opening.{FirstBad};
 ghost use Rattle.doc_opening.specs.declared.opening.StartCause.TheVariants.{BadStore, StoreFault};
 ghost use Rattle.bundle_core.specs.Core.{bytes_left, entry_of, history_bound, is_full, is_gone, is_open_in, marked, size_bound};
+ghost use Rattle.bundle_core.specs.LastChange.{IsLast};
 ghost use Rattle.bundle_core.specs.KeptCore.{IsKeeping, IsStarted, IsTaken, IsUnchanged, state_now};
 ghost use Rattle.bundle_core.specs.Loading.{IsLoaded};
 ghost use Rattle.bundle_core.specs.MadeLines.{IsMade, is_more, last_of, lines_made};
@@ -17,6 +20,7 @@ ghost use Rattle.bundle_core.specs.State.{mailbox_of, opening, records_kept, ses
 ghost use Rattle.bundle_core.specs.Steps.{IsAnswer};
 
 use crate::dispatch::{Turn, answer};
+use crate::last_change::LastChange;
 use crate::loading::{Loaded, Opening, load};
 use crate::past::CorePast;
 use crate::ruled_document::RuledDocument;
@@ -83,12 +87,14 @@ pub struct Core<K: Keeper> {
     records: RecordLedger<K>,
     opened: u32,
     before: u64,
+    last: Option<LastChange>,
 }
 
 impl<K: Keeper> Model for Core<K> {
     ghost use Rattle.std.specs.Prelude.{◌+◌, ◌≤◌, length, option_map, take, vec_capacity, vec_len};
     ghost use Rattle.bundle_core.specs.Core.{IsCore, document_of};
     ghost use Rattle.bundle_core.specs.KeptCore.{IsKeptFrom, KeptCore};
+    ghost use Rattle.bundle_core.specs.LastChange.{IsLast};
 
     ghost Value = { KeptCore };
 
@@ -110,7 +116,8 @@ impl<K: Keeper> Model for Core<K> {
         c.tally c.sessions.items c.bytes_left
         × (vec_len c.entries + length c.sessions.items ≤ vec_capacity c.entries)
         × IsKeptFrom c.users (document_of c.opening) c.entries.items c.opened c.before c.records
-        c.doc };
+        c.doc
+        × IsLast c.users (document_of c.opening) c.entries.items c.doc c.last };
 }
 
 impl<K: Keeper> Core<K> {
@@ -165,6 +172,7 @@ impl<K: Keeper> Core<K> {
             records,
             opened: count,
             before,
+            last: None,
         }
     }
 
@@ -212,6 +220,7 @@ impl<K: Keeper> Core<K> {
         let entry = last_entry(self.sessions.remove(index), size);
         self.bytes_left = left_after(self.bytes_left, size);
         self.entries.push_reserved(entry);
+        self.last = None;
         nothing
     }
 
@@ -236,9 +245,14 @@ impl<K: Keeper> Core<K> {
             &mut self.records,
             &entry,
         )?;
-        let Turn { lines, kept } = turn;
+        let Turn {
+            lines,
+            kept,
+            change,
+        } = turn;
         self.bytes_left = left_after(self.bytes_left, entry.size);
         self.entries.push_reserved(with_mark(entry, kept));
+        self.last = change;
         Ok(LineList::from(lines))
     }
 
@@ -260,13 +274,23 @@ impl<K: Keeper> Core<K> {
         CorePast::of(&self.users, &self.opening, &self.entries)
     }
 
+    /// The bundle that the last entry was, where that was an accepted bundle.
+    ///
+    /// Memory: none.
+    pub fn last_change(&self) -> Option<&LastChange>
+        ensures { IsLast self.now.state.users self.now.state.start self.now.state.history
+            (state_now self.now.state).document (option_copied result) }
+    {
+        self.last.as_ref()
+    }
+
     /// The session at that place among those that are open: its name, its user, and whether it lags.
     ///
     /// Memory: none.
     pub fn open_session(&self, index: usize) -> Option<(&Name, &User, bool)>
         ensures { option_map (λ x. (x.0.now, x.1.now, x.2)) result
             ≡ option_map (λ o. (o.session, o.holder.user, o.mailbox.lagging))
-                (slice_get (state_now self.now.state).open_sessions index) }
+            (slice_get (state_now self.now.state).open_sessions index) }
     {
         let found = self.sessions.get(index)?;
         Some((found.name(), found.user(), found.is_lagging()))
@@ -276,7 +300,8 @@ impl<K: Keeper> Core<K> {
     ///
     /// Memory: none.
     pub fn document(&self) -> &Doc<ColumnTables>
-        ensures { result.now ≡ (state_now self.now.state).document }
+        ensures value { result.now ≡ (state_now self.now.state).document }
+        ensures whole { IsWhole result.now }
     {
         self.doc.evaluated()
     }

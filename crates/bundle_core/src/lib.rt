@@ -43,6 +43,7 @@ mod dispatch;
 mod followed;
 mod fronts;
 mod history_core;
+mod last_change;
 mod laws;
 mod loading;
 mod machine;
@@ -56,9 +57,11 @@ mod turns;
 pub use history_core::{
     Answer, Core, Finished, LineList, MAX_ENTRIES, MAX_HISTORY_BYTES, StartFault, is_gone,
 };
+pub use last_change::LastChange;
 pub use laws::{
     equal_bytes_law, isolation_law, made_line_law, refusal_law, renaming_law, undo_law,
 };
 pub use machine::{CoreOpening, Event, Given};
 pub use past::CorePast;
+pub use ruled_document::shown_table;
 pub use session::{MAX_WAITING_BYTES, MAX_WAITING_LINES};

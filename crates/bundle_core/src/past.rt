@@ -22,9 +22,9 @@ impl Model for CorePast {
     ghost Value = { CoreState };
 
     ghost view = { λ p. record {
-        users = p.users.value;
-        start = document_of p.opening.value;
-        history = p.entries.value.items;
+      users = p.users.value;
+      start = document_of p.opening.value;
+      history = p.entries.value.items;
     } };
 }
 

@@ -4,6 +4,7 @@ ghost use Rattle.std.specs.Prelude.{◌≡◌, None, Some, true, IfOk, OnErr};
 ghost use Rattle.std.specs.List.{list_all};
 ghost use Rattle.doc_model.specs.Changes.{IsView};
 ghost use Rattle.doc_model.specs.DocumentLaws.{IsWhole};
+ghost use Rattle.doc_model.specs.LaidOut.{IsLaidOut};
 ghost use Rattle.doc_model.specs.WellFormed.{is_well_formed};
 ghost use Rattle.action_limits.specs.Tallies.{IsTally};
 ghost use Rattle.undo_bundles.specs.BundleLog.{undo_of};
@@ -12,6 +13,8 @@ ghost use Rattle.bundle_judge.specs.Judgement.{judge};
 ghost use Rattle.bundle_judge.specs.Rollback.{AllLeadBack, gone_back};
 ghost use Rattle.bundle_judge.specs.Undo.{judge_own_undo};
 ghost use Rattle.context_changes.specs.Known.{AreKnown};
+ghost use Rattle.censored_view.specs.View.{view as shown_by};
+ghost use Rattle.acl_reading.specs.RulesLet.{rules_let};
 ghost use Rattle.rule_contexts.specs.Context.{view, view_in};
 ghost use Rattle.bundle_core.specs.Mailbox.{asked_table};
 ghost use Rattle.bundle_core.specs.Renaming.{rules_alone};
@@ -23,7 +26,7 @@ use bundle_judge::{JudgedBundle, Trail, judge, judge_own_undo};
 use cell_types::Name;
 use censored_view::{Selection, part, whole_view};
 use context_changes::KnownContexts;
-use doc_model::{DocTables, User, UserAction, View};
+use doc_model::{DocReader, DocTables, User, UserAction, View};
 use doc_readers::is_acl_id;
 use evaluated_doc::Doc;
 use std::alloc::{AllocError, Global};
@@ -117,6 +120,24 @@ fn view_in<D: DocTables>(alloc: Global, doc: &Doc<D>, ctx: &Ctx) -> Result<View,
     whole_view(alloc, &RuleReading { ctx }, doc)
 }
 
+/// The table of that id as a context shows it of an evaluated document, alone; nothing where it
+/// does not show it.
+///
+/// Errors: out of memory. Cost: the rows of the table.
+pub fn shown_table<E: DocReader>(
+    alloc: Global,
+    evaluated: &E,
+    ctx: &Ctx,
+    table: &str,
+) -> Result<View, AllocError>
+    requires { IsLaidOut (E.document evaluated.now) }
+    ensures seen { IfOk result (λ v. v.tables
+        ≡ asked_table table.now (shown_by (rules_let ctx.now) (E.document evaluated.now))) }
+    ensures is_view { IfOk result (λ v. IsView v.tables) }
+{
+    part(alloc, &RuleReading { ctx }, evaluated, &Asked { table })
+}
+
 // The table of that id as a context shows it, alone; nothing where it does not show it.
 #[tactic(auto, using(recalc::proofs::FilledLaws::laid_out_law))]
 fn table_in<D: DocTables>(
@@ -130,7 +151,7 @@ fn table_in<D: DocTables>(
         ≡ asked_table table.now (view_in ctx.now (D.document doc.now))) }
     ensures is_view { IfOk result (λ v. IsView v.tables) }
 {
-    part(alloc, &RuleReading { ctx }, doc, &Asked { table })
+    shown_table(alloc, doc, ctx, table)
 }
 
 // What a context shows of the document, of which no rows are made but those of rules.

@@ -1,6 +1,6 @@
 //! What each known context is told of the steps of a bundle that is judged and done.
 
-ghost use Rattle.std.specs.Prelude.{List, true, ◌≡◌, [], map, IfOk, OnOk, IfSome};
+ghost use Rattle.std.specs.Prelude.{List, true, false, ◌≡◌, [], map, IfOk, OnOk, IfSome};
 ghost use Rattle.std.specs.List.{AllByRecursion};
 ghost use Rattle.doc_model.specs.Apply.{all_valid};
 ghost use Rattle.user_actions.specs.StepLaws.{action_of};
@@ -35,11 +35,13 @@ use rule_contexts::{may_change_contexts, may_change_rules, same_context_law, sam
 use std::alloc::{AllocError, Global};
 use std::mem;
 
-/// What is told of a bundle beside each context, and what it changed of what is known of the rules.
+/// What is told of a bundle beside each context, what it changed of what is known of the rules, and
+/// whether its steps were gone back over for it and done again.
 #[derive(Drop)]
 pub(crate) struct ToldSteps {
     pub told: Vec<ViewActionList>,
     pub next: Renewal,
+    pub again: bool,
 }
 
 /// What the rows that steps touched tell each context, and what the rules know of their users now.
@@ -78,11 +80,15 @@ pub(crate) fn told_of_all<D: DocTables>(
     ensures told { IfOk result (λ d. IsToldOf
         (gone_back D.fits D.undone traces.old.items (D.document doc.old))
         (map action_of steps.now) known.now.contexts.items d.told.items) }
+    ensures first { IfOk result (λ d. d.again ≡ false → traces.new.items ≡ traces.old.items) }
     ensures next { IfOk result (λ d. IsRenewal (D.document doc.new) known.now d.next) }
 {
     if let Some(told) = told_of_touched(alloc, doc, known, steps, traces.as_slice())? {
-        let next = Renewal::Same;
-        return Ok(ToldSteps { told, next });
+        return Ok(ToldSteps {
+            told,
+            next: Renewal::Same,
+            again: false,
+        });
     }
     if let Some(rows) = rows_told(alloc, doc, known, steps, traces.as_slice())? {
         return told_of_users(alloc, doc, known, steps, traces, rows);
@@ -121,6 +127,7 @@ fn told_of_users<D: DocTables>(
     ensures told { IfOk result (λ d. IsToldOf
         (gone_back D.fits D.undone traces.old.items (D.document doc.old))
         (map action_of steps.now) known.now.contexts.items d.told.items) }
+    ensures first { IfOk result (λ d. d.again ≡ false → traces.new.items ≡ traces.old.items) }
     ensures next { IfOk result (λ d. IsRenewal (D.document doc.new) known.now d.next) }
 {
     agreement_law();
@@ -128,6 +135,7 @@ fn told_of_users<D: DocTables>(
         return Ok(ToldSteps {
             told: rows.told,
             next: Renewal::Users(rows.users),
+            again: false,
         });
     }
     go_back_all(doc, mem::replace(traces, Vec::new(alloc)));
@@ -157,6 +165,7 @@ fn differing_seen<D: DocTables>(
         ≡ D.document doc.old }
     ensures told { IfOk result (λ d. IsToldOf (D.document doc.old) (map action_of steps.now)
         known.now.contexts.items d.told.items) }
+    ensures again { IfOk result (λ d. d.again ≡ true) }
     ensures next { IfOk result (λ d. IsRenewal (D.document doc.new) known.now d.next) }
 {
     agreement_law();
@@ -174,6 +183,7 @@ fn differing_seen<D: DocTables>(
     Ok(ToldSteps {
         told,
         next: Renewal::Users(users),
+        again: true,
     })
 }
 
@@ -224,6 +234,7 @@ fn done_and_seen<D: DocTables>(
         ≡ D.document doc.old }
     ensures told { IfOk result (λ d. IsToldOf (D.document doc.old) (map action_of steps.now)
         known.now.contexts.items d.told.items) }
+    ensures again { IfOk result (λ d. d.again ≡ true) }
     ensures next { IfOk result (λ d. IsRenewal (D.document doc.new) known.now d.next) }
 {
     let before = see_known(alloc, doc, known.contexts.as_slice())?;
@@ -233,6 +244,7 @@ fn done_and_seen<D: DocTables>(
     Ok(ToldSteps {
         told,
         next: Renewal::All(next),
+        again: true,
     })
 }
 

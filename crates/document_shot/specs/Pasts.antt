@@ -13,6 +13,13 @@ past_of c = record {
   entries = c.history;
 }
 
+-- the history of a core when these were its entries
+abbrev pub past_before : CoreState → List Entry → Past CoreStart Entry
+past_before c entries = record {
+  opening = record { users = c.users; document = c.start };
+  entries = entries;
+}
+
 -- the state that a history leads to
 abbrev pub state_at : Past CoreStart Entry → State
 state_at p = state_after p.opening.users p.opening.document p.entries

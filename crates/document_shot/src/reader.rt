@@ -1,43 +1,71 @@
 //! Readers of shots of a document.
-//!
-//! A stub: what callers see of it is meant, its bodies are not.
+
 ghost use Rattle.std.specs.Prelude.{◌≡◌, max, IfOk};
 ghost use Rattle.snap_reads.specs.Views.{TakesOn};
 ghost use Rattle.document_shot.specs.PeekAnswers.{IsPeekAnswer};
 
-use crate::past::CoreStart;
+use crate::operation::DocumentOp;
+use crate::shot::DocumentShot;
 use cell_types::{CellText, Name};
-use doc_model::Entry;
 use peek_lines::PeekAnswer;
-use snap_reads::{Mark, Past};
-use std::alloc::{AllocError, Global};
-use std::collections::LinkedList;
+use snap_reads::{Mark, NoShot, Question, ShotReader};
+use std::alloc::AllocError;
 use std::marker::Model;
-use std::snapshot::Snapshot;
+use std::mem;
 
-/// A reader of shots, as a connection has one. It is seen as the histories that it took or was told
-/// of, and how many entries the one that it takes is to have.
+/// Asks what a session sees of a table.
+#[derive(Drop)]
+struct PeekTable<'a> {
+    session: &'a Name,
+    table: &'a CellText,
+}
+
+impl Question<DocumentShot, DocumentOp> for PeekTable<'_> {
+    ghost use Rattle.std.specs.Prelude.{◌≡◌, IfOk};
+    ghost use Rattle.bundle_core.specs.KeptCore.{state_now};
+    ghost use Rattle.document_shot.specs.PeekAnswers.{peek_answer};
+    ghost use Rattle.document_shot.specs.Shots.{Stands};
+
+    type Answer = Result<PeekAnswer, AllocError>;
+
+    ghost answers = { λ s q answer. Stands s → IfOk answer
+        (λ a. a ≡ peek_answer (state_now s.past) q.session.now q.table.now) };
+
+    fn ask(self, shot: &DocumentShot) -> Result<PeekAnswer, AllocError> {
+        shot.answer(self.session, self.table)
+    }
+}
+
+/// A reader of shots, as a connection has one. It waits for nobody. It is seen as the histories
+/// that it took or was told of, and how many entries the one that it takes is to have.
 #[derive(Drop)]
 pub struct PeekReader {
-    known: Snapshot<LinkedList<Past<CoreStart, Entry>>>,
-    least: u64,
+    reader: ShotReader<DocumentShot, DocumentOp>,
 }
 
 impl Model for PeekReader {
+    ghost use Rattle.doc_model.specs.declared.entry.Entry.{Entry};
     ghost use Rattle.snap_reads.specs.Views.{ReaderView};
+    ghost use Rattle.document_shot.specs.declared.past.CoreStart.{CoreStart};
 
     ghost Value = { ReaderView CoreStart Entry };
 
-    ghost view = { λ r. record { known = r.known.value; least = r.least } };
+    ghost view = { λ r. r.reader };
 }
 
 impl PeekReader {
+    pub(crate) fn of(reader: ShotReader<DocumentShot, DocumentOp>) -> PeekReader
+        ensures { result ≡ reader }
+    {
+        PeekReader { reader }
+    }
+
     /// Takes no shot from now on that is older than the mark. Memory: none.
     pub fn learn(&mut self, mark: Mark)
         ensures known { self.new.known ≡ self.old.known }
         ensures least { self.new.least ≡ max self.old.least mark.entries }
     {
-        self.least = self.least.max(mark.entries);
+        self.reader.learn(mark);
     }
 
     /// Answers a peek of a session at a table.
@@ -45,17 +73,17 @@ impl PeekReader {
     /// While it is answered the writer of the shots may wait for it.
     /// Errors: out of memory, or there is no shot that is as new as the marks ask; a shot may have
     /// been taken all the same.
-    pub fn peek(
-        &mut self,
-        alloc: Global,
-        session: &Name,
-        table: &CellText,
-    ) -> Result<PeekAnswer, AllocError>
+    /// Cost: what is in force for the user is read anew, and the table walked.
+    pub fn peek(&mut self, session: &Name, table: &CellText) -> Result<PeekAnswer, AllocError>
         ensures takes { TakesOn self.old.known self.new.known }
         ensures least { self.new.least ≡ self.old.least }
         ensures answer { IfOk result (IsPeekAnswer session.now table.now self.old.known
             self.old.least self.new.known) }
     {
-        Err(AllocError)
+        let question = PeekTable { session, table };
+        match mem::replace_with(&mut self.reader, question, ShotReader::peek) {
+            Ok(answer) => answer,
+            Err(NoShot) => Err(AllocError),
+        }
     }
 }

@@ -77,6 +77,15 @@ impl<D: DocTables> Trace<D> {
         self.cells.as_slice()
     }
 
+    /// The same, where all else of the trace is let go.
+    ///
+    /// Memory: none.
+    pub fn into_cells(self) -> Vec<CellOld>
+        ensures { result.items ≡ self.cells }
+    {
+        self.cells
+    }
+
     /// Whether the change evaluated the whole document.
     ///
     /// Memory: none.

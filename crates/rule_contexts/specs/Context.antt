@@ -14,12 +14,17 @@ use Rattle.censored_view.specs.View.{view as shown_by}
 use Rattle.acl_reading.specs.RulesLet.{rules_let}
 use Rattle.recalc.specs.Evaluated.{filled}
 
+-- the rules of a document, and what they know of a user by another one, which is to be the first
+-- with its cells evaluated
+abbrev pub context_over : User → Document → Document → Ctx
+context_over user s t = record {
+  book = book_of s;
+  user = user_info (attributes_of s) user t;
+}
+
 -- the rules of a document, and what they know of a user by its evaluated cells
 abbrev pub context : User → Document → Ctx
-context user s = record {
-  book = book_of s;
-  user = user_info (attributes_of s) user (filled s);
-}
+context user s = context_over user s (filled s)
 
 -- what a context shows of a document, each formula cell with its value
 abbrev pub view_in : Ctx → Document → List ViewTable

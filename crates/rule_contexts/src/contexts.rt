@@ -1,9 +1,8 @@
 //! The rules of a document, with what they know of a user.
 
 ghost use Rattle.std.specs.Prelude.{◌≡◌, IfOk};
-ghost use Rattle.recalc.specs.Evaluated.{filled};
 ghost use Rattle.user_attrs.specs.Attributes.{attributes_of};
-ghost use Rattle.rule_contexts.specs.Context.{context};
+ghost use Rattle.rule_contexts.specs.Context.{context, context_over};
 
 use acl_rules::{Ctx, load};
 use doc_model::{DocReader, DocTables, User};
@@ -11,9 +10,8 @@ use evaluated_doc::Doc;
 use std::alloc::{AllocError, Global};
 use user_attrs::{AttributeRule, load_attributes, user_info};
 
-/// The rules of a document, and what they know of a user by its evaluated cells, where one reader
-/// tells the document, another one its evaluated cells, and these are the attributes that its rules
-/// say.
+/// The rules of a document, and what they know of a user by another one, which is to be the first
+/// with its cells evaluated; these are the attributes that the rules say.
 ///
 /// Errors: out of memory.
 /// Memory: the rules, the user and a row for each attribute. Cost: sorting the rules, reading their
@@ -25,9 +23,9 @@ pub fn context_over<B: DocReader, E: DocReader>(
     attributes: &[AttributeRule],
     user: &User,
 ) -> Result<Ctx, AllocError>
-    requires attributes { attributes.now ≡ attributes_of (B.document base.now) }
-    requires evaluated { E.document evaluated.now ≡ filled (B.document base.now) }
-    ensures ok { IfOk result (λ x. x ≡ context user.now (B.document base.now)) }
+    requires { attributes.now ≡ attributes_of (B.document base.now) }
+    ensures { IfOk result
+        (λ x. x ≡ context_over user.now (B.document base.now) (E.document evaluated.now)) }
 {
     let user = user_info(alloc, attributes, user, evaluated)?;
     match load(alloc, base) {
@@ -39,7 +37,8 @@ pub fn context_over<B: DocReader, E: DocReader>(
     }
 }
 
-/// The same of a document that is evaluated.
+/// The rules of a document, and what they know of a user by its evaluated cells, where these are
+/// the attributes that they say.
 ///
 /// Errors, memory and cost: those of `context_over`.
 pub fn context_with<D: DocTables>(

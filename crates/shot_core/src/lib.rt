@@ -1,6 +1,21 @@
 //! A core that publishes a shot of its document at each entry.
+//!
+//! Stands on `watched_core` (a core with its watchers), `document_shot` (shots of its document,
+//! which readers take without waiting) and `session_gate` (machines that threads step in turn).
+//! Nothing stands on it yet.
+//!
+//! Promises: a `ShotCore` steps as its core does. Where a step adds an entry it publishes a shot of
+//! what the history leads to, and hands out the mark of it; a step that adds none hands out the
+//! mark of the last one that did. Where a shot cannot be published for want of memory the step
+//! hands out no mark, and its answer is the core's all the same; where what the entry did cannot
+//! even be noted, no step hands out a mark any more.
+//! Not promised: that a reader finds the newest shot. Publishing waits for readers that took a shot
+//! before the last publishing.
+//! Read first: specs/Machine.antt, then shot_core.rt and machine.rt.
 #![tactic(auto)]
 
 mod machine;
+mod shot_core;
 
-pub use machine::{ShotCore, ShotOut};
+pub use machine::ShotOut;
+pub use shot_core::ShotCore;

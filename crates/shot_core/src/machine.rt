@@ -1,38 +1,85 @@
-//! A core with its watchers and a writer of shots, as a machine that threads step in turn.
-//!
-//! A stub: what callers see of it is meant, its bodies are not.
+//! A core with shots as a machine that threads step in turn.
 
+ghost use Rattle.std.specs.Prelude.{◌≡◌, ◌∷◌, ◌++◌, [], List, false, true, length, IfOk, IfSome, IsOk, OnErr};
+ghost use Rattle.doc_model.specs.declared.entry.Entry.{Entry};
+ghost use Rattle.doc_model.specs.WellFormed.{asks_well_formed};
+ghost use Rattle.bundle_core.specs.Core.{is_gone};
+ghost use Rattle.bundle_core.specs.Machine.{opening_of};
+ghost use Rattle.session_gate.specs.History.{AddsOneOrNone};
+ghost use Rattle.shot_core.specs.Machine.{IsShotGiven};
+ghost use Rattle.document_shot.specs.Pasts.{past_before, past_of};
+
+use crate::shot_core::ShotCore;
 use bundle_core::{CoreOpening, Event, Given};
 use doc_keeper::Keeper;
 use doc_model::Entry;
+use document_shot::{PeekWriter, last_operation};
 use session_gate::Machine;
 use snap_reads::Mark;
-use std::alloc::AllocError;
-use std::marker::Model;
+use std::alloc::{AllocError, Global};
 use std::sync::Wait;
 use std::thread::Threads;
 use watch_box::Watcher;
 use watched_core::WatchedCore;
 
-/// A core with its watchers, which publishes a shot at each entry.
-#[derive(Drop)]
-pub struct ShotCore<K: Keeper, W: Watcher> {
-    watched: WatchedCore<K, W>,
-}
-
-/// What is answered to an event, and the mark of the shot that was published last, where one was.
+/// What is answered to an event, and the mark of the shot of the last entry, where it was
+/// published.
 #[derive(Drop)]
 pub struct ShotOut {
     pub given: Given,
     pub mark: Option<Mark>,
 }
 
-impl<K: Keeper, W: Watcher> Model for ShotCore<K, W> {
-    ghost use Rattle.watched_core.specs.Watched.{WatchedState};
+// Publishes a shot of what the last entry led to.
+fn publish<R: Wait, K: Keeper, W: Watcher>(
+    rt: &R,
+    alloc: Global,
+    watched: &WatchedCore<K, W>,
+    writer: &mut PeekWriter,
+) -> Option<Mark>
+    requires grown { writer.old.lost ≡ false → (before : List Entry) × (e : Entry)
+        × (watched.now.core.state.history ≡ before ++ e ∷ [])
+        × (writer.old.last ≡ past_before watched.now.core.state before) }
+    ensures last { writer.new.lost ≡ false → writer.new.last ≡ past_of watched.now.core.state }
+    ensures marked { IfSome result
+        (λ mark. mark.entries ≡ length watched.now.core.state.history) }
+{
+    match last_operation(alloc, watched.core()) {
+        Ok(operation) => writer.publish(rt, operation),
+        Err(_) => {
+            writer.lose();
+            None
+        }
+    }
+}
 
-    ghost Value = { WatchedState };
-
-    ghost view = { λ c. c.watched };
+impl<K: Keeper, W: Watcher> ShotCore<K, W> {
+    // Takes an event as the core does, and publishes a shot where that added an entry.
+    pub(crate) fn take<R: Threads + Wait + Sync>(
+        &mut self,
+        rt: &R,
+        event: Event,
+    ) -> Result<ShotOut, AllocError>
+        requires { asks_well_formed event.request ≡ true }
+        ensures opening { opening_of self.new.watched.core ≡ opening_of self.old.watched.core }
+        ensures grows { AddsOneOrNone self.old.watched.core.state.history
+            self.new.watched.core.state.history }
+        ensures ok { IfOk result (λ out. IsShotGiven (opening_of self.old.watched.core)
+            self.old.watched.core.state.history self.new.watched.core.state.history event out) }
+        ensures err { OnErr result (self.new.watched.core.state.history
+            ≡ self.old.watched.core.state.history) }
+        ensures sure { is_gone event.request ≡ true → IsOk result }
+    {
+        let before = Machine::entries(&self.watched);
+        let given = Machine::step(&mut self.watched, rt, event)?;
+        if Machine::entries(&self.watched) > before {
+            self.mark = publish(rt, self.alloc, &self.watched, &mut self.writer);
+        }
+        Ok(ShotOut {
+            given,
+            mark: self.mark,
+        })
+    }
 }
 
 impl<K: Keeper, W: Watcher> Machine for ShotCore<K, W> {
@@ -50,9 +97,9 @@ impl<K: Keeper, W: Watcher> Machine for ShotCore<K, W> {
     ghost use Rattle.bundle_core.specs.Machine.{opening_of};
     ghost use Rattle.shot_core.specs.Machine.{IsShotGiven};
 
-    ghost opening = { λ c. opening_of c.core };
+    ghost opening = { λ c. opening_of c.watched.core };
 
-    ghost history = { λ c. c.core.state.history };
+    ghost history = { λ c. c.watched.core.state.history };
 
     ghost takes = { λ event. asks_well_formed event.request ≡ true };
 
@@ -66,8 +113,7 @@ impl<K: Keeper, W: Watcher> Machine for ShotCore<K, W> {
         rt: &R,
         event: Event,
     ) -> Result<ShotOut, AllocError> {
-        let given = Machine::step(&mut self.watched, rt, event)?;
-        Ok(ShotOut { given, mark: None })
+        self.take(rt, event)
     }
 
     fn entries(&self) -> u64 {

@@ -142,6 +142,13 @@ impl<K: Keeper, W: Watcher> WatchedCore<K, W> {
         )
     }
 
+    /// The core.
+    pub fn core(&self) -> &Core<K>
+        ensures { result.now ≡ self.now.core }
+    {
+        &self.core
+    }
+
     /// The entries so far.
     pub fn history(&self) -> &[Entry]
         ensures entries { result.now ≡ self.now.core.state.history }

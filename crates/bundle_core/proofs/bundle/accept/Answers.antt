@@ -1,11 +1,14 @@
 use Rattle.std.proofs.Common.{ℕ, List, map, get_or, Option, Err, ap, sym, subst, ◌∙◌}
+use Rattle.std.proofs.lemmas.Option.{IfSome_then}
 use Rattle.user_actions.specs.StepLaws.{action_of}
 use Rattle.undo_bundles.specs.BundleLog.{Log}
 use Rattle.bundle_core.specs.declared.session.BundleNote.{BundleNote}
 use Rattle.bundle_core.specs.Dispatch.{Posts, Stays, bundle_reply}
 use Rattle.bundle_judge.specs.JudgedBundles.{after_steps, told_changes}
+use Rattle.bundle_judge.specs.Losses.{all_lost, cells_told}
 use Rattle.bundle_judge.specs.Rollback.{gone_back}
 use Rattle.bundle_core.specs.Noting.{MayBeUndone}
+use Rattle.bundle_core.proofs.LastChanges.{lost_as}
 use Rattle.bundle_core.proofs.Readied.{all_may_post, few_bundles, same_log}
 use Rattle.bundle_core.proofs.bundle.accept.Goals as goal
 
@@ -18,7 +21,7 @@ post-requires-clause-few_bundles g c = few_bundles c.args.sessions.now.items c.r
 
 pub post-requires-clause-own : goal.post-requires-clause-own
 post-requires-clause-own g c =
-    λ d. let r = c.in-Ok.ready.bundle in
+    λ d. let r = c.in-Ok.ready.bundle.ready in
     let P : Log → Type 0 = λ log. MayBeUndone c.args.plan.now.undone log in
     let Q : Option ℕ → Type 0 = λ u. MayBeUndone u (get_or c.ready_to_keep.new.sessions.items c.args.index d).holder.log in
     subst Q (sym (ap (λ (n : BundleNote). n.undone) c.in-Ok.ensures.note))
@@ -29,7 +32,7 @@ returns-in-Ok-keep-clause-ok g c =
     let s = gone_back g.D.DocTables.fits g.D.DocTables.undone c.args.trail.traces.items (g.D.DocReader.document c.args.doc.now) in
     let old = c.ready_to_keep.new.sessions.items in
     let new = c.post.new.sessions.items in
-    let r = c.in-Ok.ready.bundle in
+    let r = c.in-Ok.ready.bundle.ready in
     let P : List ℕ → Type 0 = λ reply. Posts old new c.args.index r.note reply c.post.result.items in
     let Q : BundleNote → Type 0 = λ note. Posts old new c.args.index note (bundle_reply c.args.sessions.now.items c.args.index c.args.plan.now.undone (after_steps s c.args.plan.now.steps) c.args.plan.now.created.items) c.post.result.items in
     record {
@@ -61,3 +64,11 @@ returns-in-Err-Failed-clause-ok g c =
       count = c.in-Err-Failed.ensures.uncounted;
       failed = c.in-Err-Failed.ensures.cause.failed (ap (λ k. Err k) c.in-Err-Failed.field-0-is);
     }
+
+pub lost_by-requires : goal.lost_by-requires
+lost_by-requires g c = IfSome_then c.in-Ok.ready.bundle.room c.in-Ok.ensures.lost (λ room h. h.0)
+
+pub returns-in-Ok-keep-clause-lost : goal.returns-in-Ok-keep-clause-lost
+returns-in-Ok-keep-clause-lost g c =
+    let s = gone_back g.D.DocTables.fits g.D.DocTables.undone c.args.trail.traces.items (g.D.DocReader.document c.args.doc.now) in
+    lost_as cells_told c.args.trail.traces.items c.ready_to_keep.new.trail.traces.items (all_lost s (map action_of c.args.plan.now.steps)) c.in-Ok.ready.bundle.room c.lost_by.result c.in-Ok.ensures.lost c.lost_by.ensures c.requires.done.told.cells

@@ -1,4 +1,5 @@
-use Rattle.std.proofs.Common.{List, ◌+◌, map, get_or, sym, ap, subst, ◌∙◌}
+use Rattle.std.proofs.Common.{List, ◌+◌, map, get_or, sym, ap, subst, ◌∙◌, arith}
+use Rattle.std.proofs.lemmas.Option.{IfSome_then}
 use Rattle.std.specs.List.{AllByRecursion}
 use Rattle.user_actions.specs.StepLaws.{action_of}
 use Rattle.undo_bundles.specs.BundleLog.{count}
@@ -47,3 +48,6 @@ returns-clause-ready g c =
     ready_as (told_by xs c.in_ok-all.all.told.items) (told_changes s (map action_of p.steps)) xs c.args.sessions.now.items c.ready_all.new.sessions.items
     c.in_ok-ready_all.ensures.same c.requires.all c.in_ok-all.ensures.told
     (subst T c.deref.ensures.value (subst X c.as_slice.ensures.value c.in_ok-ready_all.ensures.ready))
+
+pub returns-clause-lost : goal.returns-clause-lost
+returns-clause-lost g c = IfSome_then c.in_ok-room.room c.in_ok-room.ensures (λ room h. ((h.1.0, omega (arith, h.1.1, c.len.ensures)), c.in_ok-all.ensures.first h.0))

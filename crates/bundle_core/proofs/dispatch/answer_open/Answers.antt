@@ -11,6 +11,7 @@ use Rattle.bundle_core.specs.State.{Holder, answered, fetched, from_open}
 use Rattle.bundle_core.specs.Turns.{IsTurn}
 use Rattle.bundle_core.proofs.JudgedLemmas.{asks_renaming}
 use Rattle.bundle_core.proofs.KeptTurns.{found_none, quiet_err, quiet_kept, quiet_ok}
+use Rattle.bundle_core.proofs.LastChanges.{quiet_change}
 use Rattle.bundle_core.proofs.OpenLemmas.{code_lagging, code_open, code_sync, find_leaves, find_stays, comes_lagging, comes_open}
 use Rattle.bundle_core.proofs.Prepared.{at_any, on_err_always}
 use Rattle.bundle_core.proofs.dispatch.answer_open.Goals as goal
@@ -29,13 +30,14 @@ returns-then-is_lagging g c =
     (λ z. code_lagging (state_of s z) e.request c.requires.stays ∙ ap (answered s None) (sym c.refused.ensures)) in
     let P : Turn → Type 0 = λ t. IsTurn users s s xs ys l l (marked c.args.entry.now t.kept) t.lines.items in
     record {
-      ok = quiet_ok (λ v. let t : Turn = record { lines = v; kept = true } in t) P c.leave.result c.quiet.result c.quiet.ensures (IfOk-weaker c.leave.result _ _
+      ok = quiet_ok (λ v. let t : Turn = record { lines = v; kept = true; change = None } in t) P c.leave.result c.quiet.result c.quiet.ensures (IfOk-weaker c.leave.result _ _
           (λ v left. quiet_kept users s xs ys l e v.items refl (found_none users s xs c.args.index e c.requires.finds d (answered s None c.refused.result) comes refl)
           (find_leaves users s xs c.args.index e c.requires.finds d c.refused.result ys v.items comes left)) c.leave.ensures.ok);
+      change = quiet_change (λ v. let t : Turn = record { lines = v; kept = true; change = None } in t) (λ v. refl) s l c.leave.result c.quiet.result c.quiet.ensures;
       whole = c.requires.whole;
       tally = c.requires.tally;
       err_document = on_err_always c.quiet.result refl;
-      err = quiet_err (λ v. let t : Turn = record { lines = v; kept = true } in t) _ c.leave.result c.quiet.result c.quiet.ensures c.leave.ensures.err;
+      err = quiet_err (λ v. let t : Turn = record { lines = v; kept = true; change = None } in t) _ c.leave.result c.quiet.result c.quiet.ensures c.leave.ensures.err;
       err_told = on_err_always c.quiet.result refl;
       err_count = on_err_always c.quiet.result refl;
       err_faults = on_err_always c.quiet.result refl;
@@ -57,13 +59,14 @@ returns-in-Some g c =
     (λ z. code_open (state_of s z) h true e.request c.in-Some.refusal (sym c.refusal_open.ensures ∙ c.in-Some.is) ∙ ap (answered s (Some h)) (sym c.refused-in-Some.ensures)) in
     let P : Turn → Type 0 = λ t. IsTurn users s s xs ys l l (marked c.args.entry.now t.kept) t.lines.items in
     record {
-      ok = quiet_ok (λ v. let t : Turn = record { lines = v; kept = true } in t) P c.stay.result c.quiet-in-Some.result c.quiet-in-Some.ensures (IfOk-weaker c.stay.result _ _
+      ok = quiet_ok (λ v. let t : Turn = record { lines = v; kept = true; change = None } in t) P c.stay.result c.quiet-in-Some.result c.quiet-in-Some.ensures (IfOk-weaker c.stay.result _ _
           (λ v stays. quiet_kept users s xs ys l e v.items refl (found_none users s xs c.args.index e c.requires.finds d (answered s (Some h) c.refused-in-Some.result) comes refl)
           (find_stays users s xs c.args.index e c.requires.finds d c.refused-in-Some.result ys v.items c.requires.whole comes stays)) c.stay.ensures.ok);
+      change = quiet_change (λ v. let t : Turn = record { lines = v; kept = true; change = None } in t) (λ v. refl) s l c.stay.result c.quiet-in-Some.result c.quiet-in-Some.ensures;
       whole = c.requires.whole;
       tally = c.requires.tally;
       err_document = on_err_always c.quiet-in-Some.result refl;
-      err = quiet_err (λ v. let t : Turn = record { lines = v; kept = true } in t) _ c.stay.result c.quiet-in-Some.result c.quiet-in-Some.ensures c.stay.ensures.err;
+      err = quiet_err (λ v. let t : Turn = record { lines = v; kept = true; change = None } in t) _ c.stay.result c.quiet-in-Some.result c.quiet-in-Some.ensures c.stay.ensures.err;
       err_told = on_err_always c.quiet-in-Some.result refl;
       err_count = on_err_always c.quiet-in-Some.result refl;
       err_faults = on_err_always c.quiet-in-Some.result refl;
@@ -85,13 +88,14 @@ returns-in_default-request g c =
     (λ z. code_sync (state_of s z) h true e.request (sym c.refusal_open.ensures ∙ c.in_default.is) c.requires.stays (λ actions is. c.in_default-request.not-Apply actions is) (λ number is. c.in_default-request.not-Undo number is) (λ table is. c.in_default-request.not-Fetch table is) (λ table column new is. c.in_default-request.not-Rename table column new is) c.in_default-request.not-Close) in
     let P : Turn → Type 0 = λ t. IsTurn users s s xs ys l l (marked c.args.entry.now t.kept) t.lines.items in
     record {
-      ok = quiet_ok (λ v. let t : Turn = record { lines = v; kept = true } in t) P c.stay-in_default-request.result c.quiet-in_default-request.result c.quiet-in_default-request.ensures (IfOk-weaker c.stay-in_default-request.result _ _
+      ok = quiet_ok (λ v. let t : Turn = record { lines = v; kept = true; change = None } in t) P c.stay-in_default-request.result c.quiet-in_default-request.result c.quiet-in_default-request.ensures (IfOk-weaker c.stay-in_default-request.result _ _
           (λ v stays. quiet_kept users s xs ys l e v.items refl (found_none users s xs c.args.index e c.requires.finds d (answered s (Some h) Done) comes refl)
           (find_stays users s xs c.args.index e c.requires.finds d Done ys v.items c.requires.whole comes stays)) c.stay-in_default-request.ensures.ok);
+      change = quiet_change (λ v. let t : Turn = record { lines = v; kept = true; change = None } in t) (λ v. refl) s l c.stay-in_default-request.result c.quiet-in_default-request.result c.quiet-in_default-request.ensures;
       whole = c.requires.whole;
       tally = c.requires.tally;
       err_document = on_err_always c.quiet-in_default-request.result refl;
-      err = quiet_err (λ v. let t : Turn = record { lines = v; kept = true } in t) _ c.stay-in_default-request.result c.quiet-in_default-request.result c.quiet-in_default-request.ensures c.stay-in_default-request.ensures.err;
+      err = quiet_err (λ v. let t : Turn = record { lines = v; kept = true; change = None } in t) _ c.stay-in_default-request.result c.quiet-in_default-request.result c.quiet-in_default-request.ensures c.stay-in_default-request.ensures.err;
       err_told = on_err_always c.quiet-in_default-request.result refl;
       err_count = on_err_always c.quiet-in_default-request.result refl;
       err_faults = on_err_always c.quiet-in_default-request.result refl;
@@ -114,13 +118,14 @@ returns-in-Fetch g c =
     (λ z. ap (from_open (state_of s z) h true) c.in-Fetch.is) in
     let P : Turn → Type 0 = λ t. IsTurn users s s xs ys l l (marked c.args.entry.now t.kept) t.lines.items in
     record {
-      ok = quiet_ok (λ v. let t : Turn = record { lines = v; kept = true } in t) P c.answer_fetch.result c.quiet-in-Fetch.result c.quiet-in-Fetch.ensures (IfOk-weaker c.answer_fetch.result _ _
+      ok = quiet_ok (λ v. let t : Turn = record { lines = v; kept = true; change = None } in t) P c.answer_fetch.result c.quiet-in-Fetch.result c.quiet-in-Fetch.ensures (IfOk-weaker c.answer_fetch.result _ _
           (λ v answers. quiet_kept users s xs ys l e v.items refl (found_none users s xs c.args.index e c.requires.finds d (fetched s h table) comes refl)
           (let Q : Bool → Type 0 = λ b. Answers users s s xs ys (marked c.args.entry.now b) v.items in subst Q c.requires.kept answers)) c.answer_fetch.ensures.ok);
+      change = quiet_change (λ v. let t : Turn = record { lines = v; kept = true; change = None } in t) (λ v. refl) s l c.answer_fetch.result c.quiet-in-Fetch.result c.quiet-in-Fetch.ensures;
       whole = c.requires.whole;
       tally = c.requires.tally;
       err_document = on_err_always c.quiet-in-Fetch.result refl;
-      err = quiet_err (λ v. let t : Turn = record { lines = v; kept = true } in t) _ c.answer_fetch.result c.quiet-in-Fetch.result c.quiet-in-Fetch.ensures c.answer_fetch.ensures.err;
+      err = quiet_err (λ v. let t : Turn = record { lines = v; kept = true; change = None } in t) _ c.answer_fetch.result c.quiet-in-Fetch.result c.quiet-in-Fetch.ensures c.answer_fetch.ensures.err;
       err_told = on_err_always c.quiet-in-Fetch.result refl;
       err_count = on_err_always c.quiet-in-Fetch.result refl;
       err_faults = on_err_always c.quiet-in-Fetch.result refl;
@@ -142,13 +147,14 @@ returns-in-Close g c =
     (λ z. ap (from_open (state_of s z) h true) c.in-Close.is) in
     let P : Turn → Type 0 = λ t. IsTurn users s s xs ys l l (marked c.args.entry.now t.kept) t.lines.items in
     record {
-      ok = quiet_ok (λ v. let t : Turn = record { lines = v; kept = true } in t) P c.leave-in-Close.result c.quiet-in-Close.result c.quiet-in-Close.ensures (IfOk-weaker c.leave-in-Close.result _ _
+      ok = quiet_ok (λ v. let t : Turn = record { lines = v; kept = true; change = None } in t) P c.leave-in-Close.result c.quiet-in-Close.result c.quiet-in-Close.ensures (IfOk-weaker c.leave-in-Close.result _ _
           (λ v left. quiet_kept users s xs ys l e v.items refl (found_none users s xs c.args.index e c.requires.finds d (answered s None Done) comes refl)
           (find_leaves users s xs c.args.index e c.requires.finds d Done ys v.items comes left)) c.leave-in-Close.ensures.ok);
+      change = quiet_change (λ v. let t : Turn = record { lines = v; kept = true; change = None } in t) (λ v. refl) s l c.leave-in-Close.result c.quiet-in-Close.result c.quiet-in-Close.ensures;
       whole = c.requires.whole;
       tally = c.requires.tally;
       err_document = on_err_always c.quiet-in-Close.result refl;
-      err = quiet_err (λ v. let t : Turn = record { lines = v; kept = true } in t) _ c.leave-in-Close.result c.quiet-in-Close.result c.quiet-in-Close.ensures c.leave-in-Close.ensures.err;
+      err = quiet_err (λ v. let t : Turn = record { lines = v; kept = true; change = None } in t) _ c.leave-in-Close.result c.quiet-in-Close.result c.quiet-in-Close.ensures c.leave-in-Close.ensures.err;
       err_told = on_err_always c.quiet-in-Close.result refl;
       err_count = on_err_always c.quiet-in-Close.result refl;
       err_faults = on_err_always c.quiet-in-Close.result refl;

@@ -9,6 +9,7 @@ use Rattle.bundle_core.specs.State.{Holder, answered}
 use Rattle.bundle_core.specs.Turns.{IsTurn}
 use Rattle.bundle_core.proofs.JudgedLemmas.{asks_resolved, asks_unresolved}
 use Rattle.bundle_core.proofs.KeptTurns.{found_none, quiet_kept, quiet_ok}
+use Rattle.bundle_core.proofs.LastChanges.{quiet_change}
 use Rattle.bundle_core.proofs.OpenLemmas.{comes_open, find_stays, some_session}
 use Rattle.bundle_core.proofs.dispatch.answer_renaming.Goals as goal
 
@@ -27,7 +28,7 @@ returns-then-plan-gt0-clause-ok g c =
     let comes = comes_open users s xs c.args.index e c.requires.finds d (answered s (Some h) v) (c.requires.quick d)
     (λ z. asks_unresolved h s e.request c.args.plan.now some (c.requires.asks d) (map (open_of s) z) true) in
     let P : Turn → Type 0 = λ t. IsTurn users s s xs ys l l (marked c.args.entry.now t.kept) t.lines.items in
-    quiet_ok (λ lines. let t : Turn = record { lines = lines; kept = true } in t) P c.stay.result c.quiet.result c.quiet.ensures (IfOk-weaker c.stay.result _ _
+    quiet_ok (λ lines. let t : Turn = record { lines = lines; kept = true; change = None } in t) P c.stay.result c.quiet.result c.quiet.ensures (IfOk-weaker c.stay.result _ _
     (λ lines stays. quiet_kept users s xs ys l e lines.items refl (found_none users s xs c.args.index e c.requires.finds d (answered s (Some h) v) comes refl)
     (find_stays users s xs c.args.index e c.requires.finds d v ys lines.items c.requires.whole comes stays)) c.stay.ensures.ok)
 
@@ -37,3 +38,7 @@ answer_bundle-requires-clause-asks g c =
     let h : Holder = (get_or c.args.sessions.now.items c.args.index d).holder in
     let none : c.args.plan.now.unresolved ≡ 0 = omega (arith, c.if-plan-gt0.false) in
     asks_resolved h s c.args.entry.now.request c.args.plan.now none (c.requires.asks d)
+
+pub returns-then-plan-gt0-clause-change : goal.returns-then-plan-gt0-clause-change
+returns-then-plan-gt0-clause-change g c =
+    quiet_change (λ lines. let t : Turn = record { lines = lines; kept = true; change = None } in t) (λ v. refl) (g.D.DocReader.document c.args.doc.now) c.args.records.now c.stay.result c.quiet.result c.quiet.ensures

@@ -3,6 +3,7 @@ use Rattle.doc_model.specs.Document.{Document}
 use Rattle.undo_bundles.specs.BundleLog.{undo_of}
 use Rattle.bundle_core.specs.Core.{marked}
 use Rattle.bundle_judge.specs.JudgedBundles.{IsJudgedBundle}
+use Rattle.bundle_core.specs.LastChange.{TellsChange}
 use Rattle.bundle_core.specs.SessionState.{SessionState}
 use Rattle.bundle_judge.specs.Rollback.{gone_back}
 use Rattle.bundle_judge.specs.Undo.{judge_own_undo}
@@ -28,3 +29,8 @@ pub returns-clause-ok : goal.returns-clause-ok
 returns-clause-ok g c =
     let P : Document → Type 0 = λ s. IfOk c.answer_judged.result (λ t. IsTurn c.args.users.now s (g.D.DocReader.document c.answer_judged.new.doc) c.args.sessions.now.items c.answer_judged.new.sessions.items c.args.records.now c.answer_judged.new.records (marked c.args.entry.now t.kept) t.lines.items) in
     subst (λ d. P (g.D.DocReader.document d)) c.doc.view_is (subst P c.in_ok-judged.ensures.back c.answer_judged.ensures.ok)
+
+pub returns-clause-change : goal.returns-clause-change
+returns-clause-change g c =
+    let P : Document → Type 0 = λ s. IfOk c.answer_judged.result (λ t. TellsChange s (g.D.DocReader.document c.answer_judged.new.doc) c.args.records.now c.answer_judged.new.records t.change) in
+    subst (λ d. P (g.D.DocReader.document d)) c.doc.view_is (subst P c.in_ok-judged.ensures.back c.answer_judged.ensures.change)

@@ -1,12 +1,15 @@
-use Rattle.std.proofs.Common.{◌≡◌, true, List, ℕ, ◌∷◌, [], ◌++◌, length, sum_by, ap, subst, sym, ◌∙◌, arith}
+use Rattle.std.proofs.Common.{◌≡◌, true, List, ℕ, ◌∷◌, [], ◌++◌, length, sum_by, None, refl, ap, subst, sym, ◌∙◌, arith}
 use Rattle.doc_model.specs.declared.entry.Entry.{Entry}
 use Rattle.doc_model.specs.declared.request.Request.TheVariants.{Gone}
-use Rattle.bundle_core.specs.Core.{CoreState, document_of, entry_of, size_of, IsCore, IsStep}
+use Rattle.bundle_core.specs.Core.{CoreState, document_of, entry_of, size_of, state_after, IsCore, IsStep}
 use Rattle.bundle_core.specs.Dispatch.{Finds, Misses}
 use Rattle.bundle_core.specs.KeptCore.{IsKeptFrom, IsTaken, KeptCore}
+use Rattle.bundle_core.specs.LastChange.{IsLast}
 use Rattle.bundle_core.specs.SessionState.{SessionState}
+use Rattle.bundle_core.specs.State.{State}
 use Rattle.bundle_core.proofs.CoreLaws.{core_parted, gone_found, gone_missed, one_fewer}
-use Rattle.bundle_core.proofs.KeptLaws.{core_view, gone_taken, kept_gone}
+use Rattle.bundle_core.proofs.KeptLaws.{core_view, gone_keeps, gone_taken, kept_gone}
+use Rattle.bundle_core.proofs.LastChanges.{next_last}
 use Rattle.bundle_core.proofs.history_core.Core.go_away.Goals as goal
 
 pub returns-in_default : goal.returns-in_default
@@ -38,12 +41,16 @@ invariant_of-self g c =
     let fewer = one_fewer kept.users (document_of kept.opening) kept.entries.items kept.doc kept.tally kept.sessions.items kept.bytes_left name c.self.invariant.0 p finds c.args.size in
     let E : List Entry → Type 0 = λ es. IsCore kept.users (document_of kept.opening) es kept.doc kept.tally c.remove.new.self.items c.left_after-self-inside.result in
     let X : List SessionState → Type 0 = λ xs. IsCore kept.users (document_of kept.opening) (kept.entries.items ++ entry_of name Gone c.args.size true ∷ []) kept.doc kept.tally xs c.left_after-self-inside.result in
-    let K : List Entry → Type 0 = λ es. IsKeptFrom kept.users (document_of kept.opening) es kept.opened kept.before kept.records kept.doc in (
+    let K : List Entry → Type 0 = λ es. IsKeptFrom kept.users (document_of kept.opening) es kept.opened kept.before kept.records kept.doc in
+    let start = document_of kept.opening in
+    let e : Entry = entry_of name Gone c.args.size true in
+    let L : List Entry → Type 0 = λ es. IsLast kept.users start es kept.doc None in (
       subst E (sym grown) (subst X (sym c.remove.ensures.items)
           (core_parted kept.users (document_of kept.opening) kept.entries.items kept.doc kept.tally kept.sessions.items kept.bytes_left name c.self.invariant.0 p finds c.args.size
           c.left_after-self-inside.result (c.left_after-self-inside.ensures (sum_by size_of kept.entries.items) c.self.invariant.0.left))),
       omega (arith, fewer, ap length c.remove.ensures.items, c.push_reserved.ensures.len, c.push_reserved.ensures.capacity, c.self.invariant.1),
       subst K (sym grown) (kept_gone kept.users (document_of kept.opening) kept.entries.items kept.opened kept.before kept.records kept.doc name c.args.size c.self.invariant.2),
+      subst L (sym grown) (next_last kept.users start kept.entries.items e kept.doc kept.doc kept.records kept.records None (ap (λ (st : State). st.document) c.self.invariant.0.state) (refl, refl) (gone_keeps kept.users (state_after kept.users start kept.entries.items) name c.args.size kept.records).count),
     )
 
 pub returns : goal.returns

@@ -1,6 +1,7 @@
 use Rattle.std.proofs.Common.{rules}
 use Rattle.bundle_core.specs.Core.{document_of}
 use Rattle.bundle_core.proofs.KeptLaws.{first_kept, opening_told}
+use Rattle.bundle_core.proofs.LastChanges.{no_last}
 use Rattle.bundle_core.proofs.history_core.Core.of.Goals as goal
 
 pub invariant_of-result : goal.invariant_of-result
@@ -26,6 +27,7 @@ invariant_of-result g c =
         counted = search rules;
         count = search rules;
       },
+      no_last c.args.users start c.args.loaded.doc,
     )
 
 pub returns : goal.returns

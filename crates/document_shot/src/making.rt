@@ -1,0 +1,163 @@
+//! The first shots of a core's document, and what its last entry did.
+
+ghost use Rattle.std.specs.Prelude.{◌≡◌, ◌∷◌, ◌++◌, [], List, length, IfOk};
+ghost use Rattle.doc_model.specs.Document.{Document};
+ghost use Rattle.doc_model.specs.DocumentLaws.{IsWhole};
+ghost use Rattle.doc_model.specs.declared.entry.Entry.{Entry};
+ghost use Rattle.recalc.specs.Evaluated.{filled, filled_by};
+ghost use Rattle.shot_cells.specs.Places.{seen_at};
+ghost use Rattle.shot_changes.specs.Leading.{LeadOn};
+ghost use Rattle.bundle_core.specs.KeptCore.{state_now};
+ghost use Rattle.bundle_core.specs.LastChange.{IsChange};
+ghost use Rattle.document_shot.specs.Pasts.{past_before, state_at};
+ghost use Rattle.document_shot.specs.Shots.{LeadTo, Leads, Stands};
+
+use crate::operation::DocumentOp;
+use crate::sessions::{copy_sessions, open_sessions};
+use crate::shot::DocumentShot;
+use bundle_core::{Core, LastChange};
+use column_store::ColumnTables;
+use doc_keeper::Keeper;
+use doc_model::{DocAction, DocActionList};
+use evaluated_doc::Doc;
+use shot_cells::{CellChanges, ShotCells, ShotDocument};
+use shot_changes::{changes_anew, changes_of_rows};
+use shot_documents::{DocumentChanges, copy_document, take_in};
+use std::alloc::{AllocError, Global};
+use std::snapshot::Snapshot;
+
+// The tables of a document with the values of its formula cells beside them.
+fn document_of(
+    alloc: Global,
+    doc: &Doc<ColumnTables>,
+) -> Result<ShotDocument<ColumnTables>, AllocError>
+    requires { IsWhole doc.now }
+    ensures tables { IfOk result (λ d. d.tables ≡ doc.now) }
+    ensures values { IfOk result
+        (λ d. filled_by (seen_at d.cells.tables) doc.now ≡ filled doc.now) }
+{
+    let changes = DocumentChanges {
+        actions: DocActionList::new(alloc),
+        cells: changes_anew(alloc, doc)?,
+    };
+    let mut document = ShotDocument {
+        tables: doc.tables().copy(alloc)?,
+        cells: ShotCells::new(alloc),
+    };
+    take_in(alloc, &mut document, &changes)?;
+    Ok(document)
+}
+
+/// Two shots of a core as it is now.
+///
+/// Errors: out of memory. Cost: linear in the cells.
+pub(crate) fn first_shots<K: Keeper>(
+    alloc: Global,
+    core: &Core<K>,
+) -> Result<(DocumentShot, DocumentShot), AllocError>
+    ensures alike { IfOk result (λ two. two.0 ≡ two.1) }
+    ensures stands { IfOk result (λ two. Stands two.0) }
+    ensures past { IfOk result (λ two. two.0.past ≡ core.now.state) }
+{
+    let past = core.past();
+    let entries = core.history().len() as u64;
+    let sessions = open_sessions(alloc, core)?;
+    let document = document_of(alloc, core.document())?;
+    let others = copy_sessions(alloc, sessions.as_slice())?;
+    let other = copy_document(alloc, &document)?;
+    let first = DocumentShot::of(alloc, document, sessions, entries, Snapshot::of(&past));
+    let second = DocumentShot::of(alloc, other, others, entries, Snapshot::of(&past));
+    Ok((first, second))
+}
+
+// A copy of actions.
+fn copy_actions(alloc: Global, actions: &[DocAction]) -> Result<DocActionList, AllocError>
+    ensures { IfOk result (λ l. l ≡ actions.now) }
+{
+    Ok(DocActionList::from(Vec::from_clones(alloc, actions)?))
+}
+
+// What became of the values of formula cells by a bundle that led to the document.
+fn values_after(
+    alloc: Global,
+    doc: &Doc<ColumnTables>,
+    change: &LastChange,
+) -> Result<CellChanges, AllocError>
+    requires { IsWhole doc.now }
+    ensures leads { IfOk result
+        (λ c. (s : Document) → IsChange s doc.now change.now → LeadOn s doc.now c) }
+    ensures beside { IfOk result (λ c. length c.values.items ≡ length c.cells.items) }
+{
+    match change.steps_of_records(alloc)? {
+        Some(steps) => changes_of_rows(alloc, doc, steps.as_slice()),
+        None => changes_anew(alloc, doc),
+    }
+}
+
+// What a bundle did that led to the document.
+fn changes_by(
+    alloc: Global,
+    doc: &Doc<ColumnTables>,
+    change: &LastChange,
+) -> Result<DocumentChanges, AllocError>
+    requires { IsWhole doc.now }
+    ensures leads { IfOk result
+        (λ c. (s : Document) → IsChange s doc.now change.now → LeadTo s doc.now c) }
+    ensures beside { IfOk result (λ c. length c.cells.values.items ≡ length c.cells.cells.items) }
+{
+    let actions = copy_actions(alloc, change.actions())?;
+    let cells = values_after(alloc, doc, change)?;
+    Ok(DocumentChanges { actions, cells })
+}
+
+// No actions, and no cell that holds something else.
+fn no_changes(alloc: Global) -> DocumentChanges
+    ensures leads { (s : Document) → LeadTo s s result }
+    ensures beside { length result.cells.values.items ≡ length result.cells.cells.items }
+{
+    DocumentChanges {
+        actions: DocActionList::new(alloc),
+        cells: CellChanges {
+            anew: false,
+            cells: Vec::new(alloc),
+            values: Vec::new(alloc),
+            gone: Vec::new(alloc),
+        },
+    }
+}
+
+// What the last entry of a core did to its document.
+fn last_changes<K: Keeper>(alloc: Global, core: &Core<K>) -> Result<DocumentChanges, AllocError>
+    ensures leads { IfOk result (λ c. (before : List Entry) (e : Entry)
+        → core.now.state.history ≡ before ++ e ∷ []
+        → LeadTo (state_at (past_before core.now.state before)).document
+        (state_now core.now.state).document c) }
+    ensures beside { IfOk result (λ c. length c.cells.values.items ≡ length c.cells.cells.items) }
+{
+    match core.last_change() {
+        Some(change) => changes_by(alloc, core.document(), change),
+        None => Ok(no_changes(alloc)),
+    }
+}
+
+/// What the last entry of a core did, with the history that it led to.
+///
+/// Errors: out of memory.
+/// Cost: that of copying the open sessions and the bundle's actions; for a bundle of records, the
+/// rows that it touched; for any other bundle, and for one after which its steps had to be done
+/// again, all formula cells.
+pub fn last_operation<K: Keeper>(alloc: Global, core: &Core<K>) -> Result<DocumentOp, AllocError>
+    ensures past { IfOk result (λ op. op.past ≡ core.now.state) }
+    ensures leads { IfOk result (λ op. (before : List Entry) (e : Entry)
+        → core.now.state.history ≡ before ++ e ∷ []
+        → Leads (past_before core.now.state before) op) }
+{
+    let changes = last_changes(alloc, core)?;
+    let sessions = open_sessions(alloc, core)?;
+    Ok(DocumentOp {
+        changes,
+        sessions,
+        entries: core.history().len() as u64,
+        past: core.past(),
+    })
+}

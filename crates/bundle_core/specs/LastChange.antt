@@ -1,6 +1,6 @@
 -- What the last bundle changed.
 use Rattle.std.specs.Prelude.{◌≡◌, ◌≤◌, ◌+◌, ℕ, List, ◌∷◌, [], ◌++◌, map, true, false, Option, Some, None, IfSome, vec_capacity}
-use Rattle.std.specs.Vec.{Vec}
+use Rattle.std.specs.Global.{Vec}
 use Rattle.cell_types.specs.declared.cell.CellOld.{CellOld}
 use Rattle.doc_model.specs.Apply.{all_valid}
 use Rattle.doc_model.specs.Document.{Document}

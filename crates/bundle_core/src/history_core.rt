@@ -1,6 +1,6 @@
 //! The core: a document and its sessions as a history of requests leads to them.
 
-ghost use Rattle.std.specs.Prelude.{ℕ, ◌≡◌, ◌≤◌, true, false, List, [], ◌∷◌, ◌++◌, IfErr, IfOk, IsOk, OnErr, ◌+◌, length, nat_lt, option_map, slice_get, Some};
+ghost use Rattle.std.specs.Prelude.{ℕ, ◌≡◌, ◌≤◌, true, false, List, [], ◌∷◌, ◌++◌, IfErr, IfOk, IsOk, OnErr, ◌+◌, length, map, nat_lt, option_map, Some};
 ghost use Rattle.std.specs.Option.{option_copied};
 ghost use Rattle.std.specs.Str.{bytes_eq};
 ghost use Rattle.io_edges.specs.Causes.{Rose};
@@ -31,7 +31,7 @@ use bundle_records::RecordLedger;
 use cell_types::{Name, Sequence};
 use column_store::ColumnTables;
 use doc_keeper::Keeper;
-use doc_model::{Entry, EntryList, Request, User, UserList};
+use doc_model::{Entry, EntryList, Request, UserList};
 use doc_opening::StartCause;
 use evaluated_doc::Doc;
 use grist_json::Line;
@@ -284,16 +284,14 @@ impl<K: Keeper> Core<K> {
         self.last.as_ref()
     }
 
-    /// The session at that place among those that are open: its name, its user, and whether it lags.
+    /// The sessions that are open, by name.
     ///
     /// Memory: none.
-    pub fn open_session(&self, index: usize) -> Option<(&Name, &User, bool)>
-        ensures { option_map (λ x. (x.0.now, x.1.now, x.2)) result
-            ≡ option_map (λ o. (o.session, o.holder.user, o.mailbox.lagging))
-            (slice_get (state_now self.now.state).open_sessions index) }
+    pub fn open_sessions(&self) -> &[OpenSession]
+        ensures { (state_now self.now.state).open_sessions
+            ≡ map (open_of (state_now self.now.state).document) result.now }
     {
-        let found = self.sessions.get(index)?;
-        Some((found.name(), found.user(), found.is_lagging()))
+        self.sessions.as_slice()
     }
 
     /// The present document, with its cells evaluated.

@@ -64,4 +64,4 @@ pub use laws::{
 pub use machine::{CoreOpening, Event, Given};
 pub use past::CorePast;
 pub use ruled_document::shown_table;
-pub use session::{MAX_WAITING_BYTES, MAX_WAITING_LINES};
+pub use session::{MAX_WAITING_BYTES, MAX_WAITING_LINES, OpenSession};

@@ -30,8 +30,11 @@ impl Model for CorePast {
 
 impl CorePast {
     pub(crate) fn of(users: &UserList, opening: &Opening, entries: &Vec<Entry>) -> CorePast
-        ensures { (result.users ≡ users.now) × (result.start ≡ document_of opening.now)
-            × (result.history ≡ entries.now.items) }
+        ensures { result ≡ record {
+          users = users.now;
+          start = document_of opening.now;
+          history = entries.now.items;
+        } }
     {
         CorePast {
             users: Snapshot::of(users),

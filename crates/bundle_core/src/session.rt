@@ -47,7 +47,7 @@ pub(crate) struct BundleNote {
 /// A line is posted in two steps, so that running out of memory changes nothing: `prepare` makes
 /// the line and the room for it, and `post`, which cannot fail, puts it behind those that wait.
 #[derive(Drop)]
-pub(crate) struct OpenSession {
+pub struct OpenSession {
     name: Name,
     user: User,
     log: BundleLog,
@@ -80,7 +80,7 @@ impl Model for OpenSession {
 
 impl OpenSession {
     /// A session that has just been opened.
-    pub fn new(alloc: Global, name: Name, user: User) -> Self
+    pub(crate) fn new(alloc: Global, name: Name, user: User) -> Self
         ensures session { result.session ≡ name }
         ensures user { result.holder.user ≡ user }
         ensures log { result.holder.log ≡ empty_log }
@@ -101,7 +101,7 @@ impl OpenSession {
     }
 
     /// A session that has just been opened by that name for that user.
-    pub fn of(alloc: Global, name: &Name, user: &User) -> Result<Self, AllocError>
+    pub(crate) fn of(alloc: Global, name: &Name, user: &User) -> Result<Self, AllocError>
         ensures session { IfOk result (λ s. s.session ≡ name.now) }
         ensures user { IfOk result (λ s. s.holder.user ≡ user.now) }
         ensures log { IfOk result (λ s. s.holder.log ≡ empty_log) }
@@ -112,6 +112,7 @@ impl OpenSession {
         Ok(OpenSession::new(alloc, copy_name(name)?, copy_user(user)?))
     }
 
+    /// Its name.
     pub fn name(&self) -> &Name
         ensures { result.now ≡ self.now.session }
     {
@@ -119,12 +120,13 @@ impl OpenSession {
     }
 
     /// Its name, where all else of it is dropped.
-    pub fn into_name(self) -> Name
+    pub(crate) fn into_name(self) -> Name
         ensures { result ≡ self.session }
     {
         self.name
     }
 
+    /// Whose it is.
     pub fn user(&self) -> &User
         ensures { result.now ≡ self.now.holder.user }
     {
@@ -132,19 +134,20 @@ impl OpenSession {
     }
 
     /// How many of its bundles were accepted.
-    pub fn bundles(&self) -> u64
+    pub(crate) fn bundles(&self) -> u64
         requires { count self.now.holder.log < 2 ^ 63 }
         ensures { result ≡ count self.now.holder.log }
     {
         self.log.count()
     }
 
-    pub fn log(&self) -> &BundleLog
+    pub(crate) fn log(&self) -> &BundleLog
         ensures { result.now.log ≡ self.now.holder.log }
     {
         &self.log
     }
 
+    /// Whether a line could not be made for it.
     pub fn is_lagging(&self) -> bool
         ensures { result ≡ self.now.lagging }
     {
@@ -152,27 +155,27 @@ impl OpenSession {
     }
 
     /// How many stream lines were made for it.
-    pub fn made(&self) -> u64
+    pub(crate) fn made(&self) -> u64
         ensures { result ≡ self.now.made }
     {
         self.made
     }
 
     /// The last of the lines that wait.
-    pub fn last_waiting(&self) -> Option<&Line>
+    pub(crate) fn last_waiting(&self) -> Option<&Line>
         ensures { option_map (λ l. l.now) result ≡ last_line self.now.waiting }
     {
         self.waiting.last()
     }
 
-    pub fn is_full(&self) -> bool
+    pub(crate) fn is_full(&self) -> bool
         ensures { result ≡ is_full self.now.waiting }
     {
         self.waiting.len() >= MAX_WAITING_LINES || self.bytes >= MAX_WAITING_BYTES
     }
 
     /// Makes room for lines. Nothing else changes, whatever the answer.
-    pub fn make_room(&mut self, lines: usize) -> Result<(), AllocError>
+    pub(crate) fn make_room(&mut self, lines: usize) -> Result<(), AllocError>
         ensures prepared { IsPrepared self.old self.new }
         ensures ready { self.new.ready ≡ self.old.ready }
         ensures ok { OnOk result (lines ≤ self.new.room) }
@@ -182,7 +185,7 @@ impl OpenSession {
 
     /// Makes room for the two lines of an own bundle, and for its note. Nothing else changes,
     /// whatever the answer.
-    pub fn make_bundle_room(&mut self) -> Result<(), AllocError>
+    pub(crate) fn make_bundle_room(&mut self) -> Result<(), AllocError>
         ensures prepared { IsPrepared self.old self.new }
         ensures ready { self.new.ready ≡ self.old.ready }
         ensures room { OnOk result (HasBundleRoom self.new) }
@@ -194,7 +197,7 @@ impl OpenSession {
     /// Makes ready the line that tells what its user is told beside the user's context, unless that
     /// is nothing or the session lags: what stands before its number was printed for all sessions.
     /// Nothing that can be seen changes, whatever the answer.
-    pub fn prepare(
+    pub(crate) fn prepare(
         &mut self,
         alloc: Global,
         contexts: &[Ctx],
@@ -228,7 +231,7 @@ impl OpenSession {
 
     /// Puts the line that was made ready, where there is one, behind those that wait. Where too
     /// much waits, the session lags from now on.
-    pub fn post(&mut self)
+    pub(crate) fn post(&mut self)
         requires { MayPost self.old }
         ensures { self.new ≡ posted_state self.old }
     {
@@ -245,7 +248,7 @@ impl OpenSession {
     }
 
     /// Gives the lines that wait, and then the reply.
-    pub fn give(&mut self, alloc: Global, reply: Line) -> Vec<Line>
+    pub(crate) fn give(&mut self, alloc: Global, reply: Line) -> Vec<Line>
         requires { 0 < self.old.room }
         ensures lines { result.items ≡ self.old.waiting ++ reply ∷ [] }
         ensures emptied { IsEmptied self.old self.new }
@@ -260,7 +263,7 @@ impl OpenSession {
 
     /// Gives the lines that wait, the line of the session's own bundle that was made ready, and
     /// then the reply, and notes the bundle.
-    pub fn give_bundle(&mut self, alloc: Global, reply: Line, note: BundleNote) -> Vec<Line>
+    pub(crate) fn give_bundle(&mut self, alloc: Global, reply: Line, note: BundleNote) -> Vec<Line>
         requires room { HasBundleRoom self.old }
         requires few { self.old.made < 2 ^ 63 }
         requires few_bundles { count self.old.holder.log < 2 ^ 63 }
@@ -283,7 +286,7 @@ impl OpenSession {
     }
 
     /// The lines that wait, and then the reply: the last that the session is given.
-    pub fn leave(self, reply: Line) -> Vec<Line>
+    pub(crate) fn leave(self, reply: Line) -> Vec<Line>
         requires { 0 < self.room }
         ensures { result.items ≡ self.waiting ++ reply ∷ [] }
     {

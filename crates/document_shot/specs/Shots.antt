@@ -13,6 +13,7 @@ use Rattle.snap_reads.specs.Past.{Continues}
 use Rattle.snap_reads.specs.declared.past.Past.{Past}
 use Rattle.bundle_core.specs.Core.{CoreState}
 use Rattle.bundle_core.specs.KeptCore.{state_now}
+use Rattle.bundle_core.specs.SessionState.{SessionState}
 use Rattle.bundle_core.specs.State.{Open}
 use Rattle.document_shot.specs.Pasts.{past_of, state_at}
 use Rattle.document_shot.specs.declared.operation.DocumentOp.{DocumentOp}
@@ -32,6 +33,10 @@ pub record ShotState : Type 0 where
 abbrev pub shown_session : Open → ShotSession
 shown_session o =
     record { name = o.session; user = o.holder.user; lagging = o.mailbox.lagging }
+
+-- the same of a session as the core keeps it
+abbrev pub shown_as : SessionState → ShotSession
+shown_as x = record { name = x.session; user = x.holder.user; lagging = x.lagging }
 
 -- it is what the history leads to
 pub record Stands (s : ShotState) : Type 0 where

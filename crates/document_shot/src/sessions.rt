@@ -4,9 +4,9 @@ ghost use Rattle.std.specs.Prelude.{◌≡◌, find, map, IfOk};
 ghost use Rattle.std.specs.Option.{option_copied};
 ghost use Rattle.std.specs.Str.{bytes_eq};
 ghost use Rattle.bundle_core.specs.KeptCore.{state_now};
-ghost use Rattle.document_shot.specs.Shots.{shown_session};
+ghost use Rattle.document_shot.specs.Shots.{shown_as, shown_session};
 
-use bundle_core::Core;
+use bundle_core::{Core, OpenSession};
 use cell_types::Name;
 use doc_keeper::Keeper;
 use doc_model::User;
@@ -53,6 +53,17 @@ pub(crate) fn copy_sessions(
     Ok(copies)
 }
 
+// The open sessions, as a shot has them.
+fn shown_sessions(alloc: Global, sessions: &[OpenSession]) -> Result<Vec<ShotSession>, AllocError>
+    ensures { IfOk result (λ l. l.items ≡ map shown_as sessions.now) }
+{
+    let mut shown = Vec::with_capacity(alloc, sessions.len())?;
+    for session in sessions {
+        shown.push(session_of(session.name(), session.user(), session.is_lagging())?)?;
+    }
+    Ok(shown)
+}
+
 /// The open sessions of a core, by name.
 pub(crate) fn open_sessions<K: Keeper>(
     alloc: Global,
@@ -61,11 +72,7 @@ pub(crate) fn open_sessions<K: Keeper>(
     ensures { IfOk result
         (λ l. l.items ≡ map shown_session (state_now core.now.state).open_sessions) }
 {
-    let mut sessions = Vec::new(alloc);
-    while let Some((name, user, lagging)) = core.open_session(sessions.len()) {
-        sessions.push(session_of(name, user, lagging)?)?;
-    }
-    Ok(sessions)
+    shown_sessions(alloc, core.open_sessions())
 }
 
 /// The session of that name.

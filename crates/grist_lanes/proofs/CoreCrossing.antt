@@ -12,6 +12,7 @@ use Rattle.acl_rules.proofs.resource.Columns.TheSendSync.{the_send as columns-se
 use Rattle.acl_rules.proofs.resource.Resource.TheSendSync.{the_send as resource-send}
 use Rattle.acl_rules.proofs.resources.Resources.TheSendSync.{the_send as resources-send}
 use Rattle.action_limits.proofs.tally.Tally.TheSendSync.{the_send as tally-send}
+use Rattle.bundle_core.proofs.last_change.LastChange.TheSendSync.{the_send as lastChange-send}
 use Rattle.bundle_core.proofs.loading.Opening.TheSendSync.{the_send as opening-send}
 use Rattle.bundle_core.proofs.session.OpenSession.TheSendSync.{the_send as openSession-send}
 use Rattle.bundle_records.proofs.ledger.RecordLedger.TheSendSync.{the_send as recordLedger-send}
@@ -99,6 +100,7 @@ ruleset parts = (
   resource-send,
   resources-send,
   tally-send,
+  lastChange-send,
   opening-send,
   openSession-send,
   recordLedger-send,
@@ -149,7 +151,7 @@ ruled-send = let T = ruled-inside.the_type tables.the_row back.the_row doc-table
 core-send : (K : RattleType) (g : keeper.Ghosts K.Denot) → IsSend K → IsSend (core.the_row K g)
 core-send K g k = let T = inside.the_type K g in view_send (inside.the_row K g) _ _ _ _
     (recorded_send (S.Struct (shape T)) T.D T.to T.to_one (struct_send (shape T)
-    ((search (sendable, parts, crosses) depth 60), ((search (sendable, parts, crosses) depth 60), ((search (sendable, parts, crosses) depth 60), (ruled-send, ((search (sendable, parts, crosses) depth 60), ((search (sendable, parts, crosses) depth 60), ((search (sendable, parts, crosses) depth 60), ((search (sendable, parts, crosses) depth 60), ((search (sendable, k, parts, crosses) depth 60), ((search (sendable, parts, crosses) depth 60), ((search (sendable, parts, crosses) depth 60), tt)))))))))))))
+    ((search (sendable, parts, crosses) depth 60), ((search (sendable, parts, crosses) depth 60), ((search (sendable, parts, crosses) depth 60), (ruled-send, ((search (sendable, parts, crosses) depth 60), ((search (sendable, parts, crosses) depth 60), ((search (sendable, parts, crosses) depth 60), ((search (sendable, parts, crosses) depth 60), ((search (sendable, k, parts, crosses) depth 60), ((search (sendable, parts, crosses) depth 60), ((search (sendable, parts, crosses) depth 60), ((search (sendable, parts, crosses) depth 60), tt))))))))))))))
 
 -- with its watchers, where these may too
 pub watched-send : (K W : RattleType) (g : keeper.Ghosts K.Denot) (h : watcher.Ghosts W.Denot) → IsSend K → IsSend W → IsSend (watched.the_row K W g h)

@@ -1,5 +1,5 @@
 use Rattle.std.proofs.Common.{ℕ, ◌≡◌, ◌<◌, List, ◌∷◌, [], ◌++◌, map, get_or, length, ap, sym, ◌∙◌, arith}
-use Rattle.std.specs.Vec.{Vec}
+use Rattle.std.specs.Global.{Vec}
 use Rattle.std.proofs.lemmas.List.{length-map, map-append}
 use Rattle.cell_types.specs.declared.cell.CellOld.{CellOld}
 use Rattle.action_censor.specs.Step.{Step, step_of}

@@ -1,5 +1,5 @@
 use Rattle.std.proofs.Common.{◌≡◌, map, take}
-use Rattle.std.specs.Vec.{Vec}
+use Rattle.std.specs.Global.{Vec}
 use Rattle.cell_types.specs.declared.cell.CellOld.{CellOld}
 use Rattle.action_censor.specs.Step.{step_of}
 use Rattle.bundle_core.specs.Followed.{with_cells}

@@ -1,3 +1,4 @@
 pub mod Pasts
 pub mod PeekAnswers
 pub mod Shots
+pub mod Trails

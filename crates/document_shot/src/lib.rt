@@ -24,6 +24,7 @@ mod past;
 mod reader;
 mod sessions;
 mod shot;
+mod trail;
 mod writer;
 
 pub use making::last_operation;
@@ -32,4 +33,5 @@ pub use past::CoreStart;
 pub use reader::PeekReader;
 pub use sessions::ShotSession;
 pub use shot::DocumentShot;
+pub use trail::{DocumentStep, Trail};
 pub use writer::PeekWriter;

@@ -4,48 +4,43 @@ ghost use Rattle.std.specs.Prelude.{◌≡◌, ◌∷◌, ◌++◌, [], List, le
 ghost use Rattle.doc_model.specs.Document.{Document};
 ghost use Rattle.doc_model.specs.DocumentLaws.{IsWhole};
 ghost use Rattle.doc_model.specs.declared.entry.Entry.{Entry};
-ghost use Rattle.recalc.specs.Evaluated.{filled, filled_by};
-ghost use Rattle.shot_cells.specs.Places.{seen_at};
 ghost use Rattle.shot_changes.specs.Leading.{LeadOn};
 ghost use Rattle.bundle_core.specs.KeptCore.{state_now};
 ghost use Rattle.bundle_core.specs.LastChange.{IsChange};
 ghost use Rattle.document_shot.specs.Pasts.{past_before, state_at};
-ghost use Rattle.document_shot.specs.Shots.{LeadTo, Leads, Stands};
+ghost use Rattle.document_shot.specs.Shots.{LeadTo, Leads, Stands, applied, begun, shown_after};
+ghost use Rattle.document_shot.specs.Trails.{steps_of};
 
 use crate::operation::DocumentOp;
-use crate::sessions::{copy_sessions, open_sessions};
+use crate::sessions::open_sessions;
 use crate::shot::DocumentShot;
 use bundle_core::{Core, LastChange};
 use column_store::ColumnTables;
 use doc_keeper::Keeper;
 use doc_model::{DocAction, DocActionList};
 use evaluated_doc::Doc;
-use shot_cells::{CellChanges, ShotCells, ShotDocument};
+use shot_cells::CellChanges;
 use shot_changes::{changes_anew, changes_of_rows};
-use shot_documents::{DocumentChanges, copy_document, take_in};
+use shot_documents::DocumentChanges;
 use std::alloc::{AllocError, Global};
-use std::snapshot::Snapshot;
 
-// The tables of a document with the values of its formula cells beside them.
-fn document_of(
-    alloc: Global,
-    doc: &Doc<ColumnTables>,
-) -> Result<ShotDocument<ColumnTables>, AllocError>
-    requires { IsWhole doc.now }
-    ensures tables { IfOk result (λ d. d.tables ≡ doc.now) }
-    ensures values { IfOk result
-        (λ d. filled_by (seen_at d.cells.tables) doc.now ≡ filled doc.now) }
+// What leads from the tables of a core's document alone to what it is now.
+fn opening_of<K: Keeper>(alloc: Global, core: &Core<K>) -> Result<DocumentOp, AllocError>
+    ensures past { IfOk result (λ op. op.past ≡ core.now.state) }
+    ensures stands { IfOk result
+        (λ op. Stands (applied (begun (state_now core.now.state).document) op)) }
 {
-    let changes = DocumentChanges {
-        actions: DocActionList::new(alloc),
-        cells: changes_anew(alloc, doc)?,
-    };
-    let mut document = ShotDocument {
-        tables: doc.tables().copy(alloc)?,
-        cells: ShotCells::new(alloc),
-    };
-    take_in(alloc, &mut document, &changes)?;
-    Ok(document)
+    let cells = changes_anew(alloc, core.document())?;
+    let sessions = open_sessions(alloc, core)?;
+    Ok(DocumentOp {
+        changes: DocumentChanges {
+            actions: DocActionList::new(alloc),
+            cells,
+        },
+        sessions,
+        entries: core.history().len() as u64,
+        past: core.past(),
+    })
 }
 
 /// Two shots of a core as it is now.
@@ -55,18 +50,15 @@ pub(crate) fn first_shots<K: Keeper>(
     alloc: Global,
     core: &Core<K>,
 ) -> Result<(DocumentShot, DocumentShot), AllocError>
-    ensures alike { IfOk result (λ two. two.0 ≡ two.1) }
-    ensures stands { IfOk result (λ two. Stands two.0) }
-    ensures past { IfOk result (λ two. two.0.past ≡ core.now.state) }
+    ensures alike { IfOk result (λ two. steps_of two.0.trail ≡ steps_of two.1.trail) }
+    ensures stands { IfOk result (λ two. Stands (shown_after (steps_of two.0.trail))) }
+    ensures past { IfOk result
+        (λ two. (shown_after (steps_of two.0.trail)).past ≡ core.now.state) }
 {
-    let past = core.past();
-    let entries = core.history().len() as u64;
-    let sessions = open_sessions(alloc, core)?;
-    let document = document_of(alloc, core.document())?;
-    let others = copy_sessions(alloc, sessions.as_slice())?;
-    let other = copy_document(alloc, &document)?;
-    let first = DocumentShot::of(alloc, document, sessions, entries, Snapshot::of(&past));
-    let second = DocumentShot::of(alloc, other, others, entries, Snapshot::of(&past));
+    let operation = opening_of(alloc, core)?;
+    let tables = core.document().tables();
+    let first = DocumentShot::start(alloc, tables.copy(alloc)?, &operation)?;
+    let second = DocumentShot::start(alloc, tables.copy(alloc)?, &operation)?;
     Ok((first, second))
 }
 

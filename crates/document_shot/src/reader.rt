@@ -24,12 +24,12 @@ impl Question<DocumentShot, DocumentOp> for PeekTable<'_> {
     ghost use Rattle.std.specs.Prelude.{◌≡◌, IfOk};
     ghost use Rattle.bundle_core.specs.KeptCore.{state_now};
     ghost use Rattle.document_shot.specs.PeekAnswers.{peek_answer};
-    ghost use Rattle.document_shot.specs.Shots.{Stands};
+    ghost use Rattle.document_shot.specs.Shots.{Stands, shown_after};
 
     type Answer = Result<PeekAnswer, AllocError>;
 
-    ghost answers = { λ s q answer. Stands s → IfOk answer
-        (λ a. a ≡ peek_answer (state_now s.past) q.session.now q.table.now) };
+    ghost answers = { λ steps q answer. Stands (shown_after steps) → IfOk answer
+        (λ a. a ≡ peek_answer (state_now (shown_after steps).past) q.session.now q.table.now) };
 
     fn ask(self, shot: &DocumentShot) -> Result<PeekAnswer, AllocError> {
         shot.answer(self.session, self.table)

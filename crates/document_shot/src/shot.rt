@@ -1,97 +1,83 @@
 //! Shots of a core's document, taken by readers that wait for nobody.
 
-ghost use Rattle.std.specs.Prelude.{◌≡◌, IfOk};
+ghost use Rattle.std.specs.Prelude.{◌≡◌, ◌∷◌, [], IfOk};
 ghost use Rattle.doc_model.specs.Changes.{IsView};
 ghost use Rattle.doc_model.specs.DocumentLaws.{IsWhole};
-ghost use Rattle.recalc.specs.Evaluated.{filled, filled_by};
 ghost use Rattle.shot_cells.specs.Places.{seen_at};
 ghost use Rattle.rule_contexts.specs.Context.{view};
 ghost use Rattle.bundle_core.specs.KeptCore.{state_now};
 ghost use Rattle.bundle_core.specs.Mailbox.{asked_table};
 ghost use Rattle.document_shot.specs.PeekAnswers.{peek_answer};
-ghost use Rattle.document_shot.specs.Shots.{Stands};
+ghost use Rattle.document_shot.specs.Shots.{Shows, Stands, shown_after};
+ghost use Rattle.document_shot.specs.Trails.{steps_of};
+ghost use Rattle.document_shot.specs.declared.trail.DocumentStep.TheVariants.{First};
 
 use crate::answers::table_answer;
 use crate::operation::DocumentOp;
 use crate::past::CoreStart;
 use crate::sessions::{ShotSession, copy_sessions, session_named};
-use bundle_core::{CorePast, shown_table};
+use crate::trail::{DocumentStep, Trail};
+use bundle_core::shown_table;
 use cell_types::{CellText, Name};
 use column_store::ColumnTables;
 use doc_model::{Entry, User, View};
 use left_right::Absorb;
 use peek_lines::PeekAnswer;
 use rule_contexts::context_over;
-use shot_cells::ShotDocument;
+use shot_cells::{ShotCells, ShotDocument};
 use shot_documents::take_in;
 use snap_reads::Shot;
 use std::alloc::{AllocError, Global};
-use std::marker::Model;
-use std::snapshot::Snapshot;
+use std::collections::LinkedList;
 use user_attrs::load_attributes;
 
 /// A document with its evaluated cells and its open sessions, as a history led to them. It has no
-/// trees of formulas.
+/// trees of formulas. Its trail says what it shows.
 #[derive(Drop)]
 pub struct DocumentShot {
     alloc: Global,
     document: ShotDocument<ColumnTables>,
     sessions: Vec<ShotSession>,
     entries: u64,
-    past: Snapshot<CorePast>,
-}
-
-impl Model for DocumentShot {
-    ghost use Rattle.doc_model.specs.DocumentLaws.{IsWhole};
-    ghost use Rattle.shot_cells.specs.Places.{seen_at};
-    ghost use Rattle.document_shot.specs.Shots.{ShotState};
-
-    ghost Value = { ShotState };
-
-    ghost view = { λ s. record {
-      document = s.document.tables;
-      seen = seen_at s.document.cells.tables;
-      sessions = s.sessions.items;
-      entries = s.entries;
-      past = s.past.value;
-    } };
-
-    ghost invariant = { λ s. IsWhole s.document.tables };
+    trail: Trail,
+    ghost whole: { IsWhole document.tables },
+    ghost shows: { Shows document.tables (seen_at document.cells.tables) sessions.items entries
+        (shown_after (steps_of trail)) },
 }
 
 impl DocumentShot {
-    /// A shot of a document with its evaluated cells and open sessions, after so many entries.
-    pub(crate) fn of(
+    /// A shot of tables that takes in an operation.
+    ///
+    /// Errors: out of memory.
+    pub(crate) fn start(
         alloc: Global,
-        document: ShotDocument<ColumnTables>,
-        sessions: Vec<ShotSession>,
-        entries: u64,
-        past: Snapshot<CorePast>,
-    ) -> DocumentShot
-        requires { IsWhole document.tables }
-        ensures { result ≡ record {
-          document = document.tables;
-          seen = seen_at document.cells.tables;
-          sessions = sessions.items;
-          entries = entries;
-          past = past.value;
-        } }
+        tables: ColumnTables,
+        operation: &DocumentOp,
+    ) -> Result<DocumentShot, AllocError>
+        requires { IsWhole tables }
+        ensures { IfOk result (λ s. steps_of s.trail ≡ First tables operation.now ∷ []) }
     {
-        DocumentShot {
+        let trail = Trail::start(&tables, operation);
+        let sessions = copy_sessions(alloc, operation.sessions.as_slice())?;
+        let mut document = ShotDocument {
+            tables,
+            cells: ShotCells::new(alloc),
+        };
+        take_in(alloc, &mut document, &operation.changes)?;
+        Ok(DocumentShot {
             alloc,
             document,
             sessions,
-            entries,
-            past,
-        }
+            entries: operation.entries,
+            trail,
+        })
     }
 
     // The table of that id as a user sees it, alone; nothing where the user does not see it.
     #[tactic(auto, using(crate::proofs::SeenLaws::laid_out_by))]
     fn table_seen(&self, user: &User, table: &CellText) -> Result<View, AllocError>
-        ensures seen { filled_by self.now.seen self.now.document ≡ filled self.now.document
-            → IfOk result
-            (λ v. v.tables ≡ asked_table table.now (view user.now self.now.document)) }
+        ensures seen { Stands (shown_after (steps_of self.now.trail)) → IfOk result (λ v. v.tables
+            ≡ asked_table table.now (view user.now self.now.document.tables)) }
         ensures is_view { IfOk result (λ v. IsView v.tables) }
     {
         let tables = &self.document.tables;
@@ -107,8 +93,9 @@ impl DocumentShot {
     /// Cost: reading the rules, for each attribute of users a walk over its table, and the rows of
     /// the table.
     pub(crate) fn answer(&self, session: &Name, table: &CellText) -> Result<PeekAnswer, AllocError>
-        ensures { Stands self.now → IfOk result
-            (λ a. a ≡ peek_answer (state_now self.now.past) session.now table.now) }
+        ensures { Stands (shown_after (steps_of self.now.trail)) → IfOk result
+            (λ a. a ≡ peek_answer (state_now (shown_after (steps_of self.now.trail)).past)
+            session.now table.now) }
     {
         let Some(found) = session_named(self.sessions.as_slice(), session) else {
             return Ok(PeekAnswer::NotOpen);
@@ -122,13 +109,15 @@ impl DocumentShot {
 }
 
 impl Absorb<DocumentOp> for DocumentShot {
-    ghost use Rattle.document_shot.specs.Shots.{applied};
+    ghost use Rattle.std.specs.Prelude.{◌++◌, ◌∷◌, []};
+    ghost use Rattle.document_shot.specs.Trails.{steps_of};
+    ghost use Rattle.document_shot.specs.declared.trail.DocumentStep.TheVariants.{Then};
 
-    type State = DocumentShot;
+    type State = LinkedList<DocumentStep>;
 
-    ghost state = { λ s. s };
+    ghost state = { λ s. steps_of s.trail };
 
-    ghost applied = { applied };
+    ghost applied = { λ steps op. steps ++ Then op ∷ [] };
 
     fn absorb_first(
         &mut self,
@@ -139,23 +128,23 @@ impl Absorb<DocumentOp> for DocumentShot {
         take_in(self.alloc, &mut self.document, &operation.changes)?;
         self.sessions = sessions;
         self.entries = operation.entries;
-        self.past = Snapshot::of(&operation.past);
+        self.trail.note(operation);
         Ok(())
     }
 }
 
 impl Shot<DocumentOp> for DocumentShot {
     ghost use Rattle.document_shot.specs.Pasts.{past_of};
-    ghost use Rattle.document_shot.specs.Shots.{Leads, Stands};
+    ghost use Rattle.document_shot.specs.Shots.{Leads, Stands, shown_after};
     ghost use Rattle.document_shot.proofs.Leading.{keeps, continues, moves};
 
     type Opening = CoreStart;
 
     type Entry = Entry;
 
-    ghost past = { λ s. past_of s.past };
+    ghost past = { λ steps. past_of (shown_after steps).past };
 
-    ghost stands = { Stands };
+    ghost stands = { λ steps. Stands (shown_after steps) };
 
     ghost led_to = { λ op. past_of op.past };
 

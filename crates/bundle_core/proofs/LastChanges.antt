@@ -1,6 +1,6 @@
 -- What the last bundle changed.
-use Rattle.std.proofs.Common.{◌≡◌, ◌+◌, ◌<◌, ◌&&◌, ℕ, Bool, true, false, List, [], ◌∷◌, ◌++◌, length, map, get_or, Option, Some, None, IfOk, IfSome, IsSome, Result, Ok, Err, MatchResult, refl, sym, ap, subst, ◌∙◌, arith, absurd, if◌then◌else◌}
-use Rattle.std.proofs.lemmas.Bool.{and_parts}
+use Rattle.std.proofs.Common.{◌≡◌, ◌+◌, ◌<◌, ◌&&◌, ℕ, Bool, true, false, List, [], ◌∷◌, ◌++◌, length, map, get_or, Option, Some, None, IfOk, IfSome, IsSome, Result, Ok, Err, MatchResult, refl, sym, ap, subst, ◌∙◌, arith, suc, zero, if◌then◌else◌}
+use Rattle.std.proofs.lemmas.Bool.{and_parts, false≢true}
 use Rattle.std.proofs.lemmas.List.{length-append}
 use Rattle.std.specs.List.{list_all}
 use Rattle.std.specs.Global.{Vec}
@@ -37,7 +37,7 @@ module _ {X E : Type 0} (make : X → Turn) (none : (v : X) → (make v).change 
 pub lost_as : {B : Type 0} (told : List B → List (List CellOld)) (old new : List B) (all : List (List CellOld)) (room result : Option (Vec (Vec CellOld))) → IfSome room (λ r. HasRoomFor (length new) r × (new ≡ old))
     → IfSome result (λ ls. IsSome room × (map (λ (l : Vec CellOld). l.items) ls.items ≡ told new)) → told old ≡ all → IfSome result (λ ls. map (λ (l : Vec CellOld). l.items) ls.items ≡ all)
 lost_as told old new all room None h f is = tt
-lost_as told old new all None (Some ls) h f is = absurd f.0
+lost_as told old new all None (Some ls) h f is = absurd (false≢true f.0)
 lost_as told old new all (Some r) (Some ls) h f is = f.1 ∙ ap told h.1 ∙ is
 
 pub lost_at : (ls : List (Vec CellOld)) (i : ℕ) (x : Vec CellOld) (cells : List CellOld) → i < length ls → x ≡ get_or ls i x → cells ≡ x.items → cells ≡ get_or (map (λ (l : Vec CellOld). l.items) ls) i cells

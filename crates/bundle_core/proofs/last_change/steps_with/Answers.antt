@@ -16,7 +16,7 @@ loop-index-preserved c =
     let cells = c.as_slice.result.now in
     let lt : l.index < length c.args.actions.now = omega (arith, c.loop-index-test.true) in
     let within : l.index < length ls = omega (arith, lt, c.requires) in
-    let le : l.index < length told = omega (arith, within, length-map (λ (cells : Vec CellOld). cells.items) ls) in
+    let le : l.index < length told = omega (arith, within, length-map ls (λ (cells : Vec CellOld). cells.items)) in
     ap (map step_of) c.in_ok-push.ensures.items
     ∙ map-append step_of l.steps.items _
     ∙ ap (λ ks. ks ++ (let k : Step = record { action = a; cells = cells } in k) ∷ []) l.invariant

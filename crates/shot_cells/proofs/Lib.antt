@@ -1,3 +1,5 @@
 pub mod PlaceLemmas
 pub mod SeenLemmas
 pub mod ValueLemmas
+pub mod CopyLemmas
+pub mod ValueCopies

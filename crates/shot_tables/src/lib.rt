@@ -1,7 +1,7 @@
 //! The tables of a shot: actions are put all or none, where they are valid.
 //!
 //! Stands on `doc_model` (documents and what actions do) and `doc_actions` (which action is valid).
-//! Nothing stands on it yet.
+//! Used by `shot_documents`.
 //!
 //! Promises: `put_all` leads to the document after all actions, one that is not valid passed over,
 //! or leaves the document as it was; which of them it is, its answer tells. What was put before

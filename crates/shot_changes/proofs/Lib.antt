@@ -1,0 +1,5 @@
+pub mod AddsLemmas
+pub mod SeenCells
+pub mod FilledCells
+pub mod BundleCells
+pub mod LeadLemmas

@@ -2,3 +2,4 @@ pub mod Pasts
 pub mod PeekAnswers
 pub mod Shots
 pub mod Trails
+pub mod Leading

@@ -9,7 +9,7 @@ use Rattle.recalc.specs.Evaluated.{filled, filled_by}
 use Rattle.shot_cells.specs.Changes.{nothing_seen, seen_after}
 use Rattle.shot_cells.specs.Places.{ByCell}
 use Rattle.shot_changes.specs.Leading.{LeadOn}
-use Rattle.shot_documents.specs.declared.changes.DocumentChanges.{DocumentChanges}
+use Rattle.shot_documents.specs.declared.taking.DocumentChanges.{DocumentChanges}
 use Rattle.snap_reads.specs.Past.{Continues}
 use Rattle.snap_reads.specs.declared.past.Past.{Past}
 use Rattle.bundle_core.specs.Core.{CoreState}

@@ -7,11 +7,11 @@ ghost use Rattle.document_shot.specs.PeekAnswers.{IsPeekAnswer};
 use crate::operation::DocumentOp;
 use crate::shot::DocumentShot;
 use cell_types::{CellText, Name};
+use core::mem;
 use peek_lines::PeekAnswer;
 use snap_reads::{Mark, NoShot, Question, ShotReader};
 use std::alloc::AllocError;
 use std::marker::Model;
-use std::mem;
 
 /// Asks what a session sees of a table.
 #[derive(Drop)]
@@ -33,6 +33,26 @@ impl Question<DocumentShot, DocumentOp> for PeekTable<'_> {
 
     fn ask(self, shot: &DocumentShot) -> Result<PeekAnswer, AllocError> {
         shot.answer(self.session, self.table)
+    }
+}
+
+// Asks the shot that is shown what a session sees of a table.
+fn peeked(
+    reader: ShotReader<DocumentShot, DocumentOp>,
+    question: PeekTable<'_>,
+) -> (
+    ShotReader<DocumentShot, DocumentOp>,
+    Result<PeekAnswer, AllocError>,
+)
+    ensures takes { TakesOn reader.known result.0.known }
+    ensures least { result.0.least ≡ reader.least }
+    ensures answer { IfOk result.1 (IsPeekAnswer question.entry.session.now
+        question.entry.table.now reader.known reader.least result.0.known) }
+{
+    let (reader, answer) = reader.peek(question);
+    match answer {
+        Ok(answer) => (reader, answer),
+        Err(NoShot) => (reader, Err(AllocError)),
     }
 }
 
@@ -81,9 +101,6 @@ impl PeekReader {
             self.old.least self.new.known) }
     {
         let question = PeekTable { session, table };
-        match mem::replace_with(&mut self.reader, question, ShotReader::peek) {
-            Ok(answer) => answer,
-            Err(NoShot) => Err(AllocError),
-        }
+        mem::replace_with(&mut self.reader, question, peeked)
     }
 }

@@ -136,7 +136,7 @@ impl Absorb<DocumentOp> for DocumentShot {
 impl Shot<DocumentOp> for DocumentShot {
     ghost use Rattle.document_shot.specs.Pasts.{past_of};
     ghost use Rattle.document_shot.specs.Shots.{Leads, Stands, shown_after};
-    ghost use Rattle.document_shot.proofs.Leading.{keeps, continues, moves};
+    ghost use Rattle.document_shot.specs.Leading.{keeps, continues, moves};
 
     type Opening = CoreStart;
 

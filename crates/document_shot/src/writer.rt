@@ -9,11 +9,11 @@ use crate::operation::DocumentOp;
 use crate::reader::PeekReader;
 use crate::shot::DocumentShot;
 use bundle_core::Core;
+use core::mem;
 use doc_keeper::Keeper;
 use snap_reads::{Mark, ShotWriter, open_shots};
 use std::alloc::{AllocError, Global};
 use std::marker::Model;
-use std::mem;
 use std::sync::Wait;
 
 /// The writer of shots of a core's document. It is not `Drop`: `give_up` ends it. It is seen as the

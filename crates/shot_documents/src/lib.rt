@@ -7,13 +7,10 @@
 //!
 //! Promises: `take_in` leads to the document after all actions of a bundle, with what is seen of the
 //! formula cells after it, or leaves both as they were; which of them it is, its answer tells.
-//! `copy_document` makes a document that tells the same.
 //! Not promised: that the changes are those of a bundle. Whoever notes them says so.
 //! Read first: taking.rt.
 #![tactic(auto)]
 
-mod copies;
 mod taking;
 
-pub use copies::copy_document;
 pub use taking::{DocumentChanges, take_in};

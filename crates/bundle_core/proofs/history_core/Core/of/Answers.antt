@@ -1,5 +1,7 @@
-use Rattle.std.proofs.Common.{rules}
+use Rattle.std.proofs.Common.{List, None, rules, subst, sym}
+use Rattle.doc_model.specs.declared.entry.Entry.{Entry}
 use Rattle.bundle_core.specs.Core.{document_of}
+use Rattle.bundle_core.specs.LastChange.{IsLast}
 use Rattle.bundle_core.proofs.KeptLaws.{first_kept, opening_told}
 use Rattle.bundle_core.proofs.LastChanges.{no_last}
 use Rattle.bundle_core.proofs.history_core.Core.of.Goals as goal
@@ -9,7 +11,8 @@ invariant_of-result g c =
     let told = g.K.Keeper.records c.args.keeper in
     let start = document_of c.args.loaded.opening in
     let number = c.args.loaded.count in
-    let kept = first_kept c.args.users told (g.K.Keeper.failures c.args.keeper) start number c.requires.opens in (
+    let kept = first_kept c.args.users told (g.K.Keeper.failures c.args.keeper) start number c.requires.opens in
+    let L : List Entry → Type 0 = λ es. IsLast c.args.users start es c.args.loaded.doc None in (
       record {
         state = search rules;
         whole = search rules;
@@ -27,7 +30,7 @@ invariant_of-result g c =
         counted = search rules;
         count = search rules;
       },
-      no_last c.args.users start c.args.loaded.doc,
+      subst L (sym c.new-2.ensures.items) (no_last c.args.users start c.args.loaded.doc),
     )
 
 pub returns : goal.returns

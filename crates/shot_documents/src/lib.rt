@@ -2,8 +2,7 @@
 //!
 //! Stands on `cell_types` (values of cells), `doc_model` (documents and what actions do),
 //! `shot_tables` (actions are put all or none), `shot_cells` (what is seen of formula cells beside
-//! the tables), `column_store` (the tables that are copied) and `list_ops`.
-//! Nothing stands on it yet.
+//! the tables) and `list_ops`. Used by `document_shot`.
 //!
 //! Promises: `take_in` leads to the document after all actions of a bundle, with what is seen of the
 //! formula cells after it, or leaves both as they were; which of them it is, its answer tells.

@@ -103,8 +103,8 @@ returns-in-Done-clause-tally g c =
     let P : Document → Type 0 = λ z. IsTally z p.tally in
     subst P (sym done.document) plan.may.counts
 
-pub returns-clause-ok : goal.returns-clause-ok
-returns-clause-ok g c =
+pub returns-in-Unkept-clause-ok : goal.returns-in-Unkept-clause-ok
+returns-in-Unkept-clause-ok g c =
     let s = gone_back g.D.DocTables.fits g.D.DocTables.undone c.args.trail.traces.items (g.D.DocReader.document c.args.doc.now) in
     let t = g.D.DocReader.document c.accept.new.doc in
     let users = c.args.users.now in
@@ -140,8 +140,8 @@ returns-in-Done-clause-change g c =
     let done : IsDone s t c.args.sessions.now.items c.accept.new.sessions.items was now c.args.index p c.in-Done.lines.items = rw c.in-Done.is at c.in_ok-lines-in-Accepted.ensures.ok in
     (record { whole = c.requires.whole; valid = plan.may.valid; after = done.document; lost = rw c.in-Done.is at c.in_ok-lines-in-Accepted.ensures.lost }, done.count)
 
-pub returns-clause-change : goal.returns-clause-change
-returns-clause-change g c =
+pub returns-in-Unkept-clause-change : goal.returns-in-Unkept-clause-change
+returns-in-Unkept-clause-change g c =
     let s = gone_back g.D.DocTables.fits g.D.DocTables.undone c.args.trail.traces.items (g.D.DocReader.document c.args.doc.now) in
     let t = g.D.DocReader.document c.accept.new.doc in
     let unkept : IsUnkept s t c.args.sessions.now.items c.accept.new.sessions.items c.args.records.now c.accept.new.records c.args.index c.in-Unkept.lines.items = rw c.in-Unkept.is at c.in_ok-lines-in-Accepted.ensures.ok in

@@ -112,7 +112,8 @@ fn user_of<'a>(users: &'a [User], token: &str) -> Option<&'a User>
 
 // The turn of an entry that asks for nothing that is kept.
 fn quiet(lines: Result<Vec<Line>, AllocError>) -> Result<Turn, AllocError>
-    ensures { MatchResult lines (λ v. result ≡ Ok (record { lines = v; kept = true; change = None }))
+    ensures { MatchResult lines
+        (λ v. result ≡ Ok (record { lines = v; kept = true; change = None }))
         (λ fault. result ≡ Err fault) }
 {
     match lines {

@@ -16,9 +16,9 @@ use doc_model::{DocAction, DocTables};
 use evaluated_doc::Trace;
 use std::alloc::{AllocError, Global};
 
-/// An accepted bundle: its steps, and for each of them the cells of the evaluated document that hold
-/// something else after it or are gone, with what they held. These are not told where the steps
-/// were done once more to work out what sessions are told.
+/// An accepted bundle: its steps, and for each of them the cells of the evaluated document that
+/// hold something else after it or are gone, with what they held. These are not told where the
+/// steps were done once more to work out what sessions are told.
 #[derive(Drop)]
 pub struct LastChange {
     pub steps: SplitSteps,

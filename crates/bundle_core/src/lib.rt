@@ -21,6 +21,8 @@
 //! is refused for its first action by what its session's user sees, and by nothing else.
 //! `renaming_law`: a renaming is refused for what its plan, made of what its session's user sees,
 //! leaves unresolved, and else answered as the bundle of its planned actions.
+//! `Core::last_change` tells what the last entry did where it was an accepted bundle, and exactly
+//! then (specs/LastChange.antt), without memory.
 //! `made_line_law`: how many lines were made for a session is counted as they are made
 //! (specs/MadeLines.antt); `Core::line_made` hands out the one that the last entry made. What a
 //! core is asked and answers as a machine that threads step in turn is said by histories alone

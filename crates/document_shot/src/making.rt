@@ -9,7 +9,6 @@ ghost use Rattle.bundle_core.specs.KeptCore.{state_now};
 ghost use Rattle.bundle_core.specs.LastChange.{IsChange};
 ghost use Rattle.document_shot.specs.Pasts.{past_before, state_at};
 ghost use Rattle.document_shot.specs.Shots.{LeadTo, Leads, Stands, applied, begun, shown_after};
-ghost use Rattle.document_shot.specs.Trails.{steps_of};
 
 use crate::operation::DocumentOp;
 use crate::sessions::open_sessions;
@@ -50,10 +49,9 @@ pub(crate) fn first_shots<K: Keeper>(
     alloc: Global,
     core: &Core<K>,
 ) -> Result<(DocumentShot, DocumentShot), AllocError>
-    ensures alike { IfOk result (λ two. steps_of two.0.trail ≡ steps_of two.1.trail) }
-    ensures stands { IfOk result (λ two. Stands (shown_after (steps_of two.0.trail))) }
-    ensures past { IfOk result
-        (λ two. (shown_after (steps_of two.0.trail)).past ≡ core.now.state) }
+    ensures alike { IfOk result (λ two. two.0 ≡ two.1) }
+    ensures stands { IfOk result (λ two. Stands (shown_after two.0)) }
+    ensures past { IfOk result (λ two. (shown_after two.0).past ≡ core.now.state) }
 {
     let operation = opening_of(alloc, core)?;
     let tables = core.document().tables();

@@ -3,13 +3,11 @@
 ghost use Rattle.std.specs.Prelude.{◌≡◌, ◌∷◌, [], IfOk};
 ghost use Rattle.doc_model.specs.Changes.{IsView};
 ghost use Rattle.doc_model.specs.DocumentLaws.{IsWhole};
-ghost use Rattle.shot_cells.specs.Places.{seen_at};
 ghost use Rattle.rule_contexts.specs.Context.{view};
 ghost use Rattle.bundle_core.specs.KeptCore.{state_now};
 ghost use Rattle.bundle_core.specs.Mailbox.{asked_table};
 ghost use Rattle.document_shot.specs.PeekAnswers.{peek_answer};
-ghost use Rattle.document_shot.specs.Shots.{Shows, Stands, shown_after};
-ghost use Rattle.document_shot.specs.Trails.{steps_of};
+ghost use Rattle.document_shot.specs.Shots.{Stands, shown_after};
 ghost use Rattle.document_shot.specs.declared.trail.DocumentStep.TheVariants.{First};
 
 use crate::answers::table_answer;
@@ -29,6 +27,7 @@ use shot_documents::take_in;
 use snap_reads::Shot;
 use std::alloc::{AllocError, Global};
 use std::collections::LinkedList;
+use std::marker::Model;
 use user_attrs::load_attributes;
 
 /// A document with its evaluated cells and its open sessions, as a history led to them. It has no
@@ -40,9 +39,23 @@ pub struct DocumentShot {
     sessions: Vec<ShotSession>,
     entries: u64,
     trail: Trail,
-    ghost whole: { IsWhole document.tables },
-    ghost shows: { Shows document.tables (seen_at document.cells.tables) sessions.items entries
-        (shown_after (steps_of trail)) },
+}
+
+impl Model for DocumentShot {
+    ghost use Rattle.std.specs.Prelude.{List};
+    ghost use Rattle.doc_model.specs.DocumentLaws.{IsWhole};
+    ghost use Rattle.shot_cells.specs.Places.{seen_at};
+    ghost use Rattle.document_shot.specs.Shots.{Shows, shown_after};
+    ghost use Rattle.document_shot.specs.Trails.{steps_of};
+    ghost use Rattle.document_shot.specs.declared.trail.DocumentStep.{DocumentStep};
+
+    ghost Value = { List DocumentStep };
+
+    ghost view = { λ s. steps_of s.trail };
+
+    ghost invariant = { λ s. IsWhole s.document.tables
+        × Shows s.document.tables (seen_at s.document.cells.tables) s.sessions.items s.entries
+        (shown_after (steps_of s.trail)) };
 }
 
 impl DocumentShot {
@@ -55,7 +68,7 @@ impl DocumentShot {
         operation: &DocumentOp,
     ) -> Result<DocumentShot, AllocError>
         requires { IsWhole tables }
-        ensures { IfOk result (λ s. steps_of s.trail ≡ First tables operation.now ∷ []) }
+        ensures { IfOk result (λ s. s ≡ First tables operation.now ∷ []) }
     {
         let trail = Trail::start(&tables, operation);
         let sessions = copy_sessions(alloc, operation.sessions.as_slice())?;
@@ -76,8 +89,8 @@ impl DocumentShot {
     // The table of that id as a user sees it, alone; nothing where the user does not see it.
     #[tactic(auto, using(crate::proofs::SeenLaws::laid_out_by))]
     fn table_seen(&self, user: &User, table: &CellText) -> Result<View, AllocError>
-        ensures seen { Stands (shown_after (steps_of self.now.trail)) → IfOk result (λ v. v.tables
-            ≡ asked_table table.now (view user.now self.now.document.tables)) }
+        ensures seen { Stands (shown_after self.now) → IfOk result (λ v. v.tables
+            ≡ asked_table table.now (view user.now (shown_after self.now).document)) }
         ensures is_view { IfOk result (λ v. IsView v.tables) }
     {
         let tables = &self.document.tables;
@@ -93,9 +106,8 @@ impl DocumentShot {
     /// Cost: reading the rules, for each attribute of users a walk over its table, and the rows of
     /// the table.
     pub(crate) fn answer(&self, session: &Name, table: &CellText) -> Result<PeekAnswer, AllocError>
-        ensures { Stands (shown_after (steps_of self.now.trail)) → IfOk result
-            (λ a. a ≡ peek_answer (state_now (shown_after (steps_of self.now.trail)).past)
-            session.now table.now) }
+        ensures { Stands (shown_after self.now) → IfOk result (λ a. a
+            ≡ peek_answer (state_now (shown_after self.now).past) session.now table.now) }
     {
         let Some(found) = session_named(self.sessions.as_slice(), session) else {
             return Ok(PeekAnswer::NotOpen);
@@ -110,12 +122,11 @@ impl DocumentShot {
 
 impl Absorb<DocumentOp> for DocumentShot {
     ghost use Rattle.std.specs.Prelude.{◌++◌, ◌∷◌, []};
-    ghost use Rattle.document_shot.specs.Trails.{steps_of};
     ghost use Rattle.document_shot.specs.declared.trail.DocumentStep.TheVariants.{Then};
 
     type State = LinkedList<DocumentStep>;
 
-    ghost state = { λ s. steps_of s.trail };
+    ghost state = { λ s. s };
 
     ghost applied = { λ steps op. steps ++ Then op ∷ [] };
 

@@ -12,8 +12,8 @@ use std::sync::Wait;
 use watch_box::Watcher;
 use watched_core::WatchedCore;
 
-/// A core with its watchers, which publishes a shot of its document at each entry. It is not `Drop`:
-/// `finish` ends it. It is seen as the core with its watchers, and as the writer of shots.
+/// A core with its watchers, which publishes a shot of its document at each entry. It is not
+/// `Drop`: `finish` ends it. It is seen as the core with its watchers, and as the writer of shots.
 pub struct ShotCore<K: Keeper, W: Watcher> {
     alloc: Global,
     watched: WatchedCore<K, W>,

@@ -96,10 +96,10 @@ fn take_anew<D: DocTables>(
     Ok(())
 }
 
-/// Takes in what a bundle did: its actions in order, one that is not valid at its place passed over,
-/// and what became of the formula cells.
+/// Takes in what a bundle did: its actions in order, one that is not valid at its place passed
+/// over, and what became of the formula cells.
 ///
-/// Errors: out of memory; the document is then as it was, and the same is seen of each formula cell.
+/// Errors: out of memory; the document is then as it was, and the same is seen of formula cells.
 /// Memory: what the tables take for the actions, a copy of each value and a place for its cell.
 /// Cost: that of the actions, and for each cell the logarithm of the cells beside the tables.
 pub fn take_in<D: DocTables>(

@@ -1,1 +1,2 @@
 pub mod SeenLaws
+pub mod AnswerLemmas

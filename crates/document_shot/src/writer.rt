@@ -38,12 +38,12 @@ fn published<R: Wait>(
     given: (&R, DocumentOp),
 ) -> (ShotWriter<DocumentShot, DocumentOp>, Option<Mark>)
     requires leads { writer.lost ≡ false → Leads writer.last given.1 }
-    ensures some { IfSome result.1 (λ mark. (result.0.published ≡ past_of given.1.past)
-        × (mark.entries ≡ length given.1.past.history)
+    ensures some { IfSome result.1 (λ mark. (result.0.published ≡ past_of given.entry.1.past)
+        × (mark.entries ≡ length given.entry.1.past.history)
         × (result.0.last ≡ result.0.published)
         × (writer.lost ≡ false) × (result.0.lost ≡ false)) }
     ensures none { IsNone result.1 → (result.0.published ≡ writer.published)
-        × (((result.0.last ≡ past_of given.1.past) × (result.0.lost ≡ writer.lost))
+        × (((result.0.last ≡ past_of given.entry.1.past) × (result.0.lost ≡ writer.lost))
         ⊎ (result.0.lost ≡ true)) }
     ensures lost { writer.lost ≡ true → IsNone result.1 × (result.0.lost ≡ true) }
 {

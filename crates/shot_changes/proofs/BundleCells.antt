@@ -1,6 +1,7 @@
 -- What a bundle of records leaves of formula cells that its steps do not tell of.
 use Rattle.std.proofs.Common.{◌≡◌, ◌∙◌, ℕ, Bool, true, false, not, cond, ◌||◌, List, [], ◌∷◌, Option, Some, None, is_some, refl, sym, ap, subst}
-use Rattle.std.proofs.lemmas.Bool.{and_parts, false≢true, or_parts, true≢false}
+use Rattle.std.proofs.Math.Bool.{or-true}
+use Rattle.std.proofs.lemmas.Bool.{and_parts, false≢true, or_parts}
 use Rattle.std.proofs.lemmas.List.Folds.{list_any-append}
 use Rattle.std.proofs.lemmas.Slice.Eq.{bytes_eq-Decides}
 use Rattle.std.specs.List.{flat_map}
@@ -30,9 +31,10 @@ use Rattle.action_censor.specs.Step.{Step, are_records, is_of_records}
 use Rattle.bundle_traces.specs.TraceLaws.{TraceLaw, step_done, steps_done}
 use Rattle.shot_cells.specs.Places.{is_cell}
 use Rattle.shot_cells.specs.ShotDocument.{is_formula_at}
+use Rattle.shot_cells.proofs.PlaceLemmas.{nothing_at}
 use Rattle.shot_changes.specs.NotedCells.{added_cells, has_cell, lost_cell, row_cells, step_cells}
 use Rattle.shot_changes.proofs.FilledCells.{cell_at-grid, cell_of_grid, parts_of, whole_of}
-use Rattle.shot_changes.proofs.ToldCells.{held_told, in_rows, or_true}
+use Rattle.shot_changes.proofs.ToldCells.{held_told, in_rows}
 
 -- ---- rows that an action adds
 
@@ -49,7 +51,7 @@ row_kept d t k r formula (BulkAdd table rows ks) now untold here =
 row_kept d t k r formula (BulkUpdate table rows ks) now untold here = here
 row_kept d t k r formula (BulkRemove table rows) now untold here =
     elim (bytes_eq table t) as (λ b. has (cond b (insert_rows rows now) now) r ≡ true) [
-      | true ↦ has-insert_rows rows now r ∙ ap (λ b. has rows r || b) here ∙ or_true (has rows r)
+      | true ↦ has-insert_rows rows now r ∙ ap (λ b. has rows r || b) here ∙ or-true (has rows r)
       | false ↦ here
     ]
 row_kept d t k r formula (AddTable table row columns) now untold here = here
@@ -62,10 +64,6 @@ row_kept d t k r formula (ModifyColumn table column info) now untold here = here
 
 -- ---- one step
 
-none_of : {X : Type 0} (o : Option X) → is_some o ≡ false → o ≡ None
-none_of None e = refl
-none_of (Some x) e = absurd (true≢false e)
-
 module _ (d : Document) (t k : List ℕ) (r : ℕ) (formula : is_formula_at d t k ≡ true) (q : Step) (g h : Grid ColDef) (is : IsStepOf q t g h) where
   abbrev Kept : Type 0
   Kept = (has h.rows r ≡ true) × (cell column_id g k r ≡ cell column_id h k r)
@@ -75,7 +73,7 @@ module _ (d : Document) (t k : List ℕ) (r : ℕ) (formula : is_formula_at d t 
   kept column row untold =
       let found : (e : ColDef) × (find_id column_id k g.columns ≡ Some e) = found_has column_id k g.columns column in
       let named : found.0.id ≡ k = found_id column_id k g.columns found.0 found.1 in
-      let none : held_before q.cells t k r ≡ None = none_of (held_before q.cells t k r) (held_told d t k r formula q.cells ∙ untold) in
+      let none : held_before q.cells t k r ≡ None = nothing_at (held_before q.cells t k r) (is_some (held_before q.cells t k r)) refl (held_told d t k r formula q.cells ∙ untold) in
       subst (λ n. (has h.rows r ≡ true) × (cell column_id g n r ≡ cell column_id h n r)) named
       (is.same found.0 r (ap (λ n. find_id column_id n g.columns) named ∙ found.1) row (ap (λ n. held_before q.cells t n r) named ∙ none))
 
@@ -92,7 +90,7 @@ module _ (d : Document) (t k : List ℕ) (r : ℕ) (formula : is_formula_at d t 
   step_gone x at gone =
       list_any-append (λ c. is_cell c t k r) (added_cells d q.action) (flat_map (lost_cell d) q.cells)
       ∙ ap (λ b. has_cell (added_cells d q.action) t k r || b) (by (has_cell (flat_map (lost_cell d) q.cells) t k r) refl)
-      ∙ or_true (has_cell (added_cells d q.action) t k r)
+      ∙ or-true (has_cell (added_cells d q.action) t k r)
     where
       by : (b : Bool) → has_cell (flat_map (lost_cell d) q.cells) t k r ≡ b → has_cell (flat_map (lost_cell d) q.cells) t k r ≡ true
       by true told = told
@@ -148,4 +146,4 @@ module _ (law : TraceLaw) where
             ap (λ b. b || has_cell (flat_map (step_cells d) (steps_done (apply s a) actions)) t k r)
             (step_gone d t k r formula (step_done s a) (grid_at (filled s) t) (grid_at (filled (apply s a)) t) (law s a whole valid kind t) x
             (sym (cell_at-grid (filled s) t k r) ∙ at) (sym (cell_at-grid (filled (apply s a)) t k r) ∙ e))
-        by valid kind (Some y) e later = ap (λ b. has_cell (step_cells d (step_done s a)) t k r || b) (later y e) ∙ or_true (has_cell (step_cells d (step_done s a)) t k r)
+        by valid kind (Some y) e later = ap (λ b. has_cell (step_cells d (step_done s a)) t k r || b) (later y e) ∙ or-true (has_cell (step_cells d (step_done s a)) t k r)

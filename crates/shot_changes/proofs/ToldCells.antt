@@ -1,5 +1,6 @@
 -- The formula cells that steps, rows and documents tell of.
 use Rattle.std.proofs.Common.{◌≡◌, ◌∙◌, ℕ, Bool, true, false, cond, ◌||◌, ◌&&◌, nat_eq, List, [], ◌∷◌, map, find, Option, Some, None, is_some, refl, sym, ap}
+use Rattle.std.proofs.Math.Bool.{or-true}
 use Rattle.std.proofs.lemmas.Bool.{false≢true}
 use Rattle.std.proofs.lemmas.List.Folds.{list_any-append}
 use Rattle.std.proofs.lemmas.Slice.Eq.{bytes_eq-Decides}
@@ -27,10 +28,6 @@ use Rattle.shot_changes.specs.NotedCells.{column_cells, document_cells, has_cell
 use Rattle.shot_changes.proofs.FilledCells.{cell_at-grid, cell_of_grid, parts_of}
 use Rattle.shot_changes.proofs.SeenCells.{cell_is}
 
-pub or_true : (b : Bool) → (b || true) ≡ true
-or_true true = refl
-or_true false = refl
-
 -- ---- cells of columns in rows
 
 turned : (a b c : Bool) → ((a && b) && c) ≡ (a && (c && b))
@@ -48,7 +45,7 @@ any_told f p t k r tells (x ∷ xs) is =
     list_any-append (λ c. is_cell c t k r) (f x) (flat_map f xs)
     ∙ elim (p x) as (λ b. p x ≡ b → (b || list_any p xs) ≡ true → (has_cell (f x) t k r || has_cell (flat_map f xs) t k r) ≡ true) [
       | true ↦ λ first _. ap (λ b. b || has_cell (flat_map f xs) t k r) (tells x first)
-      | false ↦ λ _ later. ap (λ b. has_cell (f x) t k r || b) (any_told f p t k r tells xs later) ∙ or_true (has_cell (f x) t k r)
+      | false ↦ λ _ later. ap (λ b. has_cell (f x) t k r || b) (any_told f p t k r tells xs later) ∙ or-true (has_cell (f x) t k r)
     ] refl is
 
 module _ (t k : List ℕ) (r : ℕ) where
@@ -57,7 +54,7 @@ module _ (t k : List ℕ) (r : ℕ) where
   in_cells (q ∷ rows) here =
       elim (nat_eq q r) as (λ b. nat_eq q r ≡ b → (b || has rows r) ≡ true → (is_cell (cell_of t k q) t k r || has_cell (map (cell_of t k) rows) t k r) ≡ true) [
         | true ↦ λ is _. ap (λ b. b || has_cell (map (cell_of t k) rows) t k r) (both_true (bytes_eq t t) (bytes_eq k k && nat_eq q r) (bytes_itself t) (both_true (bytes_eq k k) (nat_eq q r) (bytes_itself k) is))
-        | false ↦ λ _ later. ap (λ b. is_cell (cell_of t k q) t k r || b) (in_cells rows later) ∙ or_true (is_cell (cell_of t k q) t k r)
+        | false ↦ λ _ later. ap (λ b. is_cell (cell_of t k q) t k r || b) (in_cells rows later) ∙ or-true (is_cell (cell_of t k q) t k r)
       ] refl here
 
   in_columns : (rows : List ℕ) → has rows r ≡ true → (ds : List ColDef) → has_formula (find_id column_id k ds) ≡ true → has_cell (flat_map (column_cells t rows) ds) t k r ≡ true
@@ -70,7 +67,7 @@ module _ (t k : List ℕ) (r : ℕ) where
             ap (λ b. b || has_cell (flat_map (column_cells t rows) ds) t k r)
             (ap (λ b. has_cell (cond b (map (cell_of t d.id) rows) []) t k r) is
             ∙ ap (λ n. has_cell (map (cell_of t n) rows) t k r) ((bytes_eq-Decides d.id k).0 named) ∙ in_cells rows here)
-        | false ↦ λ _ is. ap (λ b. has_cell (column_cells t rows d) t k r || b) (in_columns rows here ds is) ∙ or_true (has_cell (column_cells t rows d) t k r)
+        | false ↦ λ _ is. ap (λ b. has_cell (column_cells t rows d) t k r || b) (in_columns rows here ds is) ∙ or-true (has_cell (column_cells t rows d) t k r)
       ] refl is
 
   -- a formula cell in one of these rows is told of

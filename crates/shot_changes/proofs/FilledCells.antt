@@ -30,6 +30,19 @@ cell_at-grid d t c r =
     elim (find_id table_id t d) as (λ (o : Option Table). elim o as (λ _. Option CellValue) [ None ↦ None | Some u ↦ cell_of_grid u.grid c r ]
     ≡ cell_of_grid (elim o as (λ _. Grid ColDef) [ None ↦ no_grid | Some u ↦ u.grid ]) c r) [ None ↦ refl | Some u ↦ refl ]
 
+-- what such a cell says of its parts, and they of it
+pub parts_of : (g : Grid ColDef) (k : List ℕ) (r : ℕ) (x : CellValue) → cell_of_grid g k r ≡ Some x → (has_id column_id g.columns k ≡ true) × ((has g.rows r ≡ true) × (cell column_id g k r ≡ x))
+parts_of g k r x at = by (has_id column_id g.columns k) refl (has g.rows r) refl at
+  where
+    by : (b : Bool) → has_id column_id g.columns k ≡ b → (h : Bool) → has g.rows r ≡ h → cond (b && h) (Some (cell column_id g k r)) None ≡ Some x
+        → (has_id column_id g.columns k ≡ true) × ((has g.rows r ≡ true) × (cell column_id g k r ≡ x))
+    by true column true row at = let same : cell column_id g k r ≡ x = cc in (column, (row, same))
+    by true column false row at = absurd (cc)
+    by false column h row at = absurd (cc)
+
+pub whole_of : (g : Grid ColDef) (k : List ℕ) (r : ℕ) → has_id column_id g.columns k ≡ true → has g.rows r ≡ true → cell_of_grid g k r ≡ Some (cell column_id g k r)
+whole_of g k r column row = cond_true (has_id column_id g.columns k && has g.rows r) (Some (cell column_id g k r)) None (both_true (has_id column_id g.columns k) (has g.rows r) column row)
+
 module _ (v : ByCell CellValue) (s : Document) where
   columns_filled : (t : List ℕ) → (grid_at (filled_by v s) t).columns ≡ (grid_at s t).columns
   columns_filled t =

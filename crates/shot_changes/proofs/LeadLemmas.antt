@@ -22,9 +22,10 @@ use Rattle.shot_cells.specs.ShotDocument.{has_formula, is_formula_at}
 use Rattle.shot_cells.specs.declared.changes.CellChanges.{CellChanges}
 use Rattle.shot_changes.specs.Leading.{IsBundle, LeadOn, LeadThrough, TellGone}
 use Rattle.shot_changes.specs.NotedCells.{AreChanges, document_cells, has_cell, is_there, step_cells}
-use Rattle.shot_changes.proofs.BundleCells.{all_told, columns_kept, gone_told, untold_kept}
+use Rattle.shot_changes.proofs.BundleCells.{columns_kept, gone_told, untold_kept}
 use Rattle.shot_changes.proofs.FilledCells.{filled_same, formula_filled, same_filled}
 use Rattle.shot_changes.proofs.SeenCells.{has-filter, seen_is}
+use Rattle.shot_changes.proofs.ToldCells.{all_told}
 
 -- ---- a bundle of records
 

@@ -1,5 +1,6 @@
-pub mod AddsLemmas
-pub mod SeenCells
-pub mod FilledCells
-pub mod BundleCells
-pub mod LeadLemmas
+mod AddsLemmas
+mod SeenCells
+mod FilledCells
+mod ToldCells
+mod BundleCells
+mod LeadLemmas

@@ -1,2 +1,4 @@
 pub mod SeenLaws
 pub mod AnswerLemmas
+pub mod MakingLemmas
+pub mod ActionCopies

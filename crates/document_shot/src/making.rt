@@ -61,6 +61,7 @@ pub(crate) fn first_shots<K: Keeper>(
 }
 
 // A copy of actions.
+#[tactic(auto, using(crate::proofs::ActionCopies::action_copied))]
 fn copy_actions(alloc: Global, actions: &[DocAction]) -> Result<DocActionList, AllocError>
     ensures { IfOk result (λ l. l ≡ actions.now) }
 {

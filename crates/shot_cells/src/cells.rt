@@ -1,13 +1,11 @@
 //! What is seen of cells, and the calls that change it.
 
-ghost use Rattle.std.specs.Prelude.{◌≡◌, ℕ, List, length, IfOk, OnOk};
+ghost use Rattle.std.specs.Prelude.{◌≡◌, ℕ, List, length, OnOk};
 ghost use Rattle.std.specs.List.{All};
 ghost use Rattle.cell_types.specs.declared.value.CellValue.TheVariants.{Null};
 ghost use Rattle.shot_cells.specs.Places.{HasPlace, MakesRoom, place_at, seen_at, with_all, with_each};
 
-use crate::places::{
-    TableValues, copy_of_places, find_place, make_places, set_values, take_places,
-};
+use crate::places::{TableValues, find_place, make_places, set_values, take_places};
 use cell_types::{CellId, CellValue, Name};
 use std::alloc::{AllocError, Global};
 use std::collections::BTreeMap;
@@ -34,20 +32,6 @@ impl ShotCells {
             tables: BTreeMap::new(alloc),
             null: CellValue::Null,
         }
-    }
-
-    /// A copy, in which the same cells have a place and the same is seen of each.
-    ///
-    /// Errors: out of memory. Memory: all places and their values. Cost: linear in the places.
-    pub fn copy(&self) -> Result<ShotCells, AllocError>
-        ensures places { IfOk result (λ copy.
-            place_at copy.tables ≡ place_at self.now.tables) }
-        ensures seen { IfOk result (λ copy. seen_at copy.tables ≡ seen_at self.now.tables) }
-    {
-        Ok(ShotCells {
-            tables: copy_of_places(&self.tables)?,
-            null: CellValue::Null,
-        })
     }
 
     /// The value of a cell, Null where it has no place.

@@ -8,8 +8,7 @@
 //! Promises: a `ShotCells` is seen as a function from table, column and row to a value, Null where
 //! a cell has no place. Making room changes nothing of it, whatever it answers; setting the values
 //! of cells that have a place, and letting cells go, takes no memory and changes it at these cells
-//! alone. In a copy the same is seen. A `ShotDocument` tells the document of its tables with these
-//! values in its formula cells.
+//! alone. A `ShotDocument` tells the document of its tables with these values in its formula cells.
 //! Not promised: that the values are those that the formulas have. Whoever sets them says so.
 //! Read first: cells.rt.
 #![tactic(auto)]

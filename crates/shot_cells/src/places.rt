@@ -1,6 +1,6 @@
 //! Places of cells, in maps by table, by column and by row.
 
-ghost use Rattle.std.specs.Prelude.{◌≡◌, ℕ, List, length, cond, is_some, IfOk, IsSome, OnOk, OnErr};
+ghost use Rattle.std.specs.Prelude.{◌≡◌, ℕ, List, length, cond, is_some, IsSome, OnOk, OnErr};
 ghost use Rattle.std.specs.BTreeMap.{get};
 ghost use Rattle.std.specs.List.{All};
 ghost use Rattle.std.specs.Option.{option_copied, unwrap_or};
@@ -20,15 +20,6 @@ type ColumnValues = BTreeMap<Name, RowValues>;
 
 /// Values by table. A cell has a place where its row is there.
 pub(crate) type TableValues = BTreeMap<Name, ColumnValues>;
-
-/// A copy, with the same places and the same values at them.
-///
-/// Errors: out of memory.
-pub(crate) fn copy_of_places(tables: &TableValues) -> Result<TableValues, AllocError>
-    ensures { IfOk result (λ copy. place_at copy ≡ place_at tables.now) }
-{
-    tables.clone()
-}
 
 /// The value at the place of a cell.
 pub(crate) fn find_place<'a>(

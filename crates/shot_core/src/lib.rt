@@ -11,7 +11,7 @@
 //! even be noted, no step hands out a mark any more.
 //! Not promised: that a reader finds the newest shot. Publishing waits for readers that took a shot
 //! before the last publishing.
-//! Read first: specs/Machine.antt, then shot_core.rt and machine.rt.
+//! Read first: specs/Machine.antt, then shot_core.rt.
 #![tactic(auto)]
 
 mod machine;

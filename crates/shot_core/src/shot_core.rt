@@ -1,14 +1,21 @@
-//! A core with its watchers, and the writer of shots of its document.
+//! A core with its watchers, and the writer of shots of its document, as a machine that threads
+//! step in turn.
 
-ghost use Rattle.std.specs.Prelude.{◌≡◌, ◌<◌, ◌∷◌, [], IfErr, IfOk};
-ghost use Rattle.document_shot.specs.Pasts.{past_of};
+ghost use Rattle.std.specs.Prelude.{◌≡◌, ◌<◌, ◌∷◌, ◌++◌, [], List, false, length, IfErr, IfOk, IfSome};
+ghost use Rattle.doc_model.specs.declared.entry.Entry.{Entry};
+ghost use Rattle.document_shot.specs.Pasts.{past_before, past_of};
 
+use crate::machine::ShotOut;
+use bundle_core::{CoreOpening, Event};
 use doc_keeper::Keeper;
-use document_shot::{PeekReader, PeekWriter};
+use doc_model::Entry;
+use document_shot::{PeekReader, PeekWriter, last_operation};
+use session_gate::Machine;
 use snap_reads::Mark;
 use std::alloc::{AllocError, Global};
 use std::marker::Model;
 use std::sync::Wait;
+use std::thread::Threads;
 use watch_box::Watcher;
 use watched_core::WatchedCore;
 
@@ -33,7 +40,32 @@ impl<K: Keeper, W: Watcher> Model for ShotCore<K, W> {
 
     ghost invariant = { λ c.
         (c.writer.lost ≡ false → c.writer.last ≡ past_of c.watched.core.state)
-        × IfSome c.mark (λ m. m.entries ≡ length c.watched.core.state.history) };
+        × IfSome c.mark (λ m. (m.entries ≡ length c.watched.core.state.history)
+        × (c.writer.published ≡ past_of c.watched.core.state)) };
+}
+
+// Publishes a shot of what the last entry led to.
+fn publish<R: Wait, K: Keeper, W: Watcher>(
+    rt: &R,
+    alloc: Global,
+    watched: &WatchedCore<K, W>,
+    writer: &mut PeekWriter,
+) -> Option<Mark>
+    requires grown { writer.old.lost ≡ false → (before : List Entry) × (e : Entry)
+        × (watched.now.core.state.history ≡ before ++ e ∷ [])
+        × (writer.old.last ≡ past_before watched.now.core.state before) }
+    ensures last { writer.new.lost ≡ false → writer.new.last ≡ past_of watched.now.core.state }
+    ensures marked { IfSome result
+        (λ mark. (mark.entries ≡ length watched.now.core.state.history)
+        × (writer.new.published ≡ past_of watched.now.core.state)) }
+{
+    match last_operation(alloc, watched.core()) {
+        Ok(operation) => writer.publish(rt, operation),
+        Err(_) => {
+            writer.lose();
+            None
+        }
+    }
 }
 
 impl<K: Keeper, W: Watcher> ShotCore<K, W> {
@@ -87,5 +119,52 @@ impl<K: Keeper, W: Watcher> ShotCore<K, W> {
         } = self;
         writer.give_up(rt);
         watched
+    }
+}
+
+impl<K: Keeper, W: Watcher> Machine for ShotCore<K, W> {
+    type Event = Event;
+
+    type Entry = Entry;
+
+    type Out = ShotOut;
+
+    type Opening = CoreOpening;
+
+    ghost use Rattle.std.specs.Prelude.{◌≡◌, true};
+    ghost use Rattle.doc_model.specs.WellFormed.{asks_well_formed};
+    ghost use Rattle.bundle_core.specs.Core.{is_gone};
+    ghost use Rattle.bundle_core.specs.Machine.{opening_of};
+    ghost use Rattle.shot_core.specs.Machine.{IsShotGiven};
+
+    ghost opening = { λ c. opening_of c.watched.core };
+
+    ghost history = { λ c. c.watched.core.state.history };
+
+    ghost takes = { λ event. asks_well_formed event.request ≡ true };
+
+    ghost is_sure = { λ _ _ event. is_gone event.request ≡ true };
+
+    ghost answers = { λ opening before after event out.
+        IsShotGiven opening before after event out };
+
+    fn step<R: Threads + Wait + Sync>(
+        &mut self,
+        rt: &R,
+        event: Event,
+    ) -> Result<ShotOut, AllocError> {
+        let before = Machine::entries(&self.watched);
+        let given = Machine::step(&mut self.watched, rt, event)?;
+        if Machine::entries(&self.watched) > before {
+            self.mark = publish(rt, self.alloc, &self.watched, &mut self.writer);
+        }
+        Ok(ShotOut {
+            given,
+            mark: self.mark,
+        })
+    }
+
+    fn entries(&self) -> u64 {
+        Machine::entries(&self.watched)
     }
 }

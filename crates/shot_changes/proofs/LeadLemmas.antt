@@ -20,7 +20,8 @@ use Rattle.shot_cells.specs.Changes.{nothing_seen, seen_after, seen_from}
 use Rattle.shot_cells.specs.Places.{ByCell}
 use Rattle.shot_cells.specs.ShotDocument.{has_formula, is_formula_at}
 use Rattle.shot_cells.specs.declared.changes.CellChanges.{CellChanges}
-use Rattle.shot_changes.specs.Leading.{IsBundle, LeadOn, LeadThrough, TellGone}
+use Rattle.context_changes.specs.Bundle.{IsBundle}
+use Rattle.shot_changes.specs.Leading.{LeadOn, LeadThrough, TellGone}
 use Rattle.shot_changes.specs.NotedCells.{AreChanges, document_cells, has_cell, is_there, step_cells}
 use Rattle.shot_changes.proofs.BundleCells.{columns_kept, gone_told, untold_kept}
 use Rattle.shot_changes.proofs.FilledCells.{filled_same, formula_filled, same_filled}

@@ -2,13 +2,12 @@
 use Rattle.std.specs.Prelude.{ℕ, true, List, None, IsSome, ◌≡◌}
 use Rattle.cell_types.specs.declared.value.CellValue.{CellValue}
 use Rattle.doc_model.specs.declared.action.DocAction.{DocAction}
-use Rattle.doc_model.specs.Apply.{all_valid, apply_all}
+use Rattle.doc_model.specs.Apply.{apply_all}
 use Rattle.doc_model.specs.Document.{Document}
-use Rattle.doc_model.specs.DocumentLaws.{IsWhole}
 use Rattle.doc_model.specs.Readers.{cell_at}
 use Rattle.recalc.specs.Evaluated.{filled, filled_by}
 use Rattle.action_censor.specs.Step.{Step}
-use Rattle.bundle_traces.specs.TraceLaws.{steps_done}
+use Rattle.context_changes.specs.Bundle.{IsBundle}
 use Rattle.shot_cells.specs.Changes.{seen_after}
 use Rattle.shot_cells.specs.Places.{ByCell}
 use Rattle.shot_cells.specs.ShotDocument.{is_formula_at}
@@ -21,15 +20,6 @@ abbrev pub LeadOn : Document → Document → CellChanges → Type 0
 LeadOn s t c =
     (seen : ByCell CellValue) → filled_by seen s ≡ filled s
     → filled_by (seen_after c seen) t ≡ filled t
-
--- valid actions done one after another from a whole document on: their steps, and what is evaluated
--- after them
-pub record IsBundle
-    (s : Document) (actions : List DocAction) (ks : List Step) (after : Document) : Type 0 where
-  pub whole : IsWhole s
-  pub valid : all_valid s actions ≡ true
-  pub steps : ks ≡ steps_done s actions
-  pub evaluated : after ≡ filled (apply_all s actions)
 
 -- the changes lead on from the document before any bundle of these steps to the one after it
 abbrev pub LeadThrough : List Step → Document → CellChanges → Type 0

@@ -1,10 +1,10 @@
 //! What becomes of the values of a shot's formula cells after a bundle.
 //!
 //! Stands on `cell_types` (cells and their values), `doc_model` and `doc_readers` (what a document
-//! tells), `recalc` (documents with values in their formula cells), `action_censor` and
-//! `bundle_traces` (the steps of a bundle of records) and `shot_cells` (what is seen after
-//! changes).
-//! Nothing stands on it yet.
+//! tells), `recalc` (documents with values in their formula cells), `action_censor`,
+//! `bundle_traces` and `context_changes` (the steps of a bundle of records) and `shot_cells` (what
+//! is seen after changes).
+//! Used by `document_shot`.
 //!
 //! Promises: whatever is seen of the formula cells before, if it is their values, then after the
 //! changes their values are seen. `changes_of_rows` makes the changes of a bundle of records from

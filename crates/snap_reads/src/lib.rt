@@ -2,7 +2,7 @@
 //!
 //! Stands on `left_right` (two copies of a value: readers take the one that is shown, and one
 //! writer changes the other). It knows nothing of documents: what a shot holds is a type that meets
-//! `Shot`. Nothing stands on it yet.
+//! `Shot`. Used by `document_shot`.
 //!
 //! Promises: what a peek answers is an answer of a shot that is what its history leads to. That
 //! history continues all that this reader took or was told of before, and has no fewer entries than

@@ -311,6 +311,31 @@ RULES = (  # the resource, the formula, what it allows and denies
 )
 
 
+def peeks():
+    """One connection that writes, alone and beside sixteen that look at its table of 1,000 rows, by peeks and by fetches."""
+    lookers, port, milliseconds = 16, 21600, size(3_000)
+
+    def speeds(rival, count, method="peekTable"):
+        words = [scripts.PROGRAM, "serve", "--lanes", str(count + 1), "--port", str(port), "--conns", "1"]
+        server = subprocess.Popen(words, stdin=subprocess.PIPE, stdout=subprocess.PIPE)
+        server.stdin.write(USER.encode())
+        server.stdin.close()
+        found = scripts.numbers_told([rival, str(port), str(count), method, str(milliseconds)])
+        if server.wait():
+            raise SystemExit(f"the server ended with {server.returncode}")
+        return found
+
+    with tempfile.TemporaryDirectory() as folder:
+        rival = scripts.compiled(folder, "peeks.c", "-lpthread")
+        turns = [(speeds(rival, 0), speeds(rival, lookers), speeds(rival, lookers, "fetchTable")) for _ in range(3)]
+    alone, peeking, fetching = (max(one[0] for one in it) for it in zip(*turns))
+    peeked, fetched = (max(it[place][1] for it in turns) for place in (1, 2))
+    yield "bundles a second of one connection that writes", f"{alone:,.0f}", ""
+    yield f"the same beside {lookers} that peek at its table of 1,000 rows", f"{peeking / alone:.2f} of those alone", "0.9"
+    yield f"the same beside {lookers} that fetch it", f"{fetching / alone:.2f} of those alone", ""
+    yield "peeks a second beside it", f"{peeked:,.0f}, {peeked / fetched:.1f} times the fetches", "4"
+
+
 def task(row):
     return (REGIONS[row % 4], f"Task {row}", row % 500, row * 7 % 1_000, f"about the task {row}",
             int(row // 4 % 5 == 0), f"p{row % 40}@x.org", row % 7, row % 24)
@@ -480,7 +505,7 @@ def generated():
 
 WORKLOADS = {
     "adds": added_rows, "bundles": bundles, "undo": undo, "rules": rules, "formulas": formulas, "updates": updates,
-    "opening": opened, "levels": levels, "keeping": keeping, "serving": serving, "views": views, "told": of_changes, "audits": audits, "gen": generated,
+    "opening": opened, "levels": levels, "keeping": keeping, "serving": serving, "peeks": peeks, "views": views, "told": of_changes, "audits": audits, "gen": generated,
 }
 
 

@@ -12,49 +12,14 @@ import json
 import pathlib
 import subprocess
 import sys
-import tempfile
 
-from loopback import free_ports, joined
+from loopback import PATIENCE, Server
 from scripts import USER
 
-PATIENCE = 30
 OPEN = b'{"method":"openDoc","token":"ta"}\n'
 SYNC = b'{"method":"sync"}\n'
 ADD = b'{"actions":[["AddRecord","Table1",null,{"A":1}]],"method":"applyUserActions"}\n'
 CLOSE = b'{"method":"closeDoc"}\n'
-
-
-class Server:
-    """A server of two lanes with a connection each, and both connections."""
-
-    def __init__(self, program):
-        self.port = free_ports(2)
-        self.users = tempfile.TemporaryFile()
-        self.users.write(USER.encode())
-        self.users.seek(0)
-        words = [program, "serve", "--lanes", "2", "--port", str(self.port), "--conns", "1"]
-        self.program = subprocess.Popen(words, stdin=self.users, stdout=subprocess.PIPE)
-        self.links = [joined(self.port + lane, PATIENCE) for lane in (0, 1)]
-        self.lines = [link.makefile("rb") for link in self.links]
-
-    def ask(self, lane, line):
-        """Sends a line, and what is written up to its reply."""
-        self.links[lane].sendall(line)
-        written = b""
-        while True:
-            came = self.lines[lane].readline()
-            written += came
-            if not came.endswith(b"\n") or b'"seq"' not in came:
-                return written
-
-    def end(self):
-        """What the server tells at its end, and its status."""
-        told, _ = self.program.communicate(timeout=PATIENCE)
-        self.users.close()
-        return told, self.program.returncode
-
-    def stop(self):
-        self.program.kill()
 
 
 def alone(program, *lines):

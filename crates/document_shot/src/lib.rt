@@ -4,7 +4,7 @@
 //! `shot_documents`, `shot_cells` and `shot_changes` (the tables of a shot with the values of their
 //! formula cells beside them, and what a bundle did to both), `bundle_core` (the core, its history
 //! and its last change), `rule_contexts` and `censored_view` (what a user sees) and `peek_lines`
-//! (what a peek is answered). Used by `shot_core`.
+//! (what a peek is answered). Used by `shot_core`, `grist_serve` and `grist_lanes`.
 //!
 //! Promises: a shot that stands for a history has the document, the values of all formula cells and
 //! the open sessions that the history leads to (`Stands`). `last_operation` makes of a core what

@@ -11,11 +11,12 @@ use Rattle.session_gate.specs.Call.{IsSamePass, own_calls}
 use Rattle.session_gate.specs.History.{calls_by}
 use Rattle.bundle_core.specs.declared.machine.CoreOpening.{CoreOpening}
 use Rattle.grist_serve.specs.Turns.{CorePass, OwnTurn, entry_in}
-use Rattle.grist_lanes.specs.Services.{AreServed, IsServed, Service, Telling}
+use Rattle.grist_lanes.specs.Services.{AreServed, IsServed, LaneView, Service, Telling}
 use Rattle.grist_lanes.specs.SessionNames.{session_name}
+use Rattle.grist_lanes.proofs.AskLemmas.{all_append}
 use Rattle.grist_lanes.proofs.NameLemmas.{names_apart}
 use Rattle.grist_lanes.proofs.SessionLemmas.{IsPlacedIn}
-use Rattle.grist_lanes.proofs.TakenLemmas.{AreTurnsOf, all_append, taken}
+use Rattle.grist_lanes.proofs.TakenLemmas.{AreTurnsOf, taken}
 
 -- the entry is of a connection of that lane, from the first number on and below the second
 pub record IsWithin (lane low high : ℕ) (e : Entry) : Type 0 where
@@ -61,7 +62,7 @@ entries_within lane k [] all = tt
 entries_within lane k (t ∷ ts) all = (record { connection = k; from = omega arith; below = omega arith; session = all.0 }, entries_within lane k ts all.1)
 
 module _ {Conn : Type 0} (t : Telling Conn) (lane : ℕ) where
-  pub goes_one : (k : ℕ) (s : Service Conn) → IsServed t (session_name lane k) s → Goes lane k (suc k) s.old s.new
+  pub goes_one : (k : ℕ) (s : Service Conn) → IsServed t (session_name lane k) s → Goes lane k (suc k) s.old.pass s.new.pass
   goes_one k s served =
       let took = taken t (session_name lane k) s served in
       record {
@@ -72,12 +73,12 @@ module _ {Conn : Type 0} (t : Telling Conn) (lane : ℕ) where
         within = entries_within lane k took.turns took.sessions;
       }
 
-  pub goes_all : (k : ℕ) (old : CorePass) (ss : List (Service Conn)) (new : CorePass) → AreServed t lane k old ss new → Goes lane k (k + length ss) old new
-  goes_all k old [] new all = subst (Goes lane k (k + 0) old) (sym all) (goes_nowhere lane k (k + 0) old)
+  pub goes_all : (k : ℕ) (old : LaneView) (ss : List (Service Conn)) (new : LaneView) → AreServed t lane k old ss new → Goes lane k (k + length ss) old.pass new.pass
+  goes_all k old [] new all = subst (λ (v : LaneView). Goes lane k (k + 0) old.pass v.pass) (sym all) (goes_nowhere lane k (k + 0) old.pass)
   goes_all k old (s ∷ ss) new all =
-      let first = subst (λ p. Goes lane k (suc k) p s.new) all.1 (goes_one k s all.0) in
+      let first = subst (λ (v : LaneView). Goes lane k (suc k) v.pass s.new.pass) all.1 (goes_one k s all.0) in
       let more = goes_all (suc k) s.new ss new all.2 in
-      subst (λ n. Goes lane k n old new) (omega arith) (goes_on lane k (suc k) (suc k + length ss) old s.new new (omega arith) (omega arith) first more)
+      subst (λ n. Goes lane k n old.pass new.pass) (omega arith) (goes_on lane k (suc k) (suc k + length ss) old.pass s.new.pass new.pass (omega arith) (omega arith) first more)
 
 -- ---- in the history
 

@@ -1,4 +1,4 @@
--- That a core with its watchers may go to another thread, and that the gate of one may be lent to several.
+-- That a core with its watchers may go to another thread.
 -- A type with formulas in it has no such fact of its own, so the parts are put together here.
 use Rattle.agreeing_contexts.proofs.field.UserField.TheSendSync.{the_send as userField-send}
 use Rattle.acl_formula.proofs.mention.Mention.TheSendSync.{the_send as mention-send}
@@ -48,14 +48,7 @@ use Rattle.std.proofs.MapsCrossing.{crosses as maps}
 use Rattle.formula_parse.proofs.tree.ArgumentList.TheLaws.TheKnot.{crosses as knot}
 use Rattle.known_reads.proofs.laid.LaidReads.TheLaws.TheKnot.{crosses as laid}
 use denote.RattleType.{RattleType}
-use mathlib.Core.List.{[], ◌∷◌}
-use mir.Syntax.{Lifetime, Sym}
-use base.Fml.{Lft}
-use denote.Ref.{ShrRef}
-use denote.Struct.Tuple.{TupleAt, type_at}
-use denote.Struct.Field.{row_field}
-use denote.Param.SendFields.{as_row_sync, declared_sync}
-use denote.Param.Send.{IsSend, IsSync, sendable, recorded_send, struct_send, view_send, shr_sync}
+use denote.Param.Send.{IsSend, sendable, recorded_send, struct_send, view_send}
 use denote.Struct.Struct as S
 use denote.Struct.Declared.{shape}
 use Rattle.std.specs.contracts.vec.Vec as vec
@@ -75,9 +68,6 @@ use Rattle.evaluated_doc.specs.contracts.doc.Doc as doc
 use Rattle.bundle_core.specs.contracts.ruled_document.RuledDocument as ruled
 use Rattle.bundle_core.specs.contracts.ruled_document.RuledDocument.TheInside as ruled-inside
 use Rattle.bundle_core.specs.contracts.history_core.Core as core
-use Rattle.session_gate.specs.declared.machine.Machine as machine
-use Rattle.session_gate.specs.contracts.gate.Gate as gate
-use Rattle.session_gate.proofs.gate.Gate.TheSendSync.{the_sync as gate-sync}
 use Rattle.bundle_core.specs.contracts.history_core.Core.TheInside as inside
 use Rattle.watch_box.specs.declared.watcher.Watcher as watcher
 use Rattle.watched_core.specs.contracts.watched.WatchedCore as watched
@@ -85,7 +75,7 @@ use Rattle.watched_core.specs.contracts.watched.WatchedCore.TheInside as watched
 
 -- what is kept of reads beside a document, in which what is laid aside is a chain
 knownReads-send : IsSend known-reads.the_row
-knownReads-send = search (sendable, name-send, cellId-send, graph-send, were-send, laid, crosses, maps) depth 60
+knownReads-send = search (sendable, cellId-send, graph-send, were-send, laid, crosses, maps) depth 60
 
 -- the parts that have a fact of their own
 ruleset parts = (
@@ -158,13 +148,3 @@ pub watched-send : (K W : RattleType) (g : keeper.Ghosts K.Denot) (h : watcher.G
 watched-send K W g h k w = let T = watched-inside.the_type K W g h in view_send (watched-inside.the_row K W g h) _ _ _ _
     (recorded_send (S.Struct (shape T)) T.D T.to T.to_one (struct_send (shape T)
     ((search (sendable, crosses) depth 60), (core-send K g k, (watchList-send W h w, ((search (sendable, crosses) depth 60), tt))))))
-
--- and then threads may share its gate
-pub watched-gate-sync : (K W Entry Opening Turn Answer : RattleType) (g : keeper.Ghosts K.Denot) (h : watcher.Ghosts W.Denot) (m : machine.Ghosts (watched.the_row K W g h).Denot Entry.Denot Opening.Denot Turn.Denot Answer.Denot) → IsSend K → IsSend W
-    → IsSync (gate.the_row (watched.the_row K W g h) Entry Opening Turn Answer m)
-watched-gate-sync K W Entry Opening Turn Answer g h m k w = gate-sync (watched.the_row K W g h) Entry Opening Turn Answer m (watched-send K W g h k w)
-
--- what a closure borrows of three places may be shared where each may
-pub lent-sync : (ν : Sym) (ℓ ℓ′ ℓ″ : Lifetime) (κ κ′ κ″ : Lft) (R S T : RattleType) → IsSync R → IsSync S → IsSync T → IsSync (TupleAt ν (ShrRef ℓ κ R ∷ ShrRef ℓ′ κ′ S ∷ ShrRef ℓ″ κ″ T ∷ []))
-lent-sync ν ℓ ℓ′ ℓ″ κ κ′ κ″ R S T r s t = declared_sync (type_at ν (ShrRef ℓ κ R ∷ ShrRef ℓ′ κ′ S ∷ ShrRef ℓ″ κ″ T ∷ []))
-    (as_row_sync (row_field (ShrRef ℓ κ R)) (shr_sync ℓ κ R r), (as_row_sync (row_field (ShrRef ℓ′ κ′ S)) (shr_sync ℓ′ κ′ S s), (as_row_sync (row_field (ShrRef ℓ″ κ″ T)) (shr_sync ℓ″ κ″ T t), tt)))

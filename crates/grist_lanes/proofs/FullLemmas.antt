@@ -12,13 +12,16 @@ use Rattle.session_gate.specs.History.{entries_of, entry_of, made_by}
 use Rattle.bundle_core.specs.Core.{is_full, is_gone, size_of}
 use Rattle.bundle_core.specs.Core as core
 use Rattle.bundle_core.specs.declared.machine.CoreOpening.{CoreOpening}
-use Rattle.grist_serve.specs.Link.{DoesNothing, EndsBy, ServesLink, StopsFull, TellsGone}
+use Rattle.grist_serve.specs.Link.{DoesNothing, TellsGone}
+use Rattle.grist_serve.specs.ShotLink.{EndsBy, ServesShotLink, StopsFull}
+use Rattle.grist_serve.specs.Standing.{Standing, starts_at}
 use Rattle.grist_json.specs.Requests.{request_at}
 use Rattle.grist_serve.specs.Requests.{asked_by, is_blank, is_long, line_entries}
-use Rattle.grist_serve.specs.Turns.{CorePass, entry_in}
+use Rattle.grist_serve.specs.Turns.{entry_in}
 use Rattle.grist_lanes.specs.FullEnds.{FullLaw, IsNearlyFull}
 use Rattle.grist_lanes.specs.InHistory.{Begins, IsInHistory}
 use Rattle.grist_lanes.specs.Services.{Service, Telling}
+use Rattle.grist_lanes.proofs.AskLemmas.{AsksBy, line_asks_by}
 
 -- one of the two bounds is met
 one_met : (gone many large : Bool) → not gone && (many || large) ≡ true → (many ≡ true) ⊎ (large ≡ true)
@@ -54,30 +57,30 @@ are_small name text = within name text (is_long text) (is_blank text) (λ short.
 
 module _ {Conn : Type 0} (t : Telling Conn) (o : CoreOpening) (history : List Entry) (name : List ℕ) (s : Service Conn) (within_history : IsInHistory t o history name s) where
   -- what was seen when the history was found full begins the whole one
-  module _ (before : CorePass) (gone : TellsGone name before s.new) where
-    seen_first : Begins (entries_of before.seen) history
+  module _ (end : Standing) (gone : TellsGone name end.pass s.new.pass) where
+    seen_first : Begins (entries_of end.pass.seen) history
     seen_first =
-        let later : List (Made Entry) = map (made_by before.number) (map entry_in gone.turns) in
+        let later : List (Made Entry) = map (made_by end.pass.number) (map entry_in gone.turns) in
         let more : List (Made Entry) = gone.between ++ later in
-        let parts : s.new.seen ≡ before.seen ++ more = gone.seen ∙ append_assoc before.seen gone.between later in
+        let parts : s.new.pass.seen ≡ end.pass.seen ++ more = gone.seen ∙ append_assoc end.pass.seen gone.between later in
         record {
           rest = entries_of more ++ within_history.seen.rest;
           split = within_history.seen.split ∙ ap (λ z. entries_of z ++ within_history.seen.rest) parts
-              ∙ ap (λ z. z ++ within_history.seen.rest) (map-append entry_of before.seen more)
-              ∙ append_assoc (entries_of before.seen) (entries_of more) within_history.seen.rest;
+              ∙ ap (λ z. z ++ within_history.seen.rest) (map-append entry_of end.pass.seen more)
+              ∙ append_assoc (entries_of end.pass.seen) (entries_of more) within_history.seen.rest;
         }
 
-    found : {l l' w w' : Option (List ℕ)} → StopsFull name l l' s.old before w w' → IsNearlyFull history
+    found : {old : Standing} {l l' w w' : Option (List ℕ)} → StopsFull name l l' old end w w' → IsNearlyFull history
     found f =
-        let small = subst (AllByRecursion IsSmall) f.asks (are_small name f.last) in
-        longer (entries_of before.seen) history seen_first (nearly (entries_of before.seen) f.request.request f.request.size small.0 f.full)
+        let small = subst (AllByRecursion (AsksBy IsSmall)) f.asks (line_asks_by IsSmall name (are_small name) f.last) in
+        longer (entries_of end.pass.seen) history seen_first (nearly (entries_of end.pass.seen) f.request.request f.request.size small.0 f.full)
 
-  ended : s.end ≡ Full → {l l' w w' : Option (List ℕ)} → ServesLink s.end name l l' s.old s.new w w' → IsNearlyFull history
+  ended : s.end ≡ Full → {l l' w w' : Option (List ℕ)} → ServesShotLink s.end name l l' s.old.pass s.new.pass s.old.known s.new.known w w' → IsNearlyFull history
   ended is {l} {l'} {w} {w'} serves =
-      found serves.before_end serves.gone (subst (λ e. EndsBy e name l l' s.old serves.before_end w w') is serves.lines)
+      found serves.before_end serves.gone (subst (λ e. EndsBy e name l l' (starts_at s.old.pass s.old.known) serves.before_end w w') is serves.lines)
 
-  nothing : s.end ≡ Full → {l l' w w' : Option (List ℕ)} → DoesNothing s.end l l' s.old s.new w w' → IsNearlyFull history
-  nothing is none = let never : ⊥ = cc (is, none.end_is) in absurd never
+  nothing : s.end ≡ Full → {l l' w w' : Option (List ℕ)} → DoesNothing s.end l l' s.old.pass s.new.pass w w' × (s.new.known ≡ s.old.known) → IsNearlyFull history
+  nothing is none = let never : ⊥ = cc (is, none.0.end_is) in absurd never
 
 pub full-law : {Conn : Type 0} (t : Telling Conn) → FullLaw t
 full-law t o history name s served inside is =

@@ -1,6 +1,7 @@
 mod NameLemmas
 mod SessionLemmas
 mod ServiceLemmas
+mod AskLemmas
 mod TakenLemmas
 mod ChainLemmas
 mod HistoryLemmas
@@ -11,3 +12,4 @@ mod ServedLemmas
 mod GateLemmas
 mod EndLemmas
 mod CoreCrossing
+mod ShotCrossing

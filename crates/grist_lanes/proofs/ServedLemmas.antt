@@ -9,10 +9,9 @@ use Rattle.session_gate.specs.declared.known.Made.{Made}
 use Rattle.session_gate.specs.History.{brought, calls_by, entries_of}
 use Rattle.session_gate.specs.Rule.{IsBelow, IsSeen}
 use Rattle.bundle_core.specs.declared.machine.CoreOpening.{CoreOpening}
-use Rattle.grist_serve.specs.Turns.{CorePass}
-use Rattle.grist_lanes.specs.InHistory.{AddsOfLanes, ServesLanes, ServesPort}
+use Rattle.grist_lanes.specs.InHistory.{AddsOfLanes, ServesLanes, ServesPort, began_of}
 use Rattle.grist_lanes.specs.Places.{AtEach}
-use Rattle.grist_lanes.specs.Services.{ServesLane, Telling}
+use Rattle.grist_lanes.specs.Services.{LaneView, ServesLane, Telling}
 use Rattle.grist_lanes.specs.Sessions.{AreOfNoLane, IsOfLane}
 use Rattle.grist_lanes.proofs.WholeLemmas.{LaneFacts, all_placed, below_all, calls_in_lane, lanes_add, port_told}
 
@@ -42,23 +41,25 @@ mapped f [] i y e = let never : ⊥ = cc in absurd never
 mapped f (x ∷ xs) zero y e = record { from = x; there = refl; is = cc }
 mapped f (x ∷ xs) (suc i) y e = let more = mapped f xs i y e in record { from = more.from; there = more.there; is = more.is }
 
--- a pass of the new gate, which was opened so
-pub record IsFresh (o : CoreOpening) (begun : List Entry) (i : ℕ) (pass : CorePass) : Type 0 where
-  pub number : pass.number ≡ i
-  pub opening_is : pass.opening ≡ Some o
-  pub seen : pass.seen ≡ map brought begun
+-- a pass of the new gate, which was opened so, and a reader that was told of the history then
+pub record IsFresh (o : CoreOpening) (begun : List Entry) (i : ℕ) (lane : LaneView) : Type 0 where
+  pub number : lane.pass.number ≡ i
+  pub opening_is : lane.pass.opening ≡ Some o
+  pub seen : lane.pass.seen ≡ map brought begun
+  pub told : lane.known ≡ began_of o begun ∷ []
 
-module _ {Lane Conn : Type 0} (t : Telling Conn) (o : CoreOpening) (begun : List Entry) (log : List (Made Entry)) (port : Lane → PortState Conn) (pass : Lane → CorePass) (lanes lanes' : List Lane) (count : length lanes' ≡ length lanes)
-    (fresh : (i : ℕ) (l : Lane) → slice_get lanes i ≡ Some l → IsFresh o begun i (pass l))
-    (known : (i : ℕ) (l : Lane) → slice_get lanes' i ≡ Some l → IsSeen (map brought begun) log (pass l).number (pass l).seen)
-    (serves : AtEach (λ i l l'. ServesLane t (suc i) (port l) (port l') (pass l) (pass l')) lanes lanes') where
+module _ {Lane Conn : Type 0} (t : Telling Conn) (o : CoreOpening) (begun : List Entry) (log : List (Made Entry)) (port : Lane → PortState Conn) (view : Lane → LaneView) (lanes lanes' : List Lane) (count : length lanes' ≡ length lanes)
+    (fresh : (i : ℕ) (l : Lane) → slice_get lanes i ≡ Some l → IsFresh o begun i (view l))
+    (known : (i : ℕ) (l : Lane) → slice_get lanes' i ≡ Some l → IsSeen (map brought begun) log (view l).pass.number (view l).pass.seen)
+    (serves : AtEach (λ i l l'. ServesLane t (suc i) (port l) (port l') (view l) (view l')) lanes lanes') where
   facts : (i : ℕ) (l l' : Lane) → slice_get lanes i ≡ Some l → slice_get lanes' i ≡ Some l' → LaneFacts t o begun log i (port l) (port l')
   facts i l l' at at' = let new = fresh i l at in record {
-    first = pass l;
-    last = pass l';
+    first = view l;
+    last = view l';
     number = new.number;
     opening_is = new.opening_is;
     fresh = new.seen;
+    told = new.told;
     serves = serves i l l' at at';
     known = known i l' at';
   }
@@ -81,5 +82,5 @@ module _ {Lane Conn : Type 0} (t : Telling Conn) (o : CoreOpening) (begun : List
             let old = mapped port lanes i p at in
             let new = mapped port lanes' i p' at' in
             let told = port_told t o begun log i (port old.from) (port new.from) (facts i old.from new.from old.there new.there) (omega (arith, within lanes i old.from old.there, few)) placed in
-            subst (λ q. ServesPort t o (entries_of log) (suc i) q p') old.is (subst (ServesPort t o (entries_of log) (suc i) (port old.from)) new.is told);
+            subst (λ q. ServesPort t o begun (entries_of log) (suc i) q p') old.is (subst (ServesPort t o begun (entries_of log) (suc i) (port old.from)) new.is told);
       }

@@ -3,9 +3,8 @@ use Rattle.std.proofs.Common.{◌≡◌, ℕ, suc, ◌+◌, ◌≤◌, Bool, tru
 use Rattle.std.proofs.lemmas.List.{map-append}
 use Rattle.io_edges.specs.Ports.{HandsOut, PortState, TakesBack, handed_bound}
 use Rattle.io_edges.specs.declared.port.Returned.{Returned}
-use Rattle.grist_serve.specs.Turns.{CorePass}
 use Rattle.grist_lanes.specs.SessionNames.{session_name}
-use Rattle.grist_lanes.specs.Services.{AreServed, HasServed, HasStopped, IsServed, Service, ServesLane, ServesNone, ServesOne, ServesSome, StopsBy, Telling, before_of, returned_of}
+use Rattle.grist_lanes.specs.Services.{AreServed, HasServed, HasStopped, IsServed, LaneView, Service, ServesLane, ServesNone, ServesOne, ServesSome, StopsBy, Telling, before_of, returned_of}
 use Rattle.grist_lanes.specs.LaneEnds.{EndsLane}
 use Rattle.grist_lanes.specs.declared.lanes.LaneEnd.{LaneEnd}
 
@@ -79,13 +78,13 @@ module _ {Conn : Type 0} where
     kept (Some them) = ap Some (append-nil them)
 
   module _ (t : Telling Conn) (lane : ℕ) where
-    pub served_behind : (k : ℕ) (old mid : CorePass) (ss : List (Service Conn)) (s : Service Conn) → AreServed t lane k old ss mid → IsServed t (session_name lane (k + length ss)) s → s.old ≡ mid → AreServed t lane k old (ss ++ s ∷ []) s.new
+    pub served_behind : (k : ℕ) (old mid : LaneView) (ss : List (Service Conn)) (s : Service Conn) → AreServed t lane k old ss mid → IsServed t (session_name lane (k + length ss)) s → s.old ≡ mid → AreServed t lane k old (ss ++ s ∷ []) s.new
     served_behind k old mid [] s before one from = (subst (λ n. IsServed t (session_name lane n) s) (omega arith) one, from ∙ before, refl)
     served_behind k old mid (x ∷ ss) s before one from =
         (before.0, before.1, served_behind (suc k) x.new mid ss s before.2 (subst (λ n. IsServed t (session_name lane n) s) (omega arith) one) from)
 
     -- one more connection
-    pub serves_more : (p q r : PortState Conn) (old mid new : CorePass) (number : ℕ) → ServesSome t lane p q old mid number → ServesOne t lane q r mid new number → ServesSome t lane p r old new (suc number)
+    pub serves_more : (p q r : PortState Conn) (old mid new : LaneView) (number : ℕ) → ServesSome t lane p q old mid number → ServesOne t lane q r mid new number → ServesSome t lane p r old new (suc number)
     serves_more p q r old mid new number some one =
         let s = one.service in
         let at : IsServed t (session_name lane (1 + length some.served)) s = subst (λ n. IsServed t (session_name lane n) s) (omega (arith, some.next)) one.served in
@@ -96,11 +95,11 @@ module _ {Conn : Type 0} where
           next = omega (arith, some.next, length-append some.served (s ∷ []));
         }
 
-    pub serves_none : (p : PortState Conn) (pass : CorePass) → p.lent ≡ false → ServesSome t lane p p pass pass 1
+    pub serves_none : (p : PortState Conn) (pass : LaneView) → p.lent ≡ false → ServesSome t lane p p pass pass 1
     serves_none p pass home = record { served = []; passes = refl; port = served_none p home; next = refl }
 
     -- the port stopped behind these connections
-    pub serves_all : (p q r : PortState Conn) (old mid new : CorePass) (number : ℕ) (said : Bool) → ServesSome t lane p q old mid number → ServesNone t lane q r mid new said → ServesLane t lane p r old new
+    pub serves_all : (p q r : PortState Conn) (old mid new : LaneView) (number : ℕ) (said : Bool) → ServesSome t lane p q old mid number → ServesNone t lane q r mid new said → ServesLane t lane p r old new
     serves_all p q r old mid new number said some none = record {
       served = some.served;
       passes = subst (AreServed t lane 1 old some.served) (sym none.same) some.passes;
@@ -112,7 +111,7 @@ module _ {Conn : Type 0} where
       stops false rose = inr (omega (arith, rose, some.port.later))
 
     -- and what the lane tells of it
-    pub ends_all : (p q r : PortState Conn) (old mid new : CorePass) (end : LaneEnd) → ServesSome t lane p q old mid (suc end.connections) → ServesNone t lane q r mid new end.has_ended → EndsLane end p r
+    pub ends_all : (p q r : PortState Conn) (old mid new : LaneView) (end : LaneEnd) → ServesSome t lane p q old mid (suc end.connections) → ServesNone t lane q r mid new end.has_ended → EndsLane end p r
     ends_all p q r old mid new end some none =
         let count : end.connections ≡ length some.served = omega (arith, some.next) in
         record {

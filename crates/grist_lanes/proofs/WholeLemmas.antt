@@ -10,14 +10,13 @@ use Rattle.session_gate.specs.Call.{own_calls}
 use Rattle.session_gate.specs.History.{brought, calls_by, entries_of, entry_of, is_by}
 use Rattle.session_gate.specs.Rule.{IsBelow, IsSeen}
 use Rattle.bundle_core.specs.declared.machine.CoreOpening.{CoreOpening}
-use Rattle.grist_serve.specs.Turns.{CorePass}
-use Rattle.grist_lanes.specs.InHistory.{AddsOfLanes, IsOfOneOf, ServesPort}
-use Rattle.grist_lanes.specs.Services.{ServesLane, Telling}
+use Rattle.grist_lanes.specs.InHistory.{AddsOfLanes, AreInHistory, IsOfOneOf, ServesPort, began_of}
+use Rattle.grist_lanes.specs.Services.{Known, LaneView, ServesLane, Telling}
 use Rattle.grist_lanes.specs.Sessions.{AreOfNoLane, IsOfLane}
+use Rattle.grist_lanes.proofs.AskLemmas.{all_append}
 use Rattle.grist_lanes.proofs.ChainLemmas.{Goes, IsWithin, Whole, calls_of, goes_all, goes_nowhere}
 use Rattle.grist_lanes.proofs.HistoryLemmas.{lane_told}
 use Rattle.grist_lanes.proofs.SessionLemmas.{EachBy, IsPlacedIn, behind, each_by, placed_brought, placed_made}
-use Rattle.grist_lanes.proofs.TakenLemmas.{all_append}
 
 none_brought : (n : ℕ) (es : List Entry) → calls_by n (map brought es) ≡ []
 none_brought n [] = refl
@@ -33,27 +32,28 @@ of_lane lane high (e ∷ es) wide all = (record { connection = all.0.connection;
 
 -- what is known of one lane
 pub record LaneFacts {Conn : Type 0} (t : Telling Conn) (o : CoreOpening) (begun : List Entry) (log : List (Made Entry)) (i : ℕ) (port port' : PortState Conn) : Type 0 where
-  pub first : CorePass
-  pub last : CorePass
-  pub number : first.number ≡ i
-  pub opening_is : first.opening ≡ Some o
-  pub fresh : first.seen ≡ map brought begun
+  pub first : LaneView
+  pub last : LaneView
+  pub number : first.pass.number ≡ i
+  pub opening_is : first.pass.opening ≡ Some o
+  pub fresh : first.pass.seen ≡ map brought begun
+  pub told : first.known ≡ began_of o begun ∷ []
   pub serves : ServesLane t (suc i) port port' first last
-  pub known : IsSeen (map brought begun) log last.number last.seen
+  pub known : IsSeen (map brought begun) log last.pass.number last.pass.seen
 
 module _ {Conn : Type 0} (t : Telling Conn) (o : CoreOpening) (begun : List Entry) (log : List (Made Entry)) where
   module _ (i : ℕ) (port port' : PortState Conn) (f : LaneFacts t o begun log i port port') where
-    goes : Goes (suc i) 1 (1 + length f.serves.served) f.first f.last
+    goes : Goes (suc i) 1 (1 + length f.serves.served) f.first.pass f.last.pass
     goes = goes_all t (suc i) 1 f.first f.serves.served f.last f.serves.passes
 
-    no_calls : own_calls f.first ≡ []
-    no_calls = ap (calls_by f.first.number) f.fresh ∙ none_brought f.first.number begun
+    no_calls : own_calls f.first.pass ≡ []
+    no_calls = ap (calls_by f.first.pass.number) f.fresh ∙ none_brought f.first.pass.number begun
 
-    last_number : f.last.number ≡ i
+    last_number : f.last.pass.number ≡ i
     last_number = goes.same.number ∙ f.number
 
-    own_last : calls_by i log ≡ own_calls f.last
-    own_last = subst (λ n. calls_by n log ≡ calls_by n f.last.seen) last_number f.known.own ∙ calls_of f.last i last_number
+    own_last : calls_by i log ≡ own_calls f.last.pass
+    own_last = subst (λ n. calls_by n log ≡ calls_by n f.last.pass.seen) last_number f.known.own ∙ calls_of f.last.pass i last_number
 
     short : 1 + length f.serves.served ≤ 2 ^ 64
     short = omega (arith, f.serves.port.few)
@@ -62,9 +62,9 @@ module _ {Conn : Type 0} (t : Telling Conn) (o : CoreOpening) (begun : List Entr
     calls_in_lane = subst (AllByRecursion (IsOfLane (suc i))) (sym (own_last ∙ goes.calls ∙ ap (λ z. z ++ goes.own) no_calls))
         (of_lane (suc i) (1 + length f.serves.served) goes.own short goes.within)
 
-    pub port_told : i < 64 → AllByRecursion IsPlacedIn log → ServesPort t o (entries_of log) (suc i) port port'
+    pub port_told : i < 64 → AllByRecursion IsPlacedIn log → ServesPort t o begun (entries_of log) (suc i) port port'
     port_told low placed =
-        let whole : Whole i o f.first f.last log = record {
+        let whole : Whole i o f.first.pass f.last.pass log = record {
           low = low;
           placed = placed;
           number = f.number;
@@ -77,7 +77,8 @@ module _ {Conn : Type 0} (t : Telling Conn) (o : CoreOpening) (begun : List Entr
           served = f.serves.served;
           handed = f.serves.port;
           stopped = f.serves.stopped;
-          each = lane_told t i o f.first f.last log whole (1 + length f.serves.served) short 1 f.first f.serves.served (omega arith) (omega arith) (goes_nowhere (suc i) 1 1 f.first) f.serves.passes;
+          each = subst (λ (k : Known). AreInHistory t o (entries_of log) (suc i) 1 k f.serves.served) f.told
+              (lane_told t i o f.first f.last log whole (1 + length f.serves.served) short 1 f.first f.serves.served (omega arith) (omega arith) (goes_nowhere (suc i) 1 1 f.first.pass) f.serves.passes);
         }
 
 -- an entry of the pass m was made by it

@@ -6,7 +6,11 @@ use Rattle.io_edges.specs.declared.Failed.{Failed}
 use Rattle.io_edges.specs.declared.port.Returned.{Returned}
 use Rattle.io_edges.specs.declared.session_end.SessionEnd.{SessionEnd}
 use Rattle.io_edges.specs.declared.session_end.SessionEnd.TheVariants.{ReadFault, WriteFault}
-use Rattle.grist_serve.specs.Link.{DoesNothing, HasFewBytes, IsInner, ServesLink}
+use Rattle.doc_model.specs.declared.entry.Entry.{Entry}
+use Rattle.snap_reads.specs.declared.past.Past.{Past}
+use Rattle.document_shot.specs.declared.past.CoreStart.{CoreStart}
+use Rattle.grist_serve.specs.Link.{DoesNothing, HasFewBytes, IsInner}
+use Rattle.grist_serve.specs.ShotLink.{ServesShotLink}
 use Rattle.grist_serve.specs.Turns.{CorePass}
 use Rattle.grist_lanes.specs.SessionNames.{session_name}
 
@@ -27,14 +31,26 @@ telling left written read_faults write_faults = record {
   write_faults = write_faults;
 }
 
--- a connection as it was handed out and as it came back, how it ended, and the pass before and
+-- the histories that a reader of shots took or was told of, the newest first
+abbrev pub Known : Type 0
+Known = List (Past CoreStart Entry)
+
+-- what clauses see of a lane: its pass, and the histories that its reader of shots knows
+pub record LaneView : Type 0 where
+  pub pass : CorePass
+  pub known : Known
+
+abbrev pub lane_view : CorePass → Known → LaneView
+lane_view pass known = record { pass = pass; known = known }
+
+-- a connection as it was handed out and as it came back, how it ended, and the lane before and
 -- after
 pub record Service (Conn : Type 0) : Type 0 where
   pub before : Conn
   pub after : Conn
   pub end : SessionEnd
-  pub old : CorePass
-  pub new : CorePass
+  pub old : LaneView
+  pub new : LaneView
 
 module _ {Conn : Type 0} where
   abbrev pub before_of : Service Conn → Conn
@@ -46,10 +62,10 @@ module _ {Conn : Type 0} where
 module _ {Conn : Type 0} (t : Telling Conn) where
   -- the connection was served under that name, or there was no memory for it
   pub record IsServed (name : List ℕ) (s : Service Conn) : Type 0 where
-    pub serves : ServesLink s.end name (t.left s.before) (t.left s.after) s.old s.new
-        (t.written s.before) (t.written s.after)
-        ⊎ DoesNothing s.end (t.left s.before) (t.left s.after) s.old s.new
-        (t.written s.before) (t.written s.after)
+    pub serves : ServesShotLink s.end name (t.left s.before) (t.left s.after)
+        s.old.pass s.new.pass s.old.known s.new.known (t.written s.before) (t.written s.after)
+        ⊎ (DoesNothing s.end (t.left s.before) (t.left s.after) s.old.pass s.new.pass
+        (t.written s.before) (t.written s.after) × (s.new.known ≡ s.old.known))
     pub read_later : t.read_faults s.before ≤ t.read_faults s.after
     pub write_later : t.write_faults s.before ≤ t.write_faults s.after
     pub read_fault : s.end ≡ ReadFault → Rose (t.read_faults s.before) (t.read_faults s.after)
@@ -58,8 +74,8 @@ module _ {Conn : Type 0} (t : Telling Conn) where
         → (Rose (t.write_faults s.before) (t.write_faults s.after) → ⊥)
         → HasFewBytes (t.left s.before) → IsInner s.end
 
-  -- the connections of a lane from the k-th on, each by the pass that the one before it left
-  abbrev pub AreServed : ℕ → ℕ → CorePass → List (Service Conn) → CorePass → Type 0
+  -- the connections of a lane from the k-th on, each by the lane as the one before it left it
+  abbrev pub AreServed : ℕ → ℕ → LaneView → List (Service Conn) → LaneView → Type 0
   AreServed lane k old [] new = new ≡ old
   AreServed lane k old (s ∷ ss) new =
       IsServed (session_name lane k) s × (s.old ≡ old) × AreServed lane (suc k) s.new ss new
@@ -84,7 +100,7 @@ module _ {Conn : Type 0} where
   HasStopped old new = StopsBy true old new ⊎ StopsBy false old new
 
 module _ {Conn : Type 0} (t : Telling Conn) (lane : ℕ) (port_old port_new : PortState Conn)
-    (old new : CorePass) where
+    (old new : LaneView) where
   -- the connections of a lane so far
   pub record ServesSome (number : ℕ) : Type 0 where
     pub served : List (Service Conn)

@@ -7,14 +7,16 @@ ghost use Rattle.grist_lanes.specs.Handed.{EndedBy, all_handed};
 ghost use Rattle.grist_lanes.specs.InHistory.{ServesLanes};
 ghost use Rattle.grist_lanes.specs.LaneEnds.{EndsLane};
 ghost use Rattle.grist_lanes.specs.Places.{AtEach};
-ghost use Rattle.grist_lanes.specs.Services.{ServesLane, telling};
+ghost use Rattle.grist_lanes.specs.Services.{ServesLane, lane_view, telling};
 ghost use Rattle.grist_lanes.specs.Sessions.{AreOfNoLane};
 
 use crate::lane::serve_port;
 use crate::lanes::{Lane, connections_of, have_all_ended, join_lanes, part_lanes};
+use crate::opening::{Opened, close_gate, open_gate};
 use doc_keeper::Keeper;
 use io_edges::{Link, Port, Sink, Source};
-use session_gate::{Gate, NoGate, PassList};
+use session_gate::{Gate, PassList};
+use shot_core::ShotCore;
 use std::alloc::Global;
 use std::marker::Send;
 use std::sync::Wait;
@@ -27,7 +29,7 @@ use watched_core::WatchedCore;
 fn serve_all<R: Threads + Wait + Sync, K: Keeper + Send, W: Watcher + Send, P: Port + Send>(
     rt: &R,
     alloc: Global,
-    gate: &Gate<WatchedCore<K, W>>,
+    gate: &Gate<ShotCore<K, W>>,
     lanes: &mut Vec<Lane<P, K, W>>,
 )
     requires few { length lanes.old.items ≤ 64 }
@@ -37,7 +39,8 @@ fn serve_all<R: Threads + Wait + Sync, K: Keeper + Send, W: Watcher + Send, P: P
     ensures count { length lanes.new.items ≡ length lanes.old.items }
     ensures serves { AtEach (λ place old new.
         ServesLane (telling P.Conn.left P.Conn.written P.Conn.Source.faults P.Conn.Sink.faults)
-        (suc place) (P.state old.port) (P.state new.port) old.pass new.pass)
+        (suc place) (P.state old.port) (P.state new.port)
+        (lane_view old.pass old.shots.known) (lane_view new.pass new.shots.known))
         lanes.old.items lanes.new.items }
     ensures ends { AtEach (λ place old new.
         EndsLane new.end (P.state old.port) (P.state new.port))
@@ -54,8 +57,9 @@ fn serve_all<R: Threads + Wait + Sync, K: Keeper + Send, W: Watcher + Send, P: P
             ensures { IsPassOf gate.entry.now lane.new.pass
                 × ServesLane
                 (telling P.Conn.left P.Conn.written P.Conn.Source.faults P.Conn.Sink.faults)
-                (suc place) (P.state lane.old.port) (P.state lane.new.port) lane.old.pass
-                lane.new.pass
+                (suc place) (P.state lane.old.port) (P.state lane.new.port)
+                (lane_view lane.old.pass lane.old.shots.known)
+                (lane_view lane.new.pass lane.new.shots.known)
                 × EndsLane lane.new.end (P.state lane.old.port) (P.state lane.new.port) }
         {
             lane.end = serve_port(
@@ -64,6 +68,7 @@ fn serve_all<R: Threads + Wait + Sync, K: Keeper + Send, W: Watcher + Send, P: P
                 gate,
                 &mut lane.port,
                 &mut lane.pass,
+                &mut lane.shots,
                 place as u32 + 1,
             );
         },
@@ -121,23 +126,26 @@ pub fn serve_ports<R: Threads + Wait + Sync, K: Keeper + Send, W: Watcher + Send
     let Ok(mut lanes) = Vec::with_capacity(alloc, ports.len()) else {
         return Err(NoServe { watched });
     };
-    let (gate, passes) = match Gate::new(alloc, watched, ports.len() as u32) {
-        Ok(made) => made,
-        Err(NoGate { machine }) => {
+    let opened = match open_gate(rt, alloc, watched, ports.len() as u32) {
+        Ok(opened) => opened,
+        Err(watched) => {
             lanes.destroy_empty();
-            return Err(NoServe { watched: machine });
+            return Err(NoServe { watched });
         }
     };
+    let Opened {
+        gate,
+        passes,
+        mut readers,
+    } = opened;
     let mut passes = passes.into_vec();
-    join_lanes(ports, &mut passes, &mut lanes);
+    join_lanes(ports, &mut passes, &mut readers, &mut lanes);
     serve_all(rt, alloc, &gate, &mut lanes);
     let connections = connections_of(lanes.as_slice());
     let have_ended = have_all_ended(lanes.as_slice());
     part_lanes(ports, &mut passes, &mut lanes);
     lanes.destroy_empty();
-    let Ok(watched) = gate.close(PassList::from(passes)) else {
-        unreachable!()
-    };
+    let watched = close_gate(gate, PassList::from(passes)).finish(rt);
     Ok(ServedPorts {
         served: Served {
             watched,

@@ -7,7 +7,7 @@ use Rattle.io_edges.specs.declared.session_end.SessionEnd.{SessionEnd}
 use Rattle.io_edges.specs.declared.session_end.SessionEnd.TheVariants.{Closed, ReadFault, WriteFault, TurnsSpent, Full, NoMemory}
 
 -- no more bytes came than were left
-few_came : (l l' : Option (List ℕ)) (came : List ℕ) → Consumes l l' came → HasFewBytes l → length came < 4294967296
+pub few_came : (l l' : Option (List ℕ)) (came : List ℕ) → Consumes l l' came → HasFewBytes l → length came < 4294967296
 few_came None l' came c few = absurd few
 few_came (Some bytes) None came c few = absurd c
 few_came (Some bytes) (Some rest) came c few = omega (arith, few, ap length c, length-append came rest)

@@ -8,3 +8,10 @@ mod Sent
 pub mod OutLemmas
 mod Completeness
 mod SideLemmas
+pub mod AnsweredLemmas
+mod TurnAnswers
+mod PeekLemmas
+mod ShotCalls
+pub mod ShotLineLaws
+mod Starting
+mod ShotCompleteness

@@ -5,3 +5,8 @@ pub mod Out
 pub mod Answering
 pub mod Link
 pub mod Laws
+pub mod Answered
+pub mod Standing
+pub mod ShotAnswering
+pub mod ShotLink
+pub mod Due

@@ -23,13 +23,15 @@ fn is_space(byte: u8) -> bool
     byte == b' ' || byte == b'\t' || byte == b'\r' || byte == b'\n'
 }
 
-fn is_blank(line: &[u8]) -> bool
+/// Whether a line is white space alone.
+pub(crate) fn is_blank(line: &[u8]) -> bool
     ensures { result ≡ is_blank line.now }
 {
     line.iter().all(|byte| is_space(*byte))
 }
 
-fn is_long(line: &[u8]) -> bool
+/// Whether a line has more bytes than it may have.
+pub(crate) fn is_long(line: &[u8]) -> bool
     ensures { result ≡ is_long line.now }
 {
     line.len() > MAX_LINE_BYTES

@@ -32,6 +32,28 @@ pub(crate) fn send_lines<O: Sink>(
     outbox.flush(out)
 }
 
+/// Sends a line with a newline, and writes all of it.
+pub(crate) fn send_line<O: Sink>(
+    outbox: &mut Outbox,
+    out: &mut O,
+    line: &Line,
+) -> Result<(), Failed>
+    requires { outbox.old ≡ [] }
+    ensures ok { OnOk result
+        (Appends (O.written out.old) (O.written out.new) (with_newlines (line.now ∷ []))) }
+    ensures err { OnErr result
+        (SendsFront (with_newlines (line.now ∷ [])) (O.written out.old) (O.written out.new)) }
+    ensures empty { outbox.new ≡ [] }
+    ensures apart { O.incoming out.new ≡ O.incoming out.old }
+    ensures later { O.faults out.old ≤ O.faults out.new }
+    ensures cause { OnErr result (Rose (O.faults out.old) (O.faults out.new)) }
+{
+    if let Err(failed) = put_line(outbox, out, line.as_str().as_bytes()) {
+        return Err(failed);
+    }
+    outbox.flush(out)
+}
+
 // Puts a text and a newline behind what waits.
 fn put_line<O: Sink>(outbox: &mut Outbox, out: &mut O, text: &[u8]) -> Result<(), Failed>
     ensures ok { OnOk result (Sends (outbox.old ++ text.now ++ 10 ∷ []) outbox.new

@@ -65,8 +65,8 @@ pub fn serve_link<R: Threads + Wait + Sync, K: Keeper, W: Watcher, L: Link>(
     end
 }
 
-// The buffers of a link of which nothing was read.
-fn new_buffers(alloc: Global) -> Result<Buffers, AllocError>
+/// The buffers of a link of which nothing was read.
+pub(crate) fn new_buffers(alloc: Global) -> Result<Buffers, AllocError>
     ensures ahead { IfOk result (λ b. b.reader.ahead ≡ []) }
     ensures turns { IfOk result (λ b. b.reader.turns ≡ 0) }
     ensures empty { IfOk result (λ b. b.outbox ≡ []) }
@@ -172,8 +172,8 @@ fn take_turn<R: Threads + Wait + Sync, K: Keeper, W: Watcher, L: Link>(
     }
 }
 
-// Reads the next line. What went out stays as it is.
-fn read_line<L: Link>(reader: &mut LineReader, link: &mut L) -> Result<NextLine, ReadEnd>
+/// Reads the next line. What went out stays as it is.
+pub(crate) fn read_line<L: Link>(reader: &mut LineReader, link: &mut L) -> Result<NextLine, ReadEnd>
     ensures reads { Reads result reader.old reader.new (L.left link.old) (L.left link.new) }
     ensures written { L.written link.new ≡ L.written link.old }
     ensures write_faults { L.Sink.faults link.new ≡ L.Sink.faults link.old }

@@ -1,7 +1,7 @@
 //! Lines of JSON of peeks: which lines ask for one, and how one is answered.
 //!
 //! Stands on `grist_json` (the JSON of lines, replies), `action_lines` (members of an object, one
-//! after the other), `doc_model` and `cell_types`. Used by `document_shot`.
+//! after the other), `doc_model` and `cell_types`. Used by `document_shot` and `grist_serve`.
 //!
 //! Promises: `read_peek` answers the table of the line that spells a peek, and nothing exactly
 //! where it spells none; such a line spells no request, so that whoever reads requests alone takes

@@ -2,7 +2,7 @@
 //!
 //! Stands on `watched_core` (a core with its watchers), `document_shot` (shots of its document,
 //! which readers take without waiting) and `session_gate` (machines that threads step in turn).
-//! Nothing stands on it yet.
+//! Used by `grist_serve` and `grist_lanes`.
 //!
 //! What it does: where a step adds an entry it publishes a shot of what the history leads to, and
 //! hands out the mark of it; a step that adds none hands out the mark of the last one that did.

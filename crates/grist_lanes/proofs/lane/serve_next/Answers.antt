@@ -1,6 +1,6 @@
 use Rattle.std.proofs.Common.{Ok, refl, subst}
 use Rattle.io_edges.specs.Ports.{Gives, HandsOut}
-use Rattle.grist_lanes.specs.Services.{Service}
+use Rattle.grist_lanes.specs.Services.{Service, lane_view}
 use Rattle.grist_lanes.proofs.ServiceLemmas.{few_one, served_one}
 use Rattle.grist_lanes.proofs.lane.serve_next.Goals as goal
 
@@ -10,8 +10,8 @@ returns-in-Ok-Some-clause-next g c =
       before = c.in-Ok-Some.conn;
       after = c.serve_connection-end.new.conn;
       end = c.serve_connection-end.result;
-      old = c.args.pass.now;
-      new = c.serve_connection-end.new.pass;
+      old = lane_view c.args.pass.now c.args.shots.now.known;
+      new = lane_view c.serve_connection-end.new.pass c.serve_connection-end.new.shots.known;
     } in
     let old = g.P.Port.state c.args.port.now in
     let mid = g.P.Port.state c.next.new.self in

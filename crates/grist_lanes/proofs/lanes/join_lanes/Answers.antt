@@ -13,3 +13,9 @@ returns-clause-passes g c =
     let size : length c.loop-port.passes.items ≡ 0 = search rules in
     let none : c.loop-port.passes.items ≡ [] = nil_from_length c.loop-port.passes.items size in
     rw c.reverse.ensures.items (all_taken (λ l. l.pass) c.loop-port.lanes.items c.loop-port.passes.items c.args.passes.now.items none c.loop-port.invariant.passes)
+
+pub returns-clause-readers : goal.returns-clause-readers
+returns-clause-readers g c =
+    let size : length c.loop-port.readers.items ≡ 0 = search rules in
+    let none : c.loop-port.readers.items ≡ [] = nil_from_length c.loop-port.readers.items size in
+    rw c.reverse.ensures.items (all_taken (λ l. l.shots) c.loop-port.lanes.items c.loop-port.readers.items c.args.readers.now.items none c.loop-port.invariant.readers)

@@ -43,8 +43,20 @@ def adding(*actions):
 
 SYNC = line(method="sync")
 CLOSE = line(method="closeDoc")
-INFOS = ",".join(f'{{"formula":"","id":"{id}","isFormula":false,"type":"Any"}}' for id in "ABC")
-NEW_TABLE = f'["AddTable","Table1",[{INFOS}]]'
+
+
+def added(table, **types):
+    """The action that tells of a table without formulas."""
+    infos = ",".join(f'{{"formula":"","id":"{id}","isFormula":false,"type":"{kind}"}}' for id, kind in types.items())
+    return f'["AddTable","{table}",[{infos}]]'
+
+
+NEW_TABLE = added("Table1", A="Any", B="Any", C="Any")
+OF_OWNERS = [
+    added("_grist_ACLResources", colIds="Text", tableId="Text"),
+    added("_grist_ACLRules", aclFormula="Text", memo="Text", permissionsText="Text",
+          resource="Ref:_grist_ACLResources", rulePos="Int", userAttributes="Text"),
+]
 ONE_ROW = '["BulkAddRecord","Table1",[1],{"A":[5],"B":[null],"C":[null]}]'
 
 
@@ -60,7 +72,7 @@ OF_ED = ("te", [
 ], b'{"bundles":0,"connections":1,"entries":2}\n')
 OF_ANN = ("ta", [
     (peek("Table1"), b'{"error":{"code":3,"name":"NotOpen"}}\n'),
-    (opening("ta"), reply(NEW_TABLE)),
+    (opening("ta"), reply(NEW_TABLE, *OF_OWNERS)),
     (adding(["AddRecord", "Table1", None, {"A": 5}]),
      f'{{"actions":[{ONE_ROW}],"seq":1}}\n{{"ok":{{"bundle":1,"retValues":[1]}}}}\n'.encode()),
     (peek("Table1"), reply(NEW_TABLE, ONE_ROW)),
@@ -96,6 +108,7 @@ def is_quiet(link):
 
 
 def read_away(end):
+    end.settimeout(None)
     while end.recv(65_536):
         pass
 
@@ -107,13 +120,16 @@ def beside_a_turn(program):
     server = Server(program, 3, words=("--watch", "l1c1"), told=theirs)
     theirs.close()
     try:
-        opened = [server.ask(lane, opening("ta")) for lane in range(3)]
+        for lane in range(3):
+            server.ask(lane, opening("ta"))
         server.links[0].sendall(adding(["BulkAddRecord", "Table1", [None] * 5_000, {"A": ["x" * 100] * 5_000}]))
+        ours.settimeout(PATIENCE)
+        ours.recv(1, socket.MSG_PEEK)  # The watcher is told, so the turn is held.
         server.links[2].sendall(SYNC)
         if not is_quiet(server.links[2]):
             return "a lane that waits for a watcher holds no turn"
         before = server.ask(1, peek("Table1"))
-        if before != opened[1]:
+        if before != reply(NEW_TABLE):
             return f"beside a turn a peek is answered {before[:80]}"
         if not is_quiet(server.links[2]):
             return "the turn was given back before the peek was answered"

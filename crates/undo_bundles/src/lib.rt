@@ -18,7 +18,7 @@ mod inverse;
 mod laws;
 mod log;
 
-pub use copies::copy_of_steps;
+pub use copies::{copy_of_actions, copy_of_steps};
 pub use inverse::BundleInverse;
 pub use laws::{inverse_steps_law, kept_law, mark_law, note_law};
 pub use log::{BundleLog, LogFault, MAX_KEPT, NotedBundle};

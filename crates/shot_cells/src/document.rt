@@ -20,8 +20,10 @@ pub struct ShotDocument<D: DocTables> {
     pub cells: ShotCells,
 }
 
-// Whether a column of a table is there and has a formula.
-fn is_formula<D: DocTables>(tables: &D, table: &Name, column: &Name) -> bool
+/// Whether a column of a table is there and has a formula.
+///
+/// Memory: none. Cost: a walk over the columns of the table.
+pub fn is_formula<D: DocReader>(tables: &D, table: &Name, column: &Name) -> bool
     ensures { result ≡ is_formula_at (D.document tables.now) table.now column.now }
 {
     match find_column(tables, table, column) {

@@ -20,4 +20,4 @@ mod places;
 
 pub use cells::ShotCells;
 pub use changes::CellChanges;
-pub use document::ShotDocument;
+pub use document::{ShotDocument, is_formula};

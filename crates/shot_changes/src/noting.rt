@@ -4,14 +4,12 @@ ghost use Rattle.std.specs.Prelude.{◌≡◌, [], ◌∷◌, cond, map, OnOk};
 ghost use Rattle.std.specs.List.{flat_map};
 ghost use Rattle.recalc.specs.Cells.{cell_of};
 ghost use Rattle.action_censor.specs.Step.{step_of};
-ghost use Rattle.shot_cells.specs.ShotDocument.{is_formula_at};
 ghost use Rattle.shot_changes.specs.NotedCells.{Adds, added_cells, column_cells, lost_cell, row_cells, step_cells};
 
 use action_censor::StepTrace;
 use cell_types::{CellId, CellOld, Name, copy_of};
 use doc_model::{ColDef, DocAction, DocReader};
-use doc_readers::find_column;
-use shot_cells::CellChanges;
+use shot_cells::{CellChanges, is_formula};
 use std::alloc::AllocError;
 
 // Notes what a cell holds, or that it is gone.
@@ -110,16 +108,6 @@ fn note_added<E: DocReader>(
             note_rows(evaluated, table, rows.as_slice(), changes)
         }
         _ => Ok(()),
-    }
-}
-
-// Whether a column of a table is there and has a formula.
-fn is_formula<E: DocReader>(evaluated: &E, table: &Name, column: &Name) -> bool
-    ensures { result ≡ is_formula_at (E.document evaluated.now) table.now column.now }
-{
-    match find_column(evaluated, table, column) {
-        Some(found) => found.info.is_formula,
-        None => false,
     }
 }
 

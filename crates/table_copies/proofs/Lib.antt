@@ -1,0 +1,4 @@
+pub mod AlikeLemmas
+pub mod ColumnLemmas
+pub mod FoundLemmas
+pub mod TableLemmas

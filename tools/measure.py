@@ -312,28 +312,46 @@ RULES = (  # the resource, the formula, what it allows and denies
 
 
 def peeks():
-    """One connection that writes, alone and beside sixteen that look at its table of 1,000 rows, by peeks and by fetches."""
+    """One connection that writes, alone and beside sixteen that look at its table of 1,000 rows: by peeks now and then and without a pause, also at another server, and by fetches."""
     lookers, port, milliseconds = 16, 21600, size(3_000)
 
-    def speeds(rival, count, method="peekTable"):
-        words = [scripts.PROGRAM, "serve", "--lanes", str(count + 1), "--port", str(port), "--conns", "1"]
+    def started(first, count):
+        words = [scripts.PROGRAM, "serve", "--lanes", str(count + 1), "--port", str(first), "--conns", "1"]
         server = subprocess.Popen(words, stdin=subprocess.PIPE, stdout=subprocess.PIPE)
         server.stdin.write(USER.encode())
         server.stdin.close()
-        found = scripts.numbers_told([rival, str(port), str(count), method, str(milliseconds)])
+        return server
+
+    def rival_words(first, count, method, pause, quiet=0, more=0):
+        return [rival, str(first), str(count), method, str(milliseconds + more), str(pause), str(quiet)]
+
+    def speeds(count, method="peekTable", pause=0):
+        server = started(port, count)
+        found = scripts.numbers_told(rival_words(port, count, method, pause))
         if server.wait():
             raise SystemExit(f"the server ended with {server.returncode}")
         return found
 
+    def apart():
+        """The one that writes, at one server, beside those that peek at another."""
+        other = started(port + 100, lookers)
+        looking = subprocess.Popen(rival_words(port + 100, lookers, "peekTable", 0, quiet=1, more=1_000), stdout=subprocess.DEVNULL)
+        found = speeds(0)
+        looking.wait()
+        other.wait()
+        return found
+
     with tempfile.TemporaryDirectory() as folder:
         rival = scripts.compiled(folder, "peeks.c", "-lpthread")
-        turns = [(speeds(rival, 0), speeds(rival, lookers), speeds(rival, lookers, "fetchTable")) for _ in range(3)]
-    alone, peeking, fetching = (max(one[0] for one in it) for it in zip(*turns))
-    peeked, fetched = (max(it[place][1] for it in turns) for place in (1, 2))
+        turns = [(speeds(0), speeds(lookers, pause=50_000), speeds(lookers), apart(), speeds(lookers, "fetchTable")) for _ in range(3)]
+    alone, resting, peeking, elsewhere, fetching = (max(one[0] for one in it) for it in zip(*turns))
+    peeked, fetched = (max(it[place][1] for it in turns) for place in (2, 4))
     yield "bundles a second of one connection that writes", f"{alone:,.0f}", ""
-    yield f"the same beside {lookers} that peek at its table of 1,000 rows", f"{peeking / alone:.2f} of those alone", "0.9"
+    yield f"the same beside {lookers} that peek at its table of 1,000 rows, each up to 20 times a second", f"{resting / alone:.2f} of those alone", "0.9"
+    yield f"the same beside {lookers} that peek without a pause", f"{peeking / alone:.2f} of those alone", ""
+    yield f"the same beside {lookers} that peek so at another server", f"{elsewhere / alone:.2f} of those alone", ""
     yield f"the same beside {lookers} that fetch it", f"{fetching / alone:.2f} of those alone", ""
-    yield "peeks a second beside it", f"{peeked:,.0f}, {peeked / fetched:.1f} times the fetches", "4"
+    yield "peeks a second without a pause", f"{peeked:,.0f}, {peeked / fetched:.1f} times the fetches", "4"
 
 
 def task(row):

@@ -1,6 +1,7 @@
 /* One connection that writes and so many that look at a table, for so many milliseconds.
-   peeks PORT LOOKERS METHOD MILLISECONDS: bundles and looks a second. The writer is at PORT, the others behind it; it
-   changes rows of a table of 1,000 rows that it adds first. METHOD is peekTable or fetchTable. */
+   peeks PORT LOOKERS METHOD MILLISECONDS PAUSE QUIET: bundles and looks a second. The writer is at PORT, the others
+   behind it; it changes rows of a table of 1,000 rows that it adds first, and no more where QUIET is 1. METHOD is
+   peekTable or fetchTable. Who looks rests for PAUSE microseconds behind each look. */
 #include <arpa/inet.h>
 #include <netinet/tcp.h>
 #include <pthread.h>
@@ -10,7 +11,7 @@
 #include <time.h>
 #include <unistd.h>
 enum { ROWS = 1000 };
-static int port; static const char *method; static volatile int over;
+static int port, pause_us, quiet; static const char *method; static volatile int over;
 static pthread_barrier_t filled, ready; static long bundles, looks;
 static double now(void) { struct timespec t; clock_gettime(CLOCK_MONOTONIC, &t); return t.tv_sec + t.tv_nsec / 1e9; }
 static void send_all(int s, const char *b, size_t n) { while (n) { ssize_t w = write(s, b, n); if (w <= 0) exit(3); b += w; n -= w; } }
@@ -46,6 +47,7 @@ static void *writes(void *at) {
   ask(s, in, text);
   pthread_barrier_wait(&filled); pthread_barrier_wait(&ready);
   for (i = 0; !over; i++) {
+    if (quiet) { usleep(1000); continue; }
     snprintf(text, sizeof text, "{\"actions\":[[\"UpdateRecord\",\"Table1\",%d,{\"B\":%d}]],\"method\":\"applyUserActions\"}\n", i % ROWS + 1, i);
     ask(s, in, text); bundles++;
   }
@@ -58,14 +60,14 @@ static void *looks_at(void *at) {
   in = opened(s);
   snprintf(text, sizeof text, "{\"method\":\"%s\",\"table\":\"Table1\"}\n", method);
   pthread_barrier_wait(&ready);
-  for (; !over; n++) ask(s, in, text);
+  for (; !over; n++) { ask(s, in, text); if (pause_us) usleep(pause_us); }
   __atomic_fetch_add(&looks, n, __ATOMIC_RELAXED);
   pthread_barrier_wait(&ready); shutdown(s, SHUT_WR);
   return 0;
 }
 int main(int count, char **words) {
   int lookers = atoi(words[2]); pthread_t each; long i; double start;
-  port = atoi(words[1]); method = words[3];
+  port = atoi(words[1]); method = words[3]; pause_us = atoi(words[5]); quiet = atoi(words[6]);
   pthread_barrier_init(&filled, 0, lookers + 1); pthread_barrier_init(&ready, 0, lookers + 2);
   pthread_create(&each, 0, writes, 0);
   for (i = 1; i <= lookers; i++) pthread_create(&each, 0, looks_at, (void *)i);

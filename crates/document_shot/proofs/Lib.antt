@@ -1,4 +1,3 @@
 pub mod SeenLaws
 pub mod AnswerLemmas
 pub mod MakingLemmas
-pub mod ActionCopies

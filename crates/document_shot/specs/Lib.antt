@@ -3,3 +3,4 @@ pub mod PeekAnswers
 pub mod Shots
 pub mod Trails
 pub mod Leading
+pub mod Looks

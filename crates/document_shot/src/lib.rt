@@ -3,8 +3,9 @@
 //! Stands on `snap_reads` (shots that a writer publishes and readers take without waiting),
 //! `shot_documents`, `shot_cells` and `shot_changes` (the tables of a shot with the values of their
 //! formula cells beside them, and what a bundle did to both), `bundle_core` (the core, its history
-//! and its last change), `rule_contexts` and `censored_view` (what a user sees) and `peek_lines`
-//! (what a peek is answered). Used by `shot_core`, `grist_serve` and `grist_lanes`.
+//! and its last change), `rule_contexts` and `censored_view` (what a user sees), `table_copies`
+//! (what a peek takes along) and `peek_lines` (what it is answered). Used by `shot_core`,
+//! `grist_serve` and `grist_lanes`.
 //!
 //! Promises: a shot that stands for a history has the document, the values of all formula cells and
 //! the open sessions that the history leads to (`Stands`). `last_operation` makes of a core what
@@ -13,11 +14,14 @@
 //! which continues all that the reader took before, and has no fewer entries than its marks ask.
 //! Not promised: that a shot is the newest; that the histories which two readers took are
 //! beginnings of one.
-//! Costs: three copies of the document where a core has a writer. A peek reads the rules anew.
-//! Read first: specs/Shots.antt and specs/PeekAnswers.antt, then shot.rt and making.rt.
+//! Costs: three copies of the document where a core has a writer. A peek reads the rules anew and
+//! copies the table, which is all that a writer may wait for; it makes its answer of these when it
+//! has left the shot.
+//! Read first: specs/Shots.antt and specs/PeekAnswers.antt, then shot.rt, look.rt and making.rt.
 #![tactic(auto)]
 
 mod answers;
+mod look;
 mod making;
 mod operation;
 mod past;

@@ -16,12 +16,13 @@ use crate::shot::DocumentShot;
 use bundle_core::{Core, LastChange};
 use column_store::ColumnTables;
 use doc_keeper::Keeper;
-use doc_model::{DocAction, DocActionList};
+use doc_model::DocActionList;
 use evaluated_doc::Doc;
 use shot_cells::CellChanges;
 use shot_changes::{changes_anew, changes_of_rows};
 use shot_documents::DocumentChanges;
 use std::alloc::{AllocError, Global};
+use undo_bundles::copy_of_actions;
 
 // What leads from the tables of a core's document alone to what it is now.
 fn opening_of<K: Keeper>(alloc: Global, core: &Core<K>) -> Result<DocumentOp, AllocError>
@@ -60,14 +61,6 @@ pub(crate) fn first_shots<K: Keeper>(
     Ok((first, second))
 }
 
-// A copy of actions.
-#[tactic(auto, using(crate::proofs::ActionCopies::action_copied))]
-fn copy_actions(alloc: Global, actions: &[DocAction]) -> Result<DocActionList, AllocError>
-    ensures { IfOk result (λ l. l ≡ actions.now) }
-{
-    Ok(DocActionList::from(Vec::from_clones(alloc, actions)?))
-}
-
 // What became of the values of formula cells by a bundle that led to the document.
 fn values_after(
     alloc: Global,
@@ -96,7 +89,7 @@ fn changes_by(
         (λ c. (s : Document) → IsChange s doc.now change.now → LeadTo s doc.now c) }
     ensures beside { IfOk result (λ c. length c.cells.values.items ≡ length c.cells.cells.items) }
 {
-    let actions = copy_actions(alloc, change.actions())?;
+    let actions = copy_of_actions(alloc, change.actions())?;
     let cells = values_after(alloc, doc, change)?;
     Ok(DocumentChanges { actions, cells })
 }

@@ -2,8 +2,10 @@
 
 ghost use Rattle.std.specs.Prelude.{◌≡◌, max, IfOk};
 ghost use Rattle.snap_reads.specs.Views.{TakesOn};
+ghost use Rattle.document_shot.specs.Looks.{looked};
 ghost use Rattle.document_shot.specs.PeekAnswers.{IsPeekAnswer};
 
+use crate::look::Look;
 use crate::operation::DocumentOp;
 use crate::shot::DocumentShot;
 use cell_types::{CellText, Name};
@@ -23,35 +25,38 @@ struct PeekTable<'a> {
 impl Question<DocumentShot, DocumentOp> for PeekTable<'_> {
     ghost use Rattle.std.specs.Prelude.{◌≡◌, IfOk};
     ghost use Rattle.bundle_core.specs.KeptCore.{state_now};
+    ghost use Rattle.document_shot.specs.Looks.{looked};
     ghost use Rattle.document_shot.specs.PeekAnswers.{peek_answer};
     ghost use Rattle.document_shot.specs.Shots.{Stands, shown_after};
 
-    type Answer = Result<PeekAnswer, AllocError>;
+    type Answer = Result<Look, AllocError>;
 
     ghost answers = { λ steps q answer. Stands (shown_after steps) → IfOk answer
-        (λ a. a ≡ peek_answer (state_now (shown_after steps).past) q.session.now q.table.now) };
+        (λ l. looked q.table.now l
+        ≡ peek_answer (state_now (shown_after steps).past) q.session.now q.table.now) };
 
-    fn ask(self, shot: &DocumentShot) -> Result<PeekAnswer, AllocError> {
-        shot.answer(self.session, self.table)
+    fn ask(self, shot: &DocumentShot) -> Result<Look, AllocError> {
+        shot.look(self.session, self.table)
     }
 }
 
-// Asks the shot that is shown what a session sees of a table.
-fn peeked(
+// What answers a session that asks the shot which is shown for a table.
+fn looked_at(
     reader: ShotReader<DocumentShot, DocumentOp>,
     question: PeekTable<'_>,
 ) -> (
     ShotReader<DocumentShot, DocumentOp>,
-    Result<PeekAnswer, AllocError>,
+    Result<Look, AllocError>,
 )
     ensures takes { TakesOn reader.known result.0.known }
     ensures least { result.0.least ≡ reader.least }
-    ensures answer { IfOk result.1 (IsPeekAnswer question.entry.session.now
-        question.entry.table.now reader.known reader.least result.0.known) }
+    ensures answer { IfOk result.1 (λ l. IsPeekAnswer question.entry.session.now
+        question.entry.table.now reader.known reader.least result.0.known
+        (looked question.entry.table.now l)) }
 {
     let (reader, answer) = reader.peek(question);
     match answer {
-        Ok(answer) => (reader, answer),
+        Ok(look) => (reader, look),
         Err(NoShot) => (reader, Err(AllocError)),
     }
 }
@@ -90,10 +95,11 @@ impl PeekReader {
 
     /// Answers a peek of a session at a table.
     ///
-    /// While it is answered the writer of the shots may wait for it.
+    /// While it reads the rules and copies the table the writer of the shots may wait for it, and
+    /// no longer.
     /// Errors: out of memory, or there is no shot that is as new as the marks ask; a shot may have
     /// been taken all the same.
-    /// Cost: what is in force for the user is read anew, and the table walked.
+    /// Cost: what is in force for the user is read anew, and the table copied and walked.
     pub fn peek(&mut self, session: &Name, table: &CellText) -> Result<PeekAnswer, AllocError>
         ensures takes { TakesOn self.old.known self.new.known }
         ensures least { self.new.least ≡ self.old.least }
@@ -101,6 +107,7 @@ impl PeekReader {
             self.old.least self.new.known) }
     {
         let question = PeekTable { session, table };
-        mem::replace_with(&mut self.reader, question, peeked)
+        let look = mem::replace_with(&mut self.reader, question, looked_at)?;
+        look.answer(table)
     }
 }

@@ -1,24 +1,23 @@
 //! Shots of a core's document, taken by readers that wait for nobody.
 
 ghost use Rattle.std.specs.Prelude.{◌≡◌, ◌∷◌, [], IfOk};
-ghost use Rattle.doc_model.specs.Changes.{IsView};
 ghost use Rattle.doc_model.specs.DocumentLaws.{IsWhole};
 ghost use Rattle.rule_contexts.specs.Context.{view};
 ghost use Rattle.bundle_core.specs.KeptCore.{state_now};
 ghost use Rattle.bundle_core.specs.Mailbox.{asked_table};
-ghost use Rattle.document_shot.specs.PeekAnswers.{peek_answer};
+ghost use Rattle.document_shot.specs.Looks.{looked};
+ghost use Rattle.document_shot.specs.PeekAnswers.{peek_answer, table_answer};
 ghost use Rattle.document_shot.specs.Shots.{Stands, shown_after};
 ghost use Rattle.document_shot.specs.declared.trail.DocumentStep.TheVariants.{First};
 
-use crate::answers::table_answer;
+use crate::look::{Look, TableLook};
 use crate::operation::DocumentOp;
 use crate::past::CoreStart;
 use crate::sessions::{ShotSession, copy_sessions, session_named};
 use crate::trail::{DocumentStep, Trail};
-use bundle_core::shown_table;
 use cell_types::{CellText, Name};
 use column_store::ColumnTables;
-use doc_model::{Entry, User, View};
+use doc_model::{Entry, User};
 use left_right::Absorb;
 use peek_lines::PeekAnswer;
 use rule_contexts::context_over;
@@ -28,6 +27,7 @@ use snap_reads::Shot;
 use std::alloc::{AllocError, Global};
 use std::collections::LinkedList;
 use std::marker::Model;
+use table_copies::{copy_table, nothing_shown_law, shown_alike_law};
 use user_attrs::load_attributes;
 
 /// A document with its evaluated cells and its open sessions, as a history led to them. It has no
@@ -86,37 +86,41 @@ impl DocumentShot {
         })
     }
 
-    // The table of that id as a user sees it, alone; nothing where the user does not see it.
+    // A copy of the table of that id, with what is in force for the user.
     #[tactic(auto, using(crate::proofs::SeenLaws::laid_out_by))]
-    fn table_seen(&self, user: &User, table: &CellText) -> Result<View, AllocError>
-        ensures seen { Stands (shown_after self.now) → IfOk result (λ v. v.tables
-            ≡ asked_table table.now (view user.now (shown_after self.now).document)) }
-        ensures is_view { IfOk result (λ v. IsView v.tables) }
+    fn look_at(&self, user: &User, table: &CellText) -> Result<Look, AllocError>
+        ensures { Stands (shown_after self.now) → IfOk result
+            (λ l. looked table.now l ≡ table_answer (asked_table table.now
+            (view user.now (shown_after self.now).document))) }
     {
-        let tables = &self.document.tables;
-        let attributes = load_attributes(self.alloc, tables)?;
+        shown_alike_law();
+        nothing_shown_law();
+        let (alloc, tables) = (self.alloc, &self.document.tables);
+        let Some(table) = copy_table(alloc, &self.document, table.as_str())? else {
+            return Ok(Look::Told(PeekAnswer::NoSuchTable));
+        };
+        let attributes = load_attributes(alloc, tables)?;
         let attributes = attributes.as_slice();
-        let ctx = context_over(self.alloc, tables, &self.document, attributes, user)?;
-        shown_table(self.alloc, &self.document, &ctx, table.as_str())
+        let ctx = context_over(alloc, tables, &self.document, attributes, user)?;
+        Ok(Look::Table(TableLook { alloc, ctx, table }))
     }
 
-    /// What a session is answered that peeks at a table.
+    /// What answers a session that peeks at a table, when the shot is left.
     ///
     /// Errors: out of memory.
-    /// Cost: reading the rules, for each attribute of users a walk over its table, and the rows of
+    /// Cost: reading the rules, for each attribute of users a walk over its table, and a copy of
     /// the table.
-    pub(crate) fn answer(&self, session: &Name, table: &CellText) -> Result<PeekAnswer, AllocError>
-        ensures { Stands (shown_after self.now) → IfOk result (λ a. a
+    pub(crate) fn look(&self, session: &Name, table: &CellText) -> Result<Look, AllocError>
+        ensures { Stands (shown_after self.now) → IfOk result (λ l. looked table.now l
             ≡ peek_answer (state_now (shown_after self.now).past) session.now table.now) }
     {
         let Some(found) = session_named(self.sessions.as_slice(), session) else {
-            return Ok(PeekAnswer::NotOpen);
+            return Ok(Look::Told(PeekAnswer::NotOpen));
         };
         if found.lagging {
-            return Ok(PeekAnswer::Lagged);
+            return Ok(Look::Told(PeekAnswer::Lagged));
         }
-        let seen = self.table_seen(&found.user, table)?;
-        table_answer(self.alloc, &seen)
+        self.look_at(&found.user, table)
     }
 }
 

@@ -4,17 +4,18 @@ use Rattle.std.specs.Option.{option_copied, option_map}
 use Rattle.std.specs.Str.{bytes_eq}
 use Rattle.doc_model.specs.Document.{Document}
 use Rattle.rule_contexts.specs.Context.{view}
-use Rattle.peek_lines.specs.declared.answers.PeekAnswer.{PeekAnswer}
 use Rattle.shot_cells.specs.Places.{seen_at}
 use Rattle.bundle_core.specs.KeptCore.{state_now}
 use Rattle.bundle_core.specs.Mailbox.{asked_table}
 use Rattle.bundle_core.specs.State.{State, session_of}
+use Rattle.document_shot.specs.Looks.{looked}
+use Rattle.document_shot.specs.declared.look.Look.{Look}
 use Rattle.document_shot.specs.PeekAnswers.{peek_answer, table_answer}
 use Rattle.document_shot.specs.Shots.{Shown, Shows, shown_after, shown_session}
 use Rattle.document_shot.specs.declared.sessions.ShotSession.{ShotSession}
 use Rattle.document_shot.specs.declared.trail.DocumentStep.{DocumentStep}
 use Rattle.document_shot.proofs.AnswerLemmas.{answers_lagging, answers_none, answers_table, found_session}
-use Rattle.document_shot.proofs.shot.DocumentShot.answer.Goals as goal
+use Rattle.document_shot.proofs.shot.DocumentShot.look.Goals as goal
 
 pub returns-in_default : goal.returns-in_default
 returns-in_default c =
@@ -53,8 +54,5 @@ returns c =
     let found : Some x ≡ option_map shown_session (session_of name st) =
     ap option_copied (sym c.in-Some.is) ∙ found_session name st inner.sessions.items (option_copied c.session_named.result) (shows.open_sessions ∙ stands.sessions)
     (c.session_named.ensures ∙ ap (find (λ (y : ShotSession). bytes_eq y.name name)) c.as_slice.ensures.value) in
-    let ts = c.in_ok-seen.seen.tables in
-    let shown : ts ≡ asked_table table (view x.user st.document) =
-    c.in_ok-seen.ensures.seen stands ∙ ap (λ (d : Document). asked_table table (view x.user d)) stands.document in
-    IfOk-weaker c.table_answer.result (λ (a : PeekAnswer). a ≡ table_answer ts) (λ (a : PeekAnswer). a ≡ peek_answer st name table)
-    (λ a h. h ∙ answers_table st name table x ts found c.if-found.false shown) c.table_answer.ensures
+    IfOk-weaker c.look_at.result (λ (l : Look). looked table l ≡ table_answer (asked_table table (view x.user v.document))) (λ (l : Look). looked table l ≡ peek_answer st name table)
+    (λ l h. h ∙ answers_table st name table x (asked_table table (view x.user v.document)) found c.if-found.false (ap (λ (d : Document). asked_table table (view x.user d)) stands.document)) (c.look_at.ensures stands)

@@ -312,7 +312,7 @@ RULES = (  # the resource, the formula, what it allows and denies
 
 
 def peeks():
-    """One connection that writes, alone and beside sixteen that look at its table of 1,000 rows: by peeks now and then and without a pause, also at another server, and by fetches."""
+    """One connection that writes beside sixteen open sessions: that look at nothing, that peek at its table of 1,000 rows now and then and without a pause, also at another server, and that fetch it; and looks a second where nobody writes."""
     lookers, port, milliseconds = 16, 21600, size(3_000)
 
     def started(first, count):
@@ -322,12 +322,12 @@ def peeks():
         server.stdin.close()
         return server
 
-    def rival_words(first, count, method, pause, quiet=0, more=0):
+    def rival_words(first, count, method, pause, quiet, more=0):
         return [rival, str(first), str(count), method, str(milliseconds + more), str(pause), str(quiet)]
 
-    def speeds(count, method="peekTable", pause=0):
+    def speeds(count, method="peekTable", pause=0, quiet=0):
         server = started(port, count)
-        found = scripts.numbers_told(rival_words(port, count, method, pause))
+        found = scripts.numbers_told(rival_words(port, count, method, pause, quiet))
         if server.wait():
             raise SystemExit(f"the server ended with {server.returncode}")
         return found
@@ -335,23 +335,34 @@ def peeks():
     def apart():
         """The one that writes, at one server, beside those that peek at another."""
         other = started(port + 100, lookers)
-        looking = subprocess.Popen(rival_words(port + 100, lookers, "peekTable", 0, quiet=1, more=1_000), stdout=subprocess.DEVNULL)
+        looking = subprocess.Popen(rival_words(port + 100, lookers, "peekTable", 0, 1, more=1_000), stdout=subprocess.DEVNULL)
         found = speeds(0)
         looking.wait()
         other.wait()
         return found
 
+    def turn():
+        yield speeds(0)
+        yield speeds(lookers, "none", pause=50_000)
+        yield speeds(lookers, pause=50_000)
+        yield speeds(lookers)
+        yield apart()
+        yield speeds(lookers, "fetchTable")
+        yield speeds(lookers, quiet=1)
+        yield speeds(lookers, "fetchTable", quiet=1)
+
     with tempfile.TemporaryDirectory() as folder:
         rival = scripts.compiled(folder, "peeks.c", "-lpthread")
-        turns = [(speeds(0), speeds(lookers, pause=50_000), speeds(lookers), apart(), speeds(lookers, "fetchTable")) for _ in range(3)]
-    alone, resting, peeking, elsewhere, fetching = (max(one[0] for one in it) for it in zip(*turns))
-    peeked, fetched = (max(it[place][1] for it in turns) for place in (2, 4))
+        turns = [list(turn()) for _ in range(3)]
+    alone, beside, resting, peeking, elsewhere, fetching = (max(it[place][0] for it in turns) for place in range(6))
+    peeked, fetched, peeked_alone, fetched_alone = (max(it[place][1] for it in turns) for place in (3, 5, 6, 7))
     yield "bundles a second of one connection that writes", f"{alone:,.0f}", ""
-    yield f"the same beside {lookers} that peek at its table of 1,000 rows, each up to 20 times a second", f"{resting / alone:.2f} of those alone", "0.9"
-    yield f"the same beside {lookers} that peek without a pause", f"{peeking / alone:.2f} of those alone", ""
-    yield f"the same beside {lookers} that peek so at another server", f"{elsewhere / alone:.2f} of those alone", ""
-    yield f"the same beside {lookers} that fetch it", f"{fetching / alone:.2f} of those alone", ""
-    yield "peeks a second without a pause", f"{peeked:,.0f}, {peeked / fetched:.1f} times the fetches", "4"
+    yield f"the same beside {lookers} open sessions that look at nothing", f"{beside:,.0f}", ""
+    yield f"the same beside {lookers} that peek at its table of 1,000 rows, each up to 20 times a second", f"{resting / beside:.2f} of those that look at nothing", "0.9"
+    yield f"the same beside {lookers} that peek without a pause", f"{peeking / alone:.2f} of one alone", ""
+    yield f"the same beside {lookers} that peek so at another server", f"{elsewhere / alone:.2f} of one alone", ""
+    yield f"the same beside {lookers} that fetch it", f"{fetching / alone:.2f} of one alone", ""
+    yield "peeks a second without a pause, and where nobody writes", f"{peeked:,.0f}, {peeked / fetched:.1f} times the fetches; {peeked_alone:,.0f}, {peeked_alone / fetched_alone:.1f} times", "4"
 
 
 def task(row):

@@ -6,7 +6,8 @@
 Starts `PROGRAM serve` on ports of 127.0.0.1 that nobody uses. Two connections each say their second line only once
 the other was answered, so both are answered where lanes run at the same time, and neither where one is served after
 the other. Sessions that change nothing are written what `PROGRAM replay` gives one alone. Two that add a record each
-are counted, and so are their requests; words of no form serve nobody. Its status is 1 where anything differs.
+are counted, and so are their requests. A session that lags is told so and ends. Words of no form serve nobody. Its
+status is 1 where anything differs.
 """
 import json
 import pathlib
@@ -19,7 +20,9 @@ from scripts import USER
 OPEN = b'{"method":"openDoc","token":"ta"}\n'
 SYNC = b'{"method":"sync"}\n'
 ADD = b'{"actions":[["AddRecord","Table1",null,{"A":1}]],"method":"applyUserActions"}\n'
+CHANGES = [b'{"actions":[["UpdateRecord","Table1",1,{"A":%d}]],"method":"applyUserActions"}\n' % value for value in (2, 1)]
 CLOSE = b'{"method":"closeDoc"}\n'
+LAGGED = b'{"error":{"code":21,"name":"Lagged"}}\n'
 
 
 def alone(program, *lines):
@@ -62,6 +65,29 @@ def counting(program):
     return None if told == (b'{"bundles":2,"connections":2,"entries":6}\n', 0) else f"the server told {told}"
 
 
+def lagging(program):
+    """Whether a session that asks for nothing while another adds a row and changes it 4,096 times is told 4,096 lines and that it lags, and ends."""
+    server = Server(program)
+    try:
+        server.ask(1, OPEN)
+        server.ask(0, OPEN)
+        server.ask(0, ADD)
+        for change in CHANGES * 2_048:
+            server.ask(0, change)
+        told = server.ask(1, SYNC + SYNC)
+        behind = server.lines[1].readline()
+        if b'"ok"' not in server.ask(0, CLOSE):
+            return "who writes beside a session that lags is refused"
+    except (OSError, subprocess.TimeoutExpired) as fault:
+        return f"a session that lags is not answered: {fault}"
+    finally:
+        server.stop()
+    lines = told.splitlines(keepends=True)
+    if len(lines) != 4_097 or lines[-1] != LAGGED or behind:
+        return f"a session that lags is told {len(lines)} lines, the last {lines[-1:]}, and then {behind}"
+    return None
+
+
 def no_form(program):
     """Whether words of no form serve nobody."""
     words = [program, "serve", "--lanes", "0", "--port", "4000", "--conns", "1"]
@@ -71,10 +97,10 @@ def no_form(program):
 
 def main(program):
     program = str(pathlib.Path(program).resolve())
-    faults = [fault for fault in (meeting(program), counting(program), no_form(program)) if fault]
+    faults = [fault for fault in (meeting(program), counting(program), lagging(program), no_form(program)) if fault]
     for fault in faults:
         print(fault)
-    print(f"lanes: {3 - len(faults)} passed, {len(faults)} failed")
+    print(f"lanes: {4 - len(faults)} passed, {len(faults)} failed")
     return 1 if faults else 0
 
 

@@ -1,7 +1,8 @@
 /* One connection that writes and so many that look at a table, for so many milliseconds.
    peeks PORT LOOKERS METHOD MILLISECONDS PAUSE QUIET: bundles and looks a second. The writer is at PORT, the others
    behind it; it changes rows of a table of 1,000 rows that it adds first, and no more where QUIET is 1. METHOD is
-   peekTable or fetchTable. Who looks rests for PAUSE microseconds behind each look. */
+   peekTable, fetchTable, or none, which looks at nothing. Who looks rests for PAUSE microseconds behind each look and
+   asks `sync` four times a second, since too many lines that wait would close its session. */
 #include <arpa/inet.h>
 #include <netinet/tcp.h>
 #include <pthread.h>
@@ -55,12 +56,16 @@ static void *writes(void *at) {
   return 0;
 }
 static void *looks_at(void *at) {
-  int s = joined(port + (int)(long)at); FILE *in; char text[64]; long n = 0;
+  int s = joined(port + (int)(long)at), idle = !strcmp(method, "none"); FILE *in; char text[64]; long n = 0; double synced;
   pthread_barrier_wait(&filled);
   in = opened(s);
   snprintf(text, sizeof text, "{\"method\":\"%s\",\"table\":\"Table1\"}\n", method);
-  pthread_barrier_wait(&ready);
-  for (; !over; n++) { ask(s, in, text); if (pause_us) usleep(pause_us); }
+  pthread_barrier_wait(&ready); synced = now();
+  while (!over) {
+    if (now() - synced > 0.25) { ask(s, in, "{\"method\":\"sync\"}\n"); synced = now(); }
+    if (!idle) { ask(s, in, text); n++; }
+    if (pause_us) usleep(pause_us);
+  }
   __atomic_fetch_add(&looks, n, __ATOMIC_RELAXED);
   pthread_barrier_wait(&ready); shutdown(s, SHUT_WR);
   return 0;

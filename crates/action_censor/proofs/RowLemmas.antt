@@ -14,6 +14,7 @@ use Rattle.doc_model.specs.Rows.{has, insert_rows, without, IsAscending}
 use Rattle.doc_model.specs.Touched.{is_about, names_table}
 use Rattle.doc_model.proofs.RowsLaws.{has-filter, has-insert_rows}
 use Rattle.censored_view.proofs.SortedRows.{among}
+use Rattle.censored_view.proofs.RowWalk.{map_one}
 use Rattle.action_censor.specs.Back.{all_rows_back, rows_back}
 use Rattle.action_censor.specs.Step.{Step, are_records, is_in_row, is_of_records, is_row_in, is_row_of}
 use Rattle.action_censor.specs.Touched.{cell_rows, first_there, rows_in, rows_named, rows_told, told_there}
@@ -113,10 +114,6 @@ read_again : (xs : List ℕ) (i : ℕ) → i < length xs → get_or xs i 0 ≡ g
 read_again [] i lt = absurd (omega (arith, lt))
 read_again (z ∷ xs) zero lt = refl
 read_again (z ∷ xs) (suc i) lt = read_again xs i (omega (arith, lt))
-
-map_one : {X Y : Type 0} (f : X → Y) (b : Bool) (x : X) → map f (cond b (x ∷ []) []) ≡ cond b (f x ∷ []) []
-map_one f true x = refl
-map_one f false x = refl
 
 -- one number more, where it passes
 pub kept_next : {Y : Type 0} (p : ℕ → Bool) (f : ℕ → Y) (rs : List ℕ) (i : ℕ) (ys zs : List Y) → i < length rs → ys ≡ map f (filter p (take i rs))

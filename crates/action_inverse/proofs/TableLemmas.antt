@@ -16,28 +16,11 @@ use Rattle.doc_model.specs.Grid.{Grid}
 use Rattle.doc_model.specs.Document.{Table, Document, table_id}
 use Rattle.doc_model.specs.Inverse.{inverse, made_of, old_columns, data_columns, table_again}
 use Rattle.doc_model.specs.MetadataIds.{is_schema_id}
-use Rattle.doc_model.specs.Readers.{column_at}
 use Rattle.doc_model.specs.Schema.{no_grid}
 use Rattle.doc_model.specs.Valid.{passes, record_table, valid}
 use Rattle.doc_model.proofs.DocumentParts.{passes_parts}
 use Rattle.action_inverse.specs.Parts.{info_back}
 use Rattle.doc_readers.specs.Parts.{grid_at}
-
-pub column_read : (s : Document) (t : List ℕ) (i : ℕ) (d : ColDef) → column_at s t i ≡ Some d → slice_get (grid_at s t).columns i ≡ Some d
-column_read s t i d h =
-    elim (find_id table_id t s) as (λ (o : Option Table). elim o as (λ _. Option ColDef) [ None ↦ None | Some t ↦ slice_get t.grid.columns i ] ≡ Some d
-    → slice_get (elim o as (λ _. Grid ColDef) [ None ↦ no_grid | Some t ↦ t.grid ]).columns i ≡ Some d) [
-      | None ↦ λ e. absurd (cc)
-      | Some t ↦ λ e. e
-    ] h
-
-pub column_past : (s : Document) (t : List ℕ) (i : ℕ) → column_at s t i ≡ None → slice_get (grid_at s t).columns i ≡ None
-column_past s t i h =
-    elim (find_id table_id t s) as (λ (o : Option Table). elim o as (λ _. Option ColDef) [ None ↦ None | Some t ↦ slice_get t.grid.columns i ] ≡ None
-    → slice_get (elim o as (λ _. Grid ColDef) [ None ↦ no_grid | Some t ↦ t.grid ]).columns i ≡ None) [
-      | None ↦ λ e. refl
-      | Some t ↦ λ e. e
-    ] h
 
 module _ (cols xs ys : List ColDef) (d : ColDef) (n : ℕ) (counts : n ≡ length xs) (at : slice_get cols n ≡ Some d) (made : ys ≡ xs ++ d ∷ []) where
   one_longer : length ys ≡ n + 1

@@ -9,7 +9,7 @@ mod ClearingMoves
 mod RenamingMoves
 mod ModifyMoves
 mod StepMoves
-mod RenameMoves
+pub mod RenameMoves
 mod AddMoves
 mod SchemaGrowth
 mod Bringing

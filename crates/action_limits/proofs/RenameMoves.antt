@@ -58,7 +58,7 @@ pub record TellsRenaming (s : Document) (m e : Counted) (steps : List Step) : Ty
 abbrev is_still : Step → Bool
 is_still x = is_quiet x.action && not (is_update x.action)
 
-apply_all-append : (s : Document) (as' bs : List DocAction) → apply_all s (as' ++ bs) ≡ apply_all (apply_all s as') bs
+pub apply_all-append : (s : Document) (as' bs : List DocAction) → apply_all s (as' ++ bs) ≡ apply_all (apply_all s as') bs
 apply_all-append s [] bs = refl
 apply_all-append s (a ∷ as') bs = apply_all-append (apply s a) as' bs
 

@@ -4,14 +4,14 @@ mod NamedLemmas
 pub mod SamePlaces
 mod WaysBack
 pub mod HeldNone
-mod RowCellLemmas
+pub mod RowCellLemmas
 pub mod IndexLemmas
 pub mod LeftIndexes
 mod TradedLemmas
 mod ExchangedLemmas
 pub mod RelaidLemmas
 pub mod LaidLemmas
-mod RowsOver
+pub mod RowsOver
 mod AlteredLemmas
 mod FormulaCells
 mod CarriedLemmas

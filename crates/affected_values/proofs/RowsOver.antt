@@ -45,7 +45,7 @@ same_formula s t a fresh c (inl same) = same.1 ∙ sym same.0
 same_formula s t a fresh c (inr same) = same.2 ∙ sym same.1
 
 -- cells of other rows have the formulas that they had
-formula_apart : (s : Document) (a : DocAction) (t : List ℕ) → moved_table a ≡ Some t → valid s a ≡ true
+pub formula_apart : (s : Document) (a : DocAction) (t : List ℕ) → moved_table a ≡ Some t → valid s a ≡ true
     → (c : CellId) → (bytes_eq c.table t && has (moved_rows a) c.row) ≡ false → formula_at (apply s a) c ≡ formula_at s c
 formula_apart s (BulkAdd u rows ks) t h ok c other =
     same_formula s (apply s (BulkAdd u rows ks)) (BulkAdd u rows ks) (is_fresh_cell s (BulkAdd u rows ks)) c
@@ -62,7 +62,7 @@ formula_apart s (RemoveColumn u k) t h ok c other = absurd (none_some t h)
 formula_apart s (RenameColumn u k n) t h ok c other = absurd (none_some t h)
 formula_apart s (ModifyColumn u k i) t h ok c other = absurd (none_some t h)
 
-not_modified : (a : DocAction) (t : List ℕ) → moved_table a ≡ Some t → (c : CellId) → is_modified a c ≡ false
+pub not_modified : (a : DocAction) (t : List ℕ) → moved_table a ≡ Some t → (c : CellId) → is_modified a c ≡ false
 not_modified (BulkAdd u rows ks) t h c = refl
 not_modified (BulkRemove u rows) t h c = refl
 not_modified (BulkUpdate u rows ks) t h c = refl

@@ -29,7 +29,8 @@ use Rattle.agreeing_contexts.specs.Agreement.{Agree, AreSameIn, IsSameIn}
 use Rattle.agreeing_contexts.specs.AgreementLaws.{DecisionLaw, ReadingLaw, asked_in}
 use Rattle.agreeing_contexts.specs.Fields.{all_fields, atom_fields, formula_fields, item_fields, mentioned_fields, rule_fields, tree_fields}
 use Rattle.agreeing_contexts.specs.declared.field.UserField.{UserField}
-use Rattle.agreeing_contexts.proofs.FieldLemmas.{all_both, all_left, all_right, gathered_all}
+use Rattle.agreeing_contexts.proofs.FieldLemmas.{all_both, gathered_all}
+use Rattle.acl_rules.proofs.NarrowLemmas.{all_right, all_left}
 
 module _ (u v : UserInfo) (one : u.user ≡ v.user) where
   abbrev AreSame : List UserField → Type 0

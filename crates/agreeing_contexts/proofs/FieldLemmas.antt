@@ -3,6 +3,7 @@ use Rattle.std.proofs.Common.{◌≡◌, ◌∙◌, ap, refl, sym, subst, ℕ, z
 use Rattle.std.proofs.lemmas.Bool.{and_parts}
 use Rattle.std.proofs.lemmas.Slice.Eq.{bytes_eq-Decides}
 use Rattle.std.specs.List.{AllByRecursion, list_any}
+use Rattle.acl_rules.proofs.NarrowLemmas.{all_left, all_right}
 use Rattle.agreeing_contexts.specs.Fields.{gathered, same_field, with_field}
 use Rattle.agreeing_contexts.specs.declared.field.UserField.{UserField}
 
@@ -20,14 +21,6 @@ pub drop_next : {X : Type 0} (xs : List X) (i : ℕ) (x : X) → i < length xs �
 drop_next xs i x lt is = rw (add-one i) (drop_step xs i x lt is)
 
 -- ---- what holds of the gathered fields
-
-pub all_left : {X : Type 0} (P : X → Type 0) (xs ys : List X) → AllByRecursion P (xs ++ ys) → AllByRecursion P xs
-all_left P [] ys h = tt
-all_left P (x ∷ xs) ys h = (h.0, all_left P xs ys h.1)
-
-pub all_right : {X : Type 0} (P : X → Type 0) (xs ys : List X) → AllByRecursion P (xs ++ ys) → AllByRecursion P ys
-all_right P [] ys h = h
-all_right P (x ∷ xs) ys h = all_right P xs ys h.1
 
 pub all_both : {X : Type 0} (P : X → Type 0) (xs ys : List X) → AllByRecursion P xs → AllByRecursion P ys → AllByRecursion P (xs ++ ys)
 all_both P [] ys h k = k

@@ -53,7 +53,8 @@ use Rattle.bundle_judge.specs.JudgedBundles.{after_steps}
 use Rattle.bundle_judge.specs.Judgement.{Judgement, accepted, refused, created_at, judge, judge_from, limited, opposed, opposed_at, refusal_at, with_before}
 use Rattle.bundle_judge.specs.Undo.{judge_own_undo, judge_undo, stale_at, unfit_at}
 use Rattle.bundle_core.specs.UndoLaw.{LimitsLeaveFewIds, NewDocumentHasFewIds, has_few_columns, has_few_ids, may_be_asked}
-use Rattle.bundle_judge.proofs.JudgmentLemmas.{all_valid-append, apply_all-append}
+use Rattle.bundle_judge.proofs.JudgmentLemmas.{all_valid-append}
+use Rattle.action_limits.proofs.RenameMoves.{apply_all-append}
 
 -- ---- a whole document with few ids, and steps from one to another
 

@@ -31,6 +31,7 @@ use Rattle.bundle_judge.specs.Created.{created_of}
 use Rattle.bundle_judge.specs.declared.judging.BundlePlan.{BundlePlan}
 use Rattle.bundle_judge.specs.declared.judging.JudgedBundle.{JudgedBundle}
 use Rattle.rule_contexts.specs.Context.{carry_all, context, view_in}
+use Rattle.action_limits.proofs.RenameMoves.{apply_all-append}
 use Rattle.bundle_judge.specs.Denials.{denial_of, or_else}
 use Rattle.bundle_judge.specs.JudgedBundles.{IsBundlePlan, IsJudgedBundle, after_steps}
 use Rattle.bundle_judge.specs.JudgedActions.{IsAt, IsActionPlan}
@@ -74,10 +75,6 @@ opposed_refused x s i a v e = ap (λ o. or_else o (denial_of x s i (steps_of s a
 -- a denial of its steps is its refusal
 pub denied_refused : (x : Ctx) (s : Document) (i : ℕ) (a : UserAction) (n : ActionPlan) (v : BareVerdict) → IsActionPlan x s i a n → denial_of x s i n.steps ≡ Some v → refusal_at x s i a ≡ Some v
 denied_refused x s i a n v plan e = ap (λ o. or_else o (denial_of x s i (steps_of s a))) plan.unopposed ∙ ap (denial_of x s i) (sym plan.steps) ∙ e
-
-pub apply_all-append : (s : Document) (as' bs : List DocAction) → apply_all s (as' ++ bs) ≡ apply_all (apply_all s as') bs
-apply_all-append s [] bs = refl
-apply_all-append s (a ∷ as') bs = apply_all-append (apply s a) as' bs
 
 pub all_valid-append : (s : Document) (as' bs : List DocAction) → all_valid s as' ≡ true → all_valid (apply_all s as') bs ≡ true → all_valid s (as' ++ bs) ≡ true
 all_valid-append s [] bs h k = k

@@ -17,7 +17,8 @@ use Rattle.bundle_judge.specs.JudgedBundles.{IsBundlePlan, after_steps}
 use Rattle.bundle_judge.specs.Judgement.{Judgement, accepted, refused, with_before}
 use Rattle.bundle_judge.specs.Undo.{judge_undo, stale_at, unfit_at}
 use Rattle.bundle_judge.specs.UndoneSteps.{IsUndoAt, MayGoOn}
-use Rattle.bundle_judge.proofs.JudgmentLemmas.{apply_all-append, all_valid-append, with_before-accepted, with_before-both, with_before-nothing}
+use Rattle.bundle_judge.proofs.JudgmentLemmas.{all_valid-append, with_before-accepted, with_before-both, with_before-nothing}
+use Rattle.action_limits.proofs.RenameMoves.{apply_all-append}
 use Rattle.bundle_judge.proofs.RollbackLemmas.{left_at, nothing_left}
 use Rattle.bundle_judge.proofs.TakeLemmas.{map_take_next}
 

@@ -31,7 +31,7 @@ use Rattle.bundle_traces.specs.TraceLaws.{BundleLaw, steps_done}
 use Rattle.bundle_traces.proofs.RecordActions.{Leads, leads}
 use Rattle.bundle_traces.proofs.Traces.{is_step}
 
-grid_is : (s : Document) → IsLaidOut s → (t : List ℕ) → IsGrid column_id (grid_at s t)
+pub grid_is : (s : Document) → IsLaidOut s → (t : List ℕ) → IsGrid column_id (grid_at s t)
 grid_is s laid t =
     elim (find_id table_id t s) as (λ (o : Option Table). find_id table_id t s ≡ o → IsGrid column_id (elim o as (λ _. Grid ColDef) [ None ↦ no_grid | Some u ↦ u.grid ])) [
       | None ↦ λ _. record { distinct = tt; ascending = tt; height = refl; width = tt }

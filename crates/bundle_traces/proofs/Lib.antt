@@ -1,4 +1,4 @@
 mod LostCells
 mod RecordActions
 mod Traces
-mod Bundles
+pub mod Bundles

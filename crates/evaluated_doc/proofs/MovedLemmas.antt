@@ -37,6 +37,7 @@ use Rattle.known_reads.specs.Moved.{ReadsOverLaw, ReadsSameAfter, RowsStayLaw}
 use Rattle.known_reads.specs.Recorded.{KnowsBut}
 use Rattle.known_reads.specs.Watched.{AreBefore}
 use Rattle.known_reads.proofs.BesideLemmas.{read_same}
+use Rattle.known_reads.proofs.MovedLemmas.{some_same}
 use Rattle.evaluated_doc.specs.declared.moving.Moved.{Moved}
 use Rattle.evaluated_doc.specs.Moved.{IsMoved, IsMoving, LeadsFromRows}
 
@@ -95,9 +96,6 @@ module _ {X : Type 0} (part : Grid ColDef → X) (none : X) where
       → apply s a ≡ with_table t (on_grid f) s → part (grid_at (apply s a) t) ≡ R (part (grid_at s t))
   part_moved s a t f R h still empty done =
       at_grid (apply s a) t empty ∙ ap (λ d. part_of (find_id table_id t d)) done ∙ part_mapped t f R h still s ∙ sym (ap R (at_grid s t empty))
-
-some_same : (x y : List ℕ) → Some x ≡ Some y → x ≡ y
-some_same x y e = cc
 
 -- rows come or go under the columns that there were
 pub columns_moved : (s : Document) (a : DocAction) (t : List ℕ) → valid s a ≡ true → moved_table a ≡ Some t → (grid_at (apply s a) t).columns ≡ (grid_at s t).columns

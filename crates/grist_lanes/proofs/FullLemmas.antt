@@ -16,7 +16,8 @@ use Rattle.grist_serve.specs.Link.{DoesNothing, TellsGone}
 use Rattle.grist_serve.specs.ShotLink.{EndsBy, ServesShotLink, StopsFull}
 use Rattle.grist_serve.specs.Standing.{Standing, starts_at}
 use Rattle.grist_json.specs.Requests.{request_at}
-use Rattle.grist_serve.specs.Requests.{asked_by, is_blank, is_long, line_entries}
+use Rattle.io_edges.specs.Lines.{is_blank, is_long}
+use Rattle.grist_serve.specs.Requests.{asked_by, line_entries}
 use Rattle.grist_serve.specs.Turns.{entry_in}
 use Rattle.grist_lanes.specs.FullEnds.{FullLaw, IsNearlyFull}
 use Rattle.grist_lanes.specs.InHistory.{Begins, IsInHistory}

@@ -13,7 +13,8 @@ use Rattle.grist_json.specs.Requests.{request_at}
 use Rattle.bundle_core.specs.Core.{entry_of}
 use Rattle.grist_serve.specs.Answered.{Answered, Asked, LastCloses, LastMayClose, NoneCloses, asked_of, asks_of, bytes_given, line_asks, peeked, turned, turns_among}
 use Rattle.grist_serve.specs.Link.{DoesNothing, TellsGone, gone_entries}
-use Rattle.grist_serve.specs.Requests.{asked_by, is_blank, is_long, line_entries}
+use Rattle.io_edges.specs.Lines.{is_blank, is_long}
+use Rattle.grist_serve.specs.Requests.{asked_by, line_entries}
 use Rattle.grist_serve.specs.ShotAnswering.{Answers}
 use Rattle.grist_serve.specs.ShotLink.{EndsBy, ServesShotLink}
 use Rattle.grist_serve.specs.Standing.{Goes, Rests, Standing, starts_at}

@@ -16,14 +16,15 @@ use Rattle.grist_run.specs.declared.status.Status.{Status}
 use Rattle.grist_run.specs.declared.status.Status.TheVariants.{Done, Usage, BadUsers, ReadFault, WriteFault, StoreFault, NoMemory, BadStore, TurnsSpent, PortFault, HistoryFull}
 use Rattle.grist_run.specs.Admission.{all_asked}
 use Rattle.grist_run.specs.Hearing.{IsAt, Nothing, EndsHearing}
-use Rattle.grist_run.specs.Run.{CameFirst, Runs, IsRun, StopsReading, StopsShort, StopsUnopened}
+use Rattle.io_edges.specs.Came.{CameFirst}
+use Rattle.grist_run.specs.Run.{Runs, IsRun, StopsReading, StopsShort, StopsUnopened}
 use Rattle.grist_run.specs.Script.{entries_of}
 use Rattle.grist_run.specs.Sending.{SendsPart}
 use Rattle.grist_run.specs.Serving.{EndsServing}
 use Rattle.grist_run.specs.Starting.{start_status}
 use Rattle.grist_run.specs.UserLines.{script, script_of}
 use Rattle.grist_run.proofs.Admitting.{admitted-all, admitted-front}
-use Rattle.grist_run.proofs.Coming.{came_none}
+use Rattle.io_edges.proofs.Coming.{came_none}
 use Rattle.grist_run.proofs.Sent.{sends_all, part_all, part_front, part_of}
 
 module _ {W F V G : List ℕ → Type 0} (whole : (b : List ℕ) → W b → V b) (front : (b : List ℕ) → F b → G b) (users : List User) (start : Document) (l m : Option (List ℕ)) (h : List Entry) where

@@ -10,9 +10,10 @@ use Rattle.grist_run.specs.declared.status.Status.TheVariants.{Done, Usage, BadU
 use Rattle.grist_run.specs.declared.user_lines.Heard.TheVariants as heard
 use Rattle.grist_run.specs.Hearing.{IsHeard, IsAtLine, IsAtLast, IsAtEndOf, HeardSoFar, EndsHearing, EndsUsers}
 use Rattle.grist_run.specs.Reading.{ReadsNext}
-use Rattle.grist_run.specs.Run.{Came, CameFirst, Serves}
+use Rattle.io_edges.specs.Came.{Came, CameFirst}
+use Rattle.grist_run.specs.Run.{Serves}
 use Rattle.grist_run.specs.UserLines.{Saying, passes, adds, fails, ends, saying, script, bad_user, script_of}
-use Rattle.grist_run.proofs.Coming.{came_none, came_part, came_line, came_last, came_end, came_fault, came_spent}
+use Rattle.io_edges.proofs.Coming.{came_none, came_part, came_line, came_last, came_end, came_fault, came_spent}
 use Rattle.grist_run.proofs.Kept.{kept_saying}
 use Rattle.grist_run.proofs.Said.{said_nothing, said_user, said_bad, said_request}
 

@@ -1,7 +1,6 @@
 pub mod Sent
 pub mod Answered
 pub mod Kept
-pub mod Coming
 pub mod Said
 pub mod Admitting
 pub mod HeardLaws

@@ -3,25 +3,12 @@ use Rattle.std.proofs.Common.{◌≡◌, ℕ, ◌+◌, ◌<◌, List, [], ◌∷
 use Rattle.std.proofs.lemmas.List.{take_more, take-append-drop}
 use Rattle.std.specs.Io.KnownBytes.{Appends}
 use Rattle.io_edges.specs.Sending.{Sends, SendsFront}
-use Rattle.io_edges.proofs.SendingLemmas.{appends_both, appends_none}
+use Rattle.io_edges.proofs.SendingLemmas.{appends_both, appends_none, joined, sends_after}
 use Rattle.grist_json.specs.Lines.{frame_text}
 use Rattle.bundle_core.specs.Frames.{framed}
 use Rattle.grist_run.specs.Sending.{SendsPart}
 
--- what was sent first and what was sent of the rest
-joined : (a b f v g r : List ℕ) → a ≡ f ++ v → v ++ b ≡ g ++ r → a ++ b ≡ (f ++ g) ++ r
-joined a b f v g r first second =
-    ap (λ l. l ++ b) first ∙ append_assoc f v b ∙ ap (λ l. f ++ l) second ∙ sym (append_assoc f g r)
-
 module _ (a b v : List ℕ) {x y z : Option (List ℕ)} where
-  -- more was sent behind what waited
-  pub sends_after : (w : List ℕ) → Sends a v x y → Sends (v ++ b) w y z → Sends (a ++ b) w x z
-  sends_after w s t = record {
-    front = s.front ++ t.front;
-    split = joined a b s.front v t.front w s.split t.split;
-    written = appends_both x y z s.front t.front s.written t.written;
-  }
-
   -- not all of it was
   pub part_after : (w : List ℕ) → Sends a v x y → SendsPart (v ++ b) w y z → SendsPart (a ++ b) w x z
   part_after w s t = record {

@@ -17,16 +17,18 @@ use Rattle.grist_run.specs.Admission.{admitted, all_asked, takes_all, stops_at}
 use Rattle.grist_run.specs.Answering.{Answers, AnswersAll, AnswersPart, FindsFull}
 use Rattle.grist_run.specs.Hearing.{IsAt, IsAtLine, IsAtLast, IsAtEndOf}
 use Rattle.grist_run.specs.Reading.{ReadsNext}
-use Rattle.grist_run.specs.Run.{Came, CameFirst, Serves}
+use Rattle.io_edges.specs.Came.{Came, CameFirst}
+use Rattle.grist_run.specs.Run.{Serves}
 use Rattle.grist_run.specs.Script.{line_entries, entries_of}
 use Rattle.grist_run.specs.Sending.{frames_of, SendsPart}
 use Rattle.grist_run.specs.Serving.{IsServing, TakesTurn, EndsServing}
 use Rattle.grist_run.specs.UserLines.{script, script_of}
 use Rattle.grist_run.proofs.Admitting.{admitted-append, admitted-all}
-use Rattle.grist_run.proofs.Coming.{came_part, came_line, came_last, came_end, came_fault, came_spent}
+use Rattle.io_edges.proofs.Coming.{came_part, came_line, came_last, came_end, came_fault, came_spent}
 use Rattle.grist_run.proofs.Kept.{kept_entries}
 use Rattle.grist_run.proofs.Said.{script-asks_more}
-use Rattle.grist_run.proofs.Sent.{sends_after, part_after, part_of}
+use Rattle.io_edges.proofs.SendingLemmas.{sends_after}
+use Rattle.grist_run.proofs.Sent.{part_after, part_of}
 
 entries-push : (ls : List (List ℕ)) (t : List ℕ) → entries_of (ls ++ t ∷ []) ≡ entries_of ls ++ line_entries t
 entries-push [] t = append-nil (line_entries t)

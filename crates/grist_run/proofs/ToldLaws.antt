@@ -10,13 +10,14 @@ use Rattle.io_edges.proofs.LineLemmas.{lines_of-stream_of}
 use Rattle.grist_run.specs.declared.status.Status.{Status}
 use Rattle.grist_run.specs.declared.status.Status.TheVariants.{Done, Usage, BadUsers, ReadFault, WriteFault, StoreFault, NoMemory, BadStore, TurnsSpent, PortFault, HistoryFull}
 use Rattle.grist_run.specs.Admission.{admitted, all_asked, takes_all, stops_at}
-use Rattle.grist_run.specs.Run.{Came, CameAll, CameFirst, IsRun}
+use Rattle.io_edges.specs.Came.{Came, CameAll, CameFirst}
+use Rattle.grist_run.specs.Run.{IsRun}
 use Rattle.grist_run.specs.Script.{line_entries, entries_of}
 use Rattle.grist_run.specs.Sending.{frames_of}
 use Rattle.grist_run.specs.Told.{script_in, entries_in, Follows, AnswersFront, WritesFront}
 use Rattle.grist_run.specs.UserLines.{script, script_of, asking_lines, users_said}
 use Rattle.grist_run.proofs.Admitting.{admitted-all, admitted-stays, no_front, takes≢stops}
-use Rattle.grist_run.proofs.Coming.{stream_of-append}
+use Rattle.io_edges.proofs.Coming.{stream_of-append}
 use Rattle.grist_run.proofs.Said.{script-asks, script-bad}
 
 entries-append : (ls ks : List (List ℕ)) → entries_of (ls ++ ks) ≡ entries_of ls ++ entries_of ks

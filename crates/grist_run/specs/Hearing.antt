@@ -11,7 +11,8 @@ use Rattle.grist_run.specs.declared.status.Status.TheVariants.{Done, Usage, Writ
 use Rattle.grist_run.specs.declared.user_lines.Heard.{Heard}
 use Rattle.grist_run.specs.declared.user_lines.Heard.TheVariants as heard
 use Rattle.grist_run.specs.declared.user_lines.Front.{Front}
-use Rattle.grist_run.specs.Run.{Came, CameAll, CameFirst, Runs}
+use Rattle.io_edges.specs.Came.{Came, CameAll, CameFirst}
+use Rattle.grist_run.specs.Run.{Runs}
 use Rattle.grist_run.specs.UserLines.{Saying, passes, adds, fails, ends, script, script_of}
 
 -- what was heard is what the line says, and a user that was said was added

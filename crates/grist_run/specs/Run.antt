@@ -1,39 +1,18 @@
 -- What a run does: which lines it read, the history that they led to, and what it wrote.
-use Rattle.std.specs.Prelude.{◌≡◌, ◌⊎◌, ℕ, ◌≤◌, List, [], ◌++◌, length, Option}
-use Rattle.std.specs.Io.KnownBytes.{Consumes, Appends, Keeps, IsAtEnd}
+use Rattle.std.specs.Prelude.{◌≡◌, ℕ, List, [], ◌++◌, Option}
+use Rattle.std.specs.Io.KnownBytes.{Appends, Keeps}
 use Rattle.doc_model.specs.Document.{Document}
 use Rattle.doc_model.specs.declared.entry.Entry.{Entry}
 use Rattle.doc_model.specs.declared.user.User.{User}
 use Rattle.io_edges.specs.Sending.{SendsFront}
-use Rattle.io_edges.specs.Lines.{IsOneLine, AreLines, lines_of, stream_of}
+use Rattle.io_edges.specs.Lines.{IsOneLine}
+use Rattle.io_edges.specs.Came.{Came, CameAll, CameFirst}
 use Rattle.grist_run.specs.declared.status.Status.{Status}
 use Rattle.grist_run.specs.declared.status.Status.TheVariants.{Done, Usage, BadUsers, ReadFault, WriteFault, StoreFault, NoMemory, BadStore, TurnsSpent, PortFault, HistoryFull}
 use Rattle.grist_run.specs.Admission.{admitted, all_asked, takes_all, stops_at}
 use Rattle.grist_run.specs.Script.{entries_of}
 use Rattle.grist_run.specs.Sending.{frames_of}
 use Rattle.grist_run.specs.UserLines.{bad_user, script, script_of}
-
--- bytes came by at least so many reads: these lines, each with its newline, and a rest
-pub record Came (left_old left_new : Option (List ℕ)) (lines : List (List ℕ)) (rest : List ℕ)
-    (turns : ℕ) : Type 0 where
-  pub came : List ℕ
-  pub consumed : Consumes left_old left_new came
-  pub split : came ≡ stream_of lines rest
-  pub each : AreLines lines
-  pub few : turns ≤ length came
-
--- the whole input came, and these are its lines
-pub record CameAll (left_old left_new : Option (List ℕ)) (lines : List (List ℕ)) : Type 0 where
-  pub came : List ℕ
-  pub consumed : Consumes left_old left_new came
-  pub at_end : IsAtEnd left_new
-  pub split : lines_of came ≡ lines
-
--- these lines came first, whatever came behind them
-abbrev pub CameFirst : Option (List ℕ) → Option (List ℕ) → List (List ℕ) → Type 0
-CameFirst left_old left_new lines =
-    ((rest : List ℕ) × (turns : ℕ) × Came left_old left_new lines rest turns)
-    ⊎ CameAll left_old left_new lines
 
 -- the lines said these users, and what they asked for became the history; whether an entry was
 -- kept nobody asks for

@@ -1,23 +1,11 @@
 -- What the lines of an input ask for.
-use Rattle.std.specs.Prelude.{ℕ, List, [], ◌∷◌, ◌++◌, codes, Bool, true, ◌||◌, ◌==◌, nat_lt, length, Option, Some, None, if◌then◌else◌}
-use Rattle.std.specs.List.{list_all}
+use Rattle.std.specs.Prelude.{ℕ, List, [], ◌∷◌, ◌++◌, codes, true, length, Option, Some, None, if◌then◌else◌}
+use Rattle.io_edges.specs.Lines.{is_blank, is_long}
 use Rattle.doc_model.specs.declared.entry.Entry.{Entry}
 use Rattle.doc_model.specs.declared.request.Request.TheVariants.{Bad, TooLong}
 use Rattle.grist_json.specs.declared.frames.Frame.{Frame}
 use Rattle.grist_json.specs.Frames.{frame_at}
 use Rattle.bundle_core.specs.Core.{entry_of}
-
--- white space of JSON
-abbrev pub is_space : ℕ → Bool
-is_space b = (b == 32) || (b == 9) || (b == 13) || (b == 10)
-
--- a line that is passed over
-abbrev pub is_blank : List ℕ → Bool
-is_blank text = list_all is_space text
-
--- more bytes than a line may have
-abbrev pub is_long : List ℕ → Bool
-is_long text = nat_lt 1048576 (length text)
 
 -- the session of lines that are no frame; no frame can name it
 abbrev pub nobody : List ℕ

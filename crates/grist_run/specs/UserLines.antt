@@ -6,7 +6,7 @@ use Rattle.doc_model.specs.declared.user.User.{User}
 use Rattle.grist_json.specs.declared.users.UserLine.{UserLine}
 use Rattle.grist_json.specs.declared.users.UserLine.TheVariants as line
 use Rattle.grist_json.specs.Users.{user_at}
-use Rattle.grist_run.specs.Script.{is_blank, is_long}
+use Rattle.io_edges.specs.Lines.{is_blank, is_long}
 
 -- what a line says behind lines that said these users: nothing, one user more, a bad user, or that
 -- the users end

@@ -3,15 +3,13 @@ ghost use Rattle.std.specs.Prelude.{◌≡◌, true, false, IfOk, IfSome};
 ghost use Rattle.doc_model.specs.WellFormed.{asks_well_formed};
 ghost use Rattle.bundle_core.specs.Core.{is_gone};
 ghost use Rattle.grist_run.specs.LineRequests.{entries_requested};
-ghost use Rattle.grist_run.specs.Script.{is_space, is_blank, is_long, nobody, line_entries};
+ghost use Rattle.grist_run.specs.Script.{nobody, line_entries};
 
 use cell_types::{CellText, Name};
 use doc_model::Request;
 use grist_json::{Frame, read_frame};
+use io_edges::{is_blank, is_long};
 use std::alloc::{AllocError, Global};
-
-/// How many bytes a line has at most, its newline not counted.
-const MAX_LINE_BYTES: usize = 1_048_576;
 
 /// The size of a line that is too long.
 const LONG_LINE_BYTES: u32 = 1_048_577;
@@ -22,26 +20,6 @@ pub(crate) struct LineRequest {
     pub session: Name,
     pub request: Request,
     pub size: u32,
-}
-
-fn is_space(byte: u8) -> bool
-    ensures { result ≡ is_space byte }
-{
-    byte == b' ' || byte == b'\t' || byte == b'\r' || byte == b'\n'
-}
-
-/// Whether a line is white space alone, which is passed over.
-pub(crate) fn is_blank(line: &[u8]) -> bool
-    ensures { result ≡ is_blank line.now }
-{
-    line.iter().all(|byte| is_space(*byte))
-}
-
-/// Whether a line has more bytes than a line may have.
-pub(crate) fn is_long(line: &[u8]) -> bool
-    ensures { result ≡ is_long line.now }
-{
-    line.len() > MAX_LINE_BYTES
 }
 
 // The session of lines that are no frame.

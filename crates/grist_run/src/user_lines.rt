@@ -5,12 +5,11 @@ ghost use Rattle.io_edges.specs.Reading.{work_left};
 ghost use Rattle.grist_run.specs.UserLines.{adds_once, has_token, saying};
 ghost use Rattle.grist_run.specs.Hearing.{IsHeard, HeardSoFar, HearsLine, HearsUsers};
 
-use crate::line_request::{is_blank, is_long};
 use crate::reading::read_next;
 use crate::status::Status;
 use doc_model::{User, UserList};
 use grist_json::{UserLine, read_user};
-use io_edges::{LineReader, NextLine, Source};
+use io_edges::{LineReader, NextLine, Source, is_blank, is_long};
 use std::alloc::{AllocError, Global};
 
 /// How many users there may be.

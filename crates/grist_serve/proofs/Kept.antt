@@ -1,28 +1,13 @@
 -- A line as far as it is kept asks for what the line does.
-use Rattle.std.proofs.Common.{◌≡◌, ℕ, ◌<◌, ◌≤◌, List, length, nat_lt, Bool, true, false, refl, ap, ◌∙◌, arith}
-use Rattle.io_edges.specs.Lines.{kept_of}
-use Rattle.io_edges.proofs.LineLemmas.{kept_of-whole, length-kept_of}
+use Rattle.std.proofs.Common.{◌≡◌, ℕ, List, Bool, true, false, refl, ap, ◌∙◌}
+use Rattle.io_edges.specs.Lines.{is_long, kept_of}
+use Rattle.io_edges.proofs.Kept.{kept_long, kept_short}
 use Rattle.doc_model.specs.declared.request.Request.{Request}
 use Rattle.doc_model.specs.declared.request.Request.TheVariants.{Bad, TooLong, Open, Apply, Undo, Sync, Fetch, Rename, Close, Gone}
 use Rattle.grist_json.specs.Requests.{Spells}
 use Rattle.bundle_core.specs.Core.{is_gone}
 use Rattle.grist_serve.specs.Answered.{line_asks, peek_or, peeked_table}
-use Rattle.grist_serve.specs.Requests.{is_long, line_entries}
-
-test_true : (m n : ℕ) → m < n → nat_lt m n ≡ true
-test_true m n h = grind arith
-
-test_lt : (m n : ℕ) → nat_lt m n ≡ true → m < n
-test_lt m n e = grind arith
-
-test_le : (m n : ℕ) → nat_lt m n ≡ false → n ≤ m
-test_le m n e = grind arith
-
-kept_long : (text : List ℕ) → is_long text ≡ true → is_long (kept_of text) ≡ true
-kept_long text e = test_true 1048576 (length (kept_of text)) (omega (arith, length-kept_of text, test_lt 1048576 (length text) e))
-
-kept_short : (text : List ℕ) → is_long text ≡ false → kept_of text ≡ text
-kept_short text e = kept_of-whole text (omega (arith, test_le 1048576 (length text) e))
+use Rattle.grist_serve.specs.Requests.{line_entries}
 
 module _ (name text : List ℕ) where
   entries_by : (b : Bool) → is_long text ≡ b → line_entries name (kept_of text) ≡ line_entries name text

@@ -1,5 +1,4 @@
 pub mod States
-mod Coming
 mod Kept
 pub mod TurnLemmas
 mod CallLemmas

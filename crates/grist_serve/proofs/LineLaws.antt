@@ -10,14 +10,14 @@ use Rattle.io_edges.specs.declared.line_reader.NextLine.TheVariants.{Line, Last,
 use Rattle.io_edges.specs.declared.line_reader.ReadEnd.TheVariants as read
 use Rattle.doc_model.specs.declared.entry.Entry.{Entry}
 use Rattle.grist_serve.specs.Answering.{Answers, AnswersAll, AnswersClosing, AnswersFront, AnswersLine, AnswersOpen}
-use Rattle.grist_serve.specs.Came.{Came, CameFirst}
+use Rattle.io_edges.specs.Came.{Came, CameFirst}
 use Rattle.grist_serve.specs.Link.{EndsBy, IsServing, StopsWriting}
 use Rattle.grist_serve.specs.Requests.{line_entries, requests_of}
 use Rattle.grist_serve.specs.Turns.{CorePass, ClosesLast, OwnTurn, asked_in, bytes_of}
 use Rattle.io_edges.specs.declared.session_end.SessionEnd.{SessionEnd}
 use Rattle.io_edges.specs.declared.session_end.SessionEnd.TheVariants.{Closed, ReadFault, WriteFault, TurnsSpent, Full, NoMemory}
 use Rattle.grist_serve.proofs.CallLemmas.{answers_nothing}
-use Rattle.grist_serve.proofs.Coming.{came_none, came_part, came_line, came_last, came_end, came_fault, came_spent}
+use Rattle.io_edges.proofs.Coming.{came_none, came_part, came_line, came_last, came_end, came_fault, came_spent}
 use Rattle.grist_serve.proofs.Kept.{kept_entries}
 use Rattle.grist_serve.proofs.TurnLemmas.{adds_both, bytes-append, closes_both, may_both, open_both}
 

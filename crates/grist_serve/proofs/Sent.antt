@@ -2,24 +2,11 @@
 use Rattle.std.proofs.Common.{◌≡◌, ℕ, ◌+◌, ◌<◌, List, [], ◌∷◌, ◌++◌, length, take, drop, get_or, Option, refl, sym, ap, ◌∙◌, subst, append_assoc}
 use Rattle.std.proofs.lemmas.List.{take_more, take-append-drop}
 use Rattle.std.specs.Io.KnownBytes.{Appends}
-use Rattle.io_edges.proofs.SendingLemmas.{appends_both}
+use Rattle.io_edges.proofs.SendingLemmas.{appends_both, joined, sends_after}
 use Rattle.io_edges.specs.Sending.{Sends, SendsFront}
 use Rattle.bundle_core.specs.Told.{with_newlines}
 
--- what was sent first and what was sent of the rest
-joined : (a b f v g r : List ℕ) → a ≡ f ++ v → v ++ b ≡ g ++ r → a ++ b ≡ (f ++ g) ++ r
-joined a b f v g r first second =
-    ap (λ l. l ++ b) first ∙ append_assoc f v b ∙ ap (λ l. f ++ l) second ∙ sym (append_assoc f g r)
-
 module _ (a b v : List ℕ) {x y z : Option (List ℕ)} where
-  -- more was sent behind what waited
-  pub sends_after : (w : List ℕ) → Sends a v x y → Sends (v ++ b) w y z → Sends (a ++ b) w x z
-  sends_after w s t = record {
-    front = s.front ++ t.front;
-    split = joined a b s.front v t.front w s.split t.split;
-    written = appends_both x y z s.front t.front s.written t.written;
-  }
-
   -- a front of it was
   pub front_after : Sends a v x y → SendsFront (v ++ b) y z → SendsFront (a ++ b) x z
   front_after s t = record {

@@ -11,13 +11,13 @@ use Rattle.io_edges.specs.declared.line_reader.ReadEnd.TheVariants as read
 use Rattle.io_edges.specs.declared.session_end.SessionEnd.{SessionEnd}
 use Rattle.io_edges.specs.declared.session_end.SessionEnd.TheVariants.{Closed, ReadFault, WriteFault, TurnsSpent, Full, NoMemory}
 use Rattle.grist_serve.specs.Answered.{Answered, Asked, LastCloses, asked_of, asks_of, bytes_given, line_asks, turns_among}
-use Rattle.grist_serve.specs.Came.{Came, CameFirst}
+use Rattle.io_edges.specs.Came.{Came, CameFirst}
 use Rattle.grist_serve.specs.ShotAnswering.{Answers, AnswersAll, AnswersClosing, AnswersFront, AnswersLine, AnswersOpen}
 use Rattle.grist_serve.specs.ShotLink.{EndsBy, IsServing}
 use Rattle.grist_serve.specs.Standing.{Rests, Standing}
 use Rattle.grist_serve.specs.Turns.{Adds}
 use Rattle.grist_serve.proofs.AnsweredLemmas.{bytes_given-append, goes_both, last_both, may_both, none_both, not_none, turns_among-append}
-use Rattle.grist_serve.proofs.Coming.{came_none, came_part, came_line, came_last, came_end, came_fault, came_spent}
+use Rattle.io_edges.proofs.Coming.{came_none, came_part, came_line, came_last, came_end, came_fault, came_spent}
 use Rattle.grist_serve.proofs.Kept.{kept_asks}
 use Rattle.grist_serve.proofs.TurnLemmas.{adds_both, adds_none}
 

@@ -8,7 +8,8 @@ use Rattle.peek_lines.specs.declared.answers.PeekAnswer.{PeekAnswer}
 use Rattle.snap_reads.specs.declared.past.Past.{Past}
 use Rattle.bundle_core.specs.Told.{with_newlines}
 use Rattle.document_shot.specs.declared.past.CoreStart.{CoreStart}
-use Rattle.grist_serve.specs.Requests.{is_blank, is_long, line_entries}
+use Rattle.io_edges.specs.Lines.{is_blank, is_long}
+use Rattle.grist_serve.specs.Requests.{line_entries}
 use Rattle.grist_serve.specs.Turns.{OwnTurn, asked_in}
 
 -- a line asks for an entry at the gate, or to peek at a table

@@ -1,4 +1,3 @@
-pub mod Came
 pub mod Requests
 pub mod Turns
 pub mod Out

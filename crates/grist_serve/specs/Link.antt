@@ -5,7 +5,7 @@ use Rattle.doc_model.specs.declared.request.Request.TheVariants as request
 use Rattle.bundle_core.specs.Core.{entry_of, is_full}
 use Rattle.bundle_core.specs.declared.machine.CoreOpening.{CoreOpening}
 use Rattle.grist_serve.specs.Answering.{AnswersAll, AnswersClosing, AnswersFront, AnswersOpen}
-use Rattle.grist_serve.specs.Came.{Came, CameAll, CameFirst}
+use Rattle.io_edges.specs.Came.{Came, CameAll, CameFirst}
 use Rattle.grist_serve.specs.Requests.{line_entries, requests_of}
 use Rattle.grist_serve.specs.Turns.{Adds, CorePass, OwnTurn, asked_in, bytes_of, entry_in, is_open_after}
 use Rattle.io_edges.specs.declared.session_end.SessionEnd.{SessionEnd}

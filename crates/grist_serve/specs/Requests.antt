@@ -1,6 +1,6 @@
 -- What the lines of a connection ask for.
-use Rattle.std.specs.Prelude.{ℕ, List, [], ◌∷◌, ◌++◌, Bool, true, ◌||◌, ◌==◌, nat_lt, length, Option, Some, None, if◌then◌else◌}
-use Rattle.std.specs.List.{list_all}
+use Rattle.std.specs.Prelude.{ℕ, List, [], ◌∷◌, ◌++◌, true, length, Option, Some, None, if◌then◌else◌}
+use Rattle.io_edges.specs.Lines.{is_blank, is_long}
 use Rattle.doc_model.specs.declared.entry.Entry.{Entry}
 use Rattle.doc_model.specs.declared.request.Request.{Request}
 use Rattle.doc_model.specs.declared.request.Request.TheVariants.{Bad, TooLong}
@@ -8,18 +8,6 @@ use Rattle.grist_json.specs.Requests.{request_at}
 use Rattle.bundle_core.specs.Core.{entry_of}
 use Rattle.bundle_core.specs.Machine.{event_entry}
 use Rattle.bundle_core.specs.declared.machine.Event.{Event}
-
--- white space of JSON
-abbrev pub is_space : ℕ → Bool
-is_space b = (b == 32) || (b == 9) || (b == 13) || (b == 10)
-
--- a line that is passed over
-abbrev pub is_blank : List ℕ → Bool
-is_blank text = list_all is_space text
-
--- more bytes than a line may have
-abbrev pub is_long : List ℕ → Bool
-is_long text = nat_lt 1048576 (length text)
 
 -- what a line asks for, by the request that it spells
 abbrev pub asked_by : Option Request → Request

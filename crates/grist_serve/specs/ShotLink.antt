@@ -11,7 +11,7 @@ use Rattle.session_gate.specs.History.{entries_of}
 use Rattle.bundle_core.specs.Core.{is_full}
 use Rattle.document_shot.specs.declared.past.CoreStart.{CoreStart}
 use Rattle.grist_serve.specs.Answered.{asks_entry, asks_of, line_asks}
-use Rattle.grist_serve.specs.Came.{Came, CameAll, CameFirst}
+use Rattle.io_edges.specs.Came.{Came, CameAll, CameFirst}
 use Rattle.grist_serve.specs.Link.{TellsGone}
 use Rattle.grist_serve.specs.ShotAnswering.{AnswersAll, AnswersClosing, AnswersFront, AnswersOpen}
 use Rattle.grist_serve.specs.Standing.{Rests, Standing, starts_at}

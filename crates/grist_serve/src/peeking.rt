@@ -7,12 +7,11 @@ ghost use Rattle.grist_serve.specs.Due.{IsDue, IsPeekAnswered, IsPeekReply, has_
 ghost use Rattle.grist_serve.specs.ShotAnswering.{AnswersLine};
 ghost use Rattle.grist_serve.specs.Turns.{CorePass};
 
-use crate::requests::{is_blank, is_long};
 use crate::sending::send_line;
 use cell_types::{CellText, Name};
 use document_shot::PeekReader;
 use grist_json::Line;
-use io_edges::{Outbox, SessionEnd, Sink};
+use io_edges::{Outbox, SessionEnd, Sink, is_blank, is_long};
 use peek_lines::{PeekAnswer, read_peek, write_peek};
 use snap_reads::Mark;
 use std::alloc::{AllocError, Global};

@@ -3,39 +3,17 @@ ghost use Rattle.std.specs.Prelude.{◌≡◌, true, false, IfOk, IfSome};
 ghost use Rattle.doc_model.specs.WellFormed.{asks_well_formed};
 ghost use Rattle.grist_json.specs.Requests.{request_at};
 ghost use Rattle.bundle_core.specs.Core.{is_gone};
-ghost use Rattle.grist_serve.specs.Requests.{asked_by, entries_asked, is_blank, is_long, is_space, line_entries};
+ghost use Rattle.grist_serve.specs.Requests.{asked_by, entries_asked, line_entries};
 
 use bundle_core::Event;
 use cell_types::Name;
 use doc_model::Request;
 use grist_json::{ReadFault, read_request};
+use io_edges::{is_blank, is_long};
 use std::alloc::{AllocError, Global};
-
-/// How many bytes a line has at most, its newline not counted.
-const MAX_LINE_BYTES: usize = 1_048_576;
 
 /// The size of a line that is too long.
 const LONG_LINE_BYTES: u32 = 1_048_577;
-
-fn is_space(byte: u8) -> bool
-    ensures { result ≡ is_space byte }
-{
-    byte == b' ' || byte == b'\t' || byte == b'\r' || byte == b'\n'
-}
-
-/// Whether a line is white space alone.
-pub(crate) fn is_blank(line: &[u8]) -> bool
-    ensures { result ≡ is_blank line.now }
-{
-    line.iter().all(|byte| is_space(*byte))
-}
-
-/// Whether a line has more bytes than it may have.
-pub(crate) fn is_long(line: &[u8]) -> bool
-    ensures { result ≡ is_long line.now }
-{
-    line.len() > MAX_LINE_BYTES
-}
 
 // What a line asks for that is neither blank nor too long.
 fn asked_by(alloc: Global, line: &[u8]) -> Result<Request, AllocError>

@@ -1,5 +1,5 @@
 -- Bytes that are sent one after the other.
-use Rattle.std.proofs.Common.{ℕ, List, [], ◌++◌, Option, Some, None, refl, sym, ap, ◌∙◌, take, drop, Result, Ok, Err, OnOk, OnErr, append_assoc, append-nil}
+use Rattle.std.proofs.Common.{◌≡◌, ℕ, List, [], ◌++◌, Option, Some, None, refl, sym, ap, ◌∙◌, take, drop, Result, Ok, Err, OnOk, OnErr, append_assoc, append-nil}
 use Rattle.std.proofs.lemmas.List.{take-append-drop}
 use Rattle.std.specs.Io.KnownBytes.{Appends, Keeps}
 use Rattle.io_edges.specs.Sending.{Sends, SendsFront}
@@ -54,6 +54,19 @@ module _ (bytes more : List ℕ) (x y z : Option (List ℕ)) where
     split = ap (λ l. bytes ++ l) s.split ∙ sym (append_assoc bytes s.front s.rest);
     written = appends_both x y z bytes s.front first s.written;
   }
+
+-- what was sent first and what was sent of the rest
+pub joined : (a b f v g r : List ℕ) → a ≡ f ++ v → v ++ b ≡ g ++ r → a ++ b ≡ (f ++ g) ++ r
+joined a b f v g r first second =
+    ap (λ l. l ++ b) first ∙ append_assoc f v b ∙ ap (λ l. f ++ l) second ∙ sym (append_assoc f g r)
+
+-- more was sent behind what waited
+pub sends_after : (a b v : List ℕ) {x y z : Option (List ℕ)} (w : List ℕ) → Sends a v x y → Sends (v ++ b) w y z → Sends (a ++ b) w x z
+sends_after a b v {x} {y} {z} w s t = record {
+  front = s.front ++ t.front;
+  split = joined a b s.front v t.front w s.split t.split;
+  written = appends_both x y z s.front t.front s.written t.written;
+}
 
 pub OnOk-map : {T E P Q : Type 0} (r : Result T E) → (P → Q) → OnOk r P → OnOk r Q
 OnOk-map (Ok x) f h = f h

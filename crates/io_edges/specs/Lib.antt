@@ -4,6 +4,7 @@ pub mod Sending
 pub mod Sides
 pub mod Lines
 pub mod Laws
+pub mod Came
 pub mod Reading
 pub mod NextLine
 pub mod Ports

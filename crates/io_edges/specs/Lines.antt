@@ -1,5 +1,6 @@
 -- The lines of a text.
-use Rattle.std.specs.Prelude.{◌≢◌, ℕ, ◌==◌, List, [], ◌∷◌, ◌++◌, take, if◌then◌else◌}
+use Rattle.std.specs.Prelude.{◌≢◌, ℕ, ◌==◌, Bool, ◌||◌, nat_lt, length, List, [], ◌∷◌, ◌++◌, take, if◌then◌else◌}
+use Rattle.std.specs.List.{list_all}
 
 -- no byte is a newline
 abbrev pub IsOneLine : List ℕ → Type 0
@@ -30,3 +31,15 @@ stream_of (l ∷ ls) rest = l ++ 10 ∷ stream_of ls rest
 -- how much is kept of a line: one byte more than the longest line has
 unfoldable pub kept_of : List ℕ → List ℕ
 kept_of text = take 1048577 text
+
+-- more bytes than a line may have
+abbrev pub is_long : List ℕ → Bool
+is_long text = nat_lt 1048576 (length text)
+
+-- white space of JSON
+abbrev pub is_space : ℕ → Bool
+is_space b = (b == 32) || (b == 9) || (b == 13) || (b == 10)
+
+-- a line that is passed over
+abbrev pub is_blank : List ℕ → Bool
+is_blank text = list_all is_space text

@@ -5,8 +5,9 @@
 //! Promises: a source and a sink are seen as the bytes that they have left or hold and as a count
 //! of faults; a call fails only where that count rose in it, and then no told byte has moved.
 //! `LineReader` gives the lines of a source in bounded memory, and says after each answer which
-//! bytes came. `write_all` and `Outbox` write in order, and after a fault what was written is a
-//! front of it. A port hands out one link at a time, and takes it back with how it ended.
+//! bytes came; `is_blank` and `is_long` say which are passed over, and refused. `write_all` and
+//! `Outbox` write in order, and after a fault what was written is a front of it. A port hands out
+//! one link at a time, and takes it back with how it ended.
 //! Not promised: what a real stream gives or takes. `StdSource`, `StdSink`, `TcpLink` and `TcpPort`
 //! tell counts alone.
 //! Read first: source.rt, then line_reader.rt; port.rt.
@@ -14,6 +15,7 @@
 
 mod accepting;
 mod laws;
+mod line_kinds;
 mod line_parts;
 mod line_reader;
 mod link;
@@ -34,6 +36,7 @@ mod writing;
 
 pub use accepting::next_stream;
 pub use laws::{kept_law, stream_law};
+pub use line_kinds::{is_blank, is_long};
 pub use line_reader::{LineReader, NextLine, ReadEnd};
 pub use link::Link;
 pub use memory_link::{MemLink, SureLink};

@@ -1,11 +1,10 @@
 -- A graph beside the values, over rows of one table that come or go.
-use Rattle.std.proofs.Common.{ℕ, Bool, true, false, not, ◌&&◌, ◌||◌, List, ◌≡◌, refl, sym, ap, ◌∙◌, inl, inr, Option, Some, None}
+use Rattle.std.proofs.Common.{ℕ, Bool, true, false, not, ◌&&◌, ◌||◌, List, ◌≡◌, refl, sym, ap, ◌∙◌, Option, Some, None}
 use Rattle.std.proofs.lemmas.Bool.{true≢false, false≢true}
 use Rattle.std.specs.Option.{is_some}
 use Rattle.std.specs.Str.{bytes_eq}
 use Rattle.cell_types.specs.declared.cell.CellId.{CellId}
 use Rattle.doc_model.specs.declared.action.DocAction.{DocAction}
-use Rattle.doc_model.specs.declared.action.DocAction.TheVariants.{AddColumn, AddTable, BulkAdd, BulkRemove, BulkUpdate, ModifyColumn, RemoveColumn, RemoveTable, RenameColumn, RenameTable}
 use Rattle.doc_model.specs.Apply.{apply}
 use Rattle.doc_model.specs.Document.{Document}
 use Rattle.doc_model.specs.Rows.{has}
@@ -14,58 +13,21 @@ use Rattle.dep_graph.specs.declared.numbers.CellNumber.{CellNumber}
 use Rattle.dep_graph.specs.Graph.{Graph}
 use Rattle.recalc.specs.Evaluated.{formula_at, sheet_of}
 use Rattle.recalc.specs.Stack.{on}
-use Rattle.affected_cells.specs.Affected.{is_fresh_cell, is_modified}
+use Rattle.affected_cells.specs.Affected.{is_modified}
 use Rattle.affected_cells.specs.Noted.{notes}
-use Rattle.affected_cells.specs.Touched.{is_touched}
-use Rattle.affected_cells.specs.TouchedRight.{IsSameCell}
-use Rattle.affected_cells.proofs.RowsLaw.{came_added, came_removed}
 use Rattle.affected_search.specs.Actions.{KeepsOthers}
 use Rattle.affected_search.specs.Sheets.{is_found}
 use Rattle.affected_values.specs.Carried.{HasCellsOf, moved_rows, moved_table}
+use Rattle.affected_values.proofs.RowsOver.{formula_apart, not_modified}
 use Rattle.known_reads.specs.Moved.{ReadsOverLaw, RowsStayLaw}
 
 -- ---- rows that come or go
 
-some_same : (x y : List ℕ) → Some x ≡ Some y → x ≡ y
+pub some_same : (x y : List ℕ) → Some x ≡ Some y → x ≡ y
 some_same x y e = cc
 
 none_some : (x : List ℕ) → None ≡ Some x → ⊥
 none_some x e = cc
-
--- a cell that is the same has its formula
-same_formula : (s t : Document) (a : DocAction) (fresh : CellId → Bool) (c : CellId) → IsSameCell (sheet_of s) (sheet_of t) fresh (is_touched s a) c → formula_at t c ≡ formula_at s c
-same_formula s t a fresh c (inl same) = same.1 ∙ sym same.0
-same_formula s t a fresh c (inr same) = same.2 ∙ sym same.1
-
--- cells of other rows have the formulas that they had
-formula_apart : (s : Document) (a : DocAction) (t : List ℕ) → moved_table a ≡ Some t → valid s a ≡ true
-    → (c : CellId) → (bytes_eq c.table t && has (moved_rows a) c.row) ≡ false → formula_at (apply s a) c ≡ formula_at s c
-formula_apart s (BulkAdd u rows ks) t h ok c other =
-    same_formula s (apply s (BulkAdd u rows ks)) (BulkAdd u rows ks) (is_fresh_cell s (BulkAdd u rows ks)) c
-    ((came_added s u rows ks ok).cell c (ap (λ n. (bytes_eq c.table n && has rows c.row) || false) (some_same u t h) ∙ ap (λ b. b || false) other)).1
-formula_apart s (BulkRemove u rows) t h ok c other =
-    same_formula s (apply s (BulkRemove u rows)) (BulkRemove u rows) (is_fresh_cell s (BulkRemove u rows)) c
-    ((came_removed s u rows ok).cell c (ap (λ n. (bytes_eq c.table n && has rows c.row) || false) (some_same u t h) ∙ ap (λ b. b || false) other)).1
-formula_apart s (BulkUpdate u rows ks) t h ok c other = absurd (none_some t h)
-formula_apart s (AddTable u r cs) t h ok c other = absurd (none_some t h)
-formula_apart s (RemoveTable u) t h ok c other = absurd (none_some t h)
-formula_apart s (RenameTable u n) t h ok c other = absurd (none_some t h)
-formula_apart s (AddColumn u d) t h ok c other = absurd (none_some t h)
-formula_apart s (RemoveColumn u k) t h ok c other = absurd (none_some t h)
-formula_apart s (RenameColumn u k n) t h ok c other = absurd (none_some t h)
-formula_apart s (ModifyColumn u k i) t h ok c other = absurd (none_some t h)
-
-not_modified : (a : DocAction) (t : List ℕ) → moved_table a ≡ Some t → (c : CellId) → is_modified a c ≡ false
-not_modified (BulkAdd u rows ks) t h c = refl
-not_modified (BulkRemove u rows) t h c = refl
-not_modified (BulkUpdate u rows ks) t h c = refl
-not_modified (AddTable u r cs) t h c = refl
-not_modified (RemoveTable u) t h c = refl
-not_modified (RenameTable u n) t h c = refl
-not_modified (AddColumn u d) t h c = refl
-not_modified (RemoveColumn u k) t h c = refl
-not_modified (RenameColumn u k n) t h c = refl
-not_modified (ModifyColumn u k i) t h c = absurd (none_some t h)
 
 module _ (s : Document) (a : DocAction) (t : List ℕ) (cells : List CellId)
     (moved : moved_table a ≡ Some t) (ok : valid s a ≡ true) (before : HasCellsOf s t (moved_rows a) cells) (after : HasCellsOf (apply s a) t (moved_rows a) cells) where

@@ -1,6 +1,6 @@
 -- What holds of all formula cells once it holds of each, table by table, column by column, row by
 -- row.
-use Rattle.std.proofs.Common.{ℕ, zero, suc, ◌≤◌, true, false, cond, List, [], ◌∷◌, ◌++◌, map, length, slice_get, ◌≡◌, inl, inr, refl, subst, Option, None, Some, arith}
+use Rattle.std.proofs.Common.{ℕ, ◌≤◌, true, false, cond, List, [], ◌∷◌, ◌++◌, map, length, slice_get, ◌≡◌, inl, inr, refl, subst, Option, None, Some}
 use Rattle.std.specs.List.{AllByRecursion}
 use Rattle.cell_types.specs.declared.cell.CellId.{CellId}
 use Rattle.doc_model.specs.declared.column.ColDef.{ColDef}
@@ -18,12 +18,6 @@ use Rattle.recalc.proofs.SheetLemmas.{is_sheet}
 use Rattle.recalc.proofs.WholeLemmas.{grid_there}
 use Rattle.known_reads.specs.Known.{EachIsRead, IsRead, KeepsReads}
 use Rattle.known_reads.proofs.KnownLemmas.{read_stays}
-
--- where nothing stands, the list is no longer
-pub nothing_there : {X : Type 0} (xs : List X) (i : ℕ) → slice_get xs i ≡ None → length xs ≤ i
-nothing_there [] i h = omega arith
-nothing_there (x ∷ xs) zero h = absurd (cc)
-nothing_there (x ∷ xs) (suc i) h = let later : length xs ≤ i = nothing_there xs i h in omega arith
 
 pub each_stays : (s : Document) (old new : Graph) → KeepsReads (sheet_of s) old new → (cells : List CellId) → EachIsRead s old cells → EachIsRead s new cells
 each_stays s old new keeps cells all = each_weaker (IsRead s old) (IsRead s new) (read_stays s old new keeps) cells all

@@ -21,19 +21,12 @@ use Rattle.acl_rules.specs.declared.rule.Rule.{Rule}
 use Rattle.acl_rules.specs.Decided.{answer, decides, decision_in, first_answer, is_match, mentions, or_built_in, truth_in}
 use Rattle.acl_rules.specs.RuleBook.{BookRule}
 use Rattle.acl_reading.specs.Walk.{asks_row, without_row}
+use Rattle.acl_rules.proofs.NarrowLemmas.{all_left, all_right}
 use Rattle.rule_audit.specs.declared.stop.Stop.{Stop}
 use Rattle.rule_audit.specs.declared.stop.Stop.TheVariants as stop
 use Rattle.rule_audit.specs.Laws.{AgreeOn, DecisionLaw, mention_value}
 use Rattle.rule_audit.specs.Reached.{ends_reach, is_rule_safe, reach_stop}
 use Rattle.rule_audit.specs.Stops.{bad_row, first_stop, or_stop}
-
-all_left : {X : Type 0} (P : X → Type 0) (xs ys : List X) → AllByRecursion P (xs ++ ys) → AllByRecursion P xs
-all_left P [] ys h = tt
-all_left P (x ∷ xs) ys h = (h.0, all_left P xs ys h.1)
-
-all_right : {X : Type 0} (P : X → Type 0) (xs ys : List X) → AllByRecursion P (xs ++ ys) → AllByRecursion P ys
-all_right P [] ys h = h
-all_right P (x ∷ xs) ys h = all_right P xs ys h.1
 
 -- the same mention is one mention
 one_mention : (n m : Mention) → same_mention n m ≡ true → n ≡ m

@@ -1,20 +1,14 @@
 -- Bundles about no table that contexts read leave the context of each user.
-use Rattle.std.proofs.Common.{ℕ, true, false, List, [], ◌∷◌, ◌≡◌, refl, sym, ap, ◌∙◌, Option, Some, None}
+use Rattle.std.proofs.Common.{ℕ, true, false, List, [], ◌∷◌, ◌≡◌, refl, sym, ap, ◌∙◌}
 use Rattle.std.proofs.lemmas.Bool.{and_parts, or_parts}
 use Rattle.doc_model.specs.declared.action.DocAction.{DocAction}
-use Rattle.doc_model.specs.declared.column.ColDef.{ColDef}
 use Rattle.doc_model.specs.Apply.{all_valid, apply, apply_all}
 use Rattle.doc_model.specs.ByIds.{find_id}
 use Rattle.doc_model.specs.Changes.{changes}
-use Rattle.doc_model.specs.Column.{column_id}
-use Rattle.doc_model.specs.Document.{Document, Table, table_id}
+use Rattle.doc_model.specs.Document.{Document, table_id}
 use Rattle.doc_model.specs.DocumentLaws.{IsWhole}
-use Rattle.doc_model.specs.Grid.{Grid, IsGrid}
-use Rattle.doc_model.specs.LaidOut.{IsLaidOut}
 use Rattle.doc_model.specs.MetadataIds.{resources_id, rules_id}
-use Rattle.doc_model.specs.Schema.{no_grid}
 use Rattle.doc_model.specs.Valid.{valid}
-use Rattle.doc_model.proofs.ByIdsLaws.{found_all}
 use Rattle.doc_model.proofs.Choices.{both_true, each_weaker}
 use Rattle.doc_model.proofs.InverseLaws.{IsWhole-apply}
 use Rattle.doc_readers.specs.Parts.{grid_at}
@@ -29,19 +23,13 @@ use Rattle.censored_view.specs.View.{view as shown_by}
 use Rattle.acl_reading.specs.RulesLet.{rules_let}
 use Rattle.action_censor.specs.Step.{Step, are_records, is_of_records}
 use Rattle.bundle_traces.specs.TraceLaws.{BundleLaw, TraceLaw, step_done, steps_done}
+use Rattle.bundle_traces.proofs.Bundles.{grid_is}
 use Rattle.rule_contexts.specs.ChangedContexts.{FollowedLaw, HaveOneBook, SameAttributesLaw, SameContextLaw, SameRulesLaw, is_read, may_change_contexts, may_step_change}
 use Rattle.rule_contexts.specs.Context.{context, view, view_in}
 use Rattle.rule_contexts.proofs.ReadTables.{IsQuiet, each_read, quiet, resources_read, rules_read}
 use Rattle.rule_contexts.proofs.RuleTables.{attributes_same, book_same}
 use Rattle.rule_contexts.proofs.StepTables.{base_stays, table_stays}
 use Rattle.rule_contexts.proofs.UserRows.{info_same}
-
-grid_is : (s : Document) → IsLaidOut s → (t : List ℕ) → IsGrid column_id (grid_at s t)
-grid_is s laid t =
-    elim (find_id table_id t s) as (λ (o : Option Table). find_id table_id t s ≡ o → IsGrid column_id (elim o as (λ _. Grid ColDef) [ None ↦ no_grid | Some u ↦ u.grid ])) [
-      | None ↦ λ _. record { distinct = tt; ascending = tt; height = refl; width = tt }
-      | Some u ↦ λ e. found_all table_id (λ (t : Table). IsGrid column_id t.grid) t s u laid.grids e
-    ] refl
 
 -- two documents hold the same in a table, in its base cells and evaluated
 record HoldSame (s e : Document) (t : List ℕ) : Type 0 where

@@ -32,11 +32,11 @@ fn users(alloc: Global) -> Result<UserList, AllocError> {
     }
 }
 
-/// A core whose watchers, where it has some, never fail.
-pub(crate) type TestCore = WatchedCore<SureKeeper, SureWatcher>;
+// A core whose watchers, where it has some, never fail.
+type TestCore = WatchedCore<SureKeeper, SureWatcher>;
 
-/// A core over the new document, without watchers.
-pub(crate) fn new_core<R: Threads + Sync>(rt: &R, alloc: Global) -> Result<TestCore, AllocError>
+// A core over the new document, without watchers.
+fn new_core<R: Threads + Sync>(rt: &R, alloc: Global) -> Result<TestCore, AllocError>
     ensures { IfOk result (λ c. c.core.state.history ≡ []) }
 {
     match Core::start(rt, alloc, users(alloc)?, SureKeeper::new(alloc)) {
@@ -45,8 +45,8 @@ pub(crate) fn new_core<R: Threads + Sync>(rt: &R, alloc: Global) -> Result<TestC
     }
 }
 
-/// A gate round a core.
-pub(crate) fn gate_round(
+// A gate round a core.
+fn gate_round(
     alloc: Global,
     core: TestCore,
     passes: u32,

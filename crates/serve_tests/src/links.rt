@@ -67,12 +67,12 @@ impl Link for Drip {
 
 /// A script, and how many entries it makes, that of the end among them.
 #[derive(Clone, Copy)]
-pub(crate) struct Case {
+struct Case {
     pub script: &'static str,
     pub entries: usize,
 }
 
-pub(crate) static CASES: [Case; 3] = [
+static CASES: [Case; 3] = [
     Case {
         script: r#"> {"method":"sync"}
 < {"error":{"code":3,"name":"NotOpen"}}
@@ -103,7 +103,7 @@ pub(crate) static CASES: [Case; 3] = [
 ];
 
 /// The lines of a script behind this mark.
-pub(crate) fn lines_behind(alloc: Global, mark: &str, script: &str) -> Result<Vec<u8>, AllocError> {
+fn lines_behind(alloc: Global, mark: &str, script: &str) -> Result<Vec<u8>, AllocError> {
     let mut text = String::new(alloc);
     for line in script.lines() {
         if let Some(rest) = line.strip_prefix(mark) {
@@ -115,7 +115,7 @@ pub(crate) fn lines_behind(alloc: Global, mark: &str, script: &str) -> Result<Ve
 }
 
 /// What comes of a script, the last line without its newline.
-pub(crate) fn coming(alloc: Global, script: &str) -> Result<Vec<u8>, AllocError> {
+fn coming(alloc: Global, script: &str) -> Result<Vec<u8>, AllocError> {
     let mut bytes = lines_behind(alloc, "> ", script)?;
     let _newline = bytes.pop();
     Ok(bytes)
@@ -153,12 +153,7 @@ fn serve_alone<R: Threads + Wait + Sync, L: Link>(
 }
 
 /// A link over these bytes, whose read and write of these numbers fail.
-pub(crate) fn link_over(
-    alloc: Global,
-    bytes: Vec<u8>,
-    read: u64,
-    write: u64,
-) -> Result<MemLink, AllocError> {
+fn link_over(alloc: Global, bytes: Vec<u8>, read: u64, write: u64) -> Result<MemLink, AllocError> {
     let source = MemSource::new(bytes, vec![in alloc; read]?);
     let sink = MemSink::new(alloc, 65_536, vec![in alloc; write]?)?;
     Ok(MemLink::new(source, sink))

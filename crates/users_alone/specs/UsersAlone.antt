@@ -4,7 +4,7 @@ use Rattle.doc_model.specs.declared.user.User.{User}
 use Rattle.grist_run.specs.declared.status.Status.{Status}
 use Rattle.grist_run.specs.declared.status.Status.TheVariants.{BadUsers}
 use Rattle.grist_run.specs.Hearing.{EndsHearing}
-use Rattle.grist_run.specs.Run.{CameAll, CameFirst}
+use Rattle.io_edges.specs.Came.{CameAll, CameFirst}
 use Rattle.grist_run.specs.UserLines.{Script, bad_user, script, script_of}
 
 -- the number of the first line that is no user line or a bad one, or the users

@@ -1,6 +1,7 @@
 use Rattle.std.proofs.Common.{◌≡◌, length, rules}
 use Rattle.doc_readers.specs.Parts.{grid_at}
-use Rattle.action_inverse.proofs.TableLemmas.{column_read, column_past, columns_step, columns_fewer, columns_end}
+use Rattle.action_inverse.proofs.TableLemmas.{columns_step, columns_fewer, columns_end}
+use Rattle.doc_readers.proofs.ColumnLemmas.{column_read, column_past}
 use Rattle.action_inverse.proofs.columns.columns_of.Goals as goal
 
 pub loop-column-smaller : goal.loop-column-smaller

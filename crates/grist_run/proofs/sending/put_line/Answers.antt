@@ -1,5 +1,6 @@
 use Rattle.std.proofs.Common.{[], ◌∷◌, ◌++◌}
-use Rattle.grist_run.proofs.Sent.{sends_after, front_after, front_more}
+use Rattle.io_edges.proofs.SendingLemmas.{sends_after}
+use Rattle.grist_run.proofs.Sent.{front_after, front_more}
 use Rattle.grist_run.proofs.sending.put_line.Goals as goal
 
 pub returns-in_default-clause-err : goal.returns-in_default-clause-err

@@ -1,5 +1,6 @@
 use Rattle.std.proofs.Common.{[], ◌∷◌, ◌++◌}
-use Rattle.grist_serve.proofs.Sent.{front_after, front_longer, sends_after}
+use Rattle.io_edges.proofs.SendingLemmas.{sends_after}
+use Rattle.grist_serve.proofs.Sent.{front_after, front_longer}
 use Rattle.grist_serve.proofs.sending.put_line.Goals as goal
 
 pub returns-in_default-clause-err : goal.returns-in_default-clause-err

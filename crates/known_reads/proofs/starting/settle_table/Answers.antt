@@ -7,7 +7,8 @@ use Rattle.recalc.proofs.Progress.{each_all, each_next}
 use Rattle.affected_values.specs.Taken.{IsHeldWhere}
 use Rattle.known_reads.specs.Walked.{AreHeld}
 use Rattle.known_reads.proofs.StartedLemmas.{all_later, walked_done, walked_next, walked_within}
-use Rattle.known_reads.proofs.WalkedLemmas.{nothing_there, of_columns}
+use Rattle.known_reads.proofs.WalkedLemmas.{of_columns}
+use Rattle.affected_values.proofs.RowCellLemmas.{nothing_there}
 use Rattle.known_reads.proofs.starting.settle_table.Goals as goal
 
 pub loop-column-smaller : goal.loop-column-smaller

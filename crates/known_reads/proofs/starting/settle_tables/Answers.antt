@@ -5,7 +5,8 @@ use Rattle.recalc.proofs.WalkLemmas.{table_past, table_read}
 use Rattle.affected_values.specs.Taken.{IsHeldWhere}
 use Rattle.known_reads.specs.Walked.{AreHeld}
 use Rattle.known_reads.proofs.StartedLemmas.{all_evaluated, all_later, plain_held, walked_done, walked_next, walked_within}
-use Rattle.known_reads.proofs.WalkedLemmas.{nothing_there, of_cells, of_table}
+use Rattle.known_reads.proofs.WalkedLemmas.{of_cells, of_table}
+use Rattle.affected_values.proofs.RowCellLemmas.{nothing_there}
 use Rattle.known_reads.proofs.starting.settle_tables.Goals as goal
 
 pub loop-table-smaller : goal.loop-table-smaller

@@ -9,7 +9,7 @@ use Rattle.io_edges.specs.declared.line_reader.NextLine.TheVariants.{Line, Last,
 use Rattle.io_edges.specs.declared.line_reader.ReadEnd.TheVariants.{ReadFault, TurnsSpent}
 use Rattle.io_edges.proofs.LineLemmas.{lines_of-rest, lines_of-stream_of, stream_of-push, AreLines-push}
 use Rattle.io_edges.proofs.ReadingLemmas.{consumes_both, consumes_none}
-use Rattle.grist_run.specs.Run.{Came, CameAll}
+use Rattle.io_edges.specs.Came.{Came, CameAll}
 
 pub stream_of-append : (ls : List (List ℕ)) (a b : List ℕ) → stream_of ls a ++ b ≡ stream_of ls (a ++ b)
 stream_of-append [] a b = refl

@@ -1,10 +1,10 @@
-//! Tests of documents across crates: actions done and taken back over plain tables, the steps of
-//! user actions, and evaluated documents.
+//! Tests of documents across crates: actions done and taken back over plain tables, and the steps
+//! of user actions.
 //!
 //! Stands on `cell_types`, `doc_model`, `name_rules`, `row_tables`, `action_inverse`,
-//! `doc_actions`, `evaluated_doc`, `user_actions`, `action_limits`, `censored_view` and
-//! `view_refusals`. Nothing stands on it; it is a crate of its own, so that no crate of the engine
-//! depends on a store that only its tests need.
+//! `doc_actions`, `user_actions`, `action_limits`, `censored_view` and `view_refusals`. Evaluated
+//! documents are in the cases of the program. Nothing stands on it; it is a crate of its own, so
+//! that no crate of the engine depends on a store that only its tests need.
 //!
 //! Promises: nothing. What is tested is what no clause says: that the definitions mean what is
 //! meant, against readings that were worked out by hand, and that calls succeed where there is
@@ -18,10 +18,6 @@ mod actions;
 mod asked;
 #[cfg(test)]
 mod bounds;
-#[cfg(test)]
-mod counting;
-#[cfg(test)]
-mod evaluated_tests;
 #[cfg(test)]
 mod everything;
 #[cfg(test)]

@@ -1,4 +1,0 @@
-use Rattle.document_tests.proofs.evaluated_tests.loses.Given as goal
-
-abbrev pub ghosts-change_alone : goal.ghosts-change_alone
-ghosts-change_alone a = record { name = a.blank.name; parts = a.blank.parts }

@@ -2,7 +2,7 @@
    peeks PORT LOOKERS METHOD MILLISECONDS PAUSE QUIET: bundles and looks a second. The writer is at PORT, the others
    behind it; it changes rows of a table of 1,000 rows that it adds first, and no more where QUIET is 1. METHOD is
    peekTable, fetchTable, or none, which looks at nothing. Who looks rests for PAUSE microseconds behind each look and
-   asks `sync` four times a second, since too many lines that wait would close its session. */
+   asks `sync` ten times a second, since too many lines that wait would close its session. */
 #include <arpa/inet.h>
 #include <netinet/tcp.h>
 #include <pthread.h>
@@ -62,7 +62,7 @@ static void *looks_at(void *at) {
   snprintf(text, sizeof text, "{\"method\":\"%s\",\"table\":\"Table1\"}\n", method);
   pthread_barrier_wait(&ready); synced = now();
   while (!over) {
-    if (now() - synced > 0.25) { ask(s, in, "{\"method\":\"sync\"}\n"); synced = now(); }
+    if (now() - synced > 0.1) { ask(s, in, "{\"method\":\"sync\"}\n"); synced = now(); }
     if (!idle) { ask(s, in, text); n++; }
     if (pause_us) usleep(pause_us);
   }
